@@ -1,7 +1,8 @@
 //! Lines of a script.
-use crate::parts::assert_is;
+use crate::parts::{assert_is, assert_that};
 use bitflags::Flags as _;
 use std::io::Write;
+use std::process::Abort;
 use sysv_model::{Errno, Flags};
 use sysv_script::{Head, Line, Operation, Text, line_of};
 use sysv_steps::{Call, Outcome};
@@ -13,7 +14,7 @@ fn a_line_says_what_an_actor_starts(rt: HostRuntime) {
         panic!(rt; "no start");
     };
     assert_is(&rt, actor, 2);
-    assert!(rt; goes);
+    assert_that(&rt, goes);
     let Call::Send {
         id,
         mtype,
@@ -35,27 +36,43 @@ fn a_line_says_what_an_actor_starts(rt: HostRuntime) {
         panic!(rt; "no text");
     };
     assert_is(&rt, bytes, b"a b".as_slice());
-    assert!(rt; line_of(b"17 snd 0 1 - =").is_none());
+    assert_that(&rt, line_of(b"17 snd 0 1 - =").is_none());
 }
 
 #[test]
 fn orders_are_understood(rt: HostRuntime) {
-    assert!(rt;
-        matches!(
-            line_of(b"now 18446744073709551615"),
-            Some(Line::Moment(u64::MAX))
-        )
+    let moment = line_of(b"now 18446744073709551615");
+    assert_that(&rt, matches!(moment, Some(Line::Moment(u64::MAX))));
+    assert_that(
+        &rt,
+        matches!(line_of(b"step 16"), Some(Line::Step { actor: 16 })),
     );
-    assert!(rt; matches!(line_of(b"step 16"), Some(Line::Step { actor: 16 })));
-    assert!(rt; matches!(line_of(b"go 01"), Some(Line::Go { actor: 1 })));
-    assert!(rt; matches!(line_of(b"all"), Some(Line::All)));
-    assert!(rt; matches!(line_of(b"pool 128"), Some(Line::Pool { blocks: 128 })));
-    assert!(rt; line_of(b"pool 127").is_none());
-    assert!(rt; line_of(b"pool 65537").is_none());
-    assert!(rt; matches!(line_of(b"as 3 5 6 7"), Some(Line::Cred { actor: 3, .. })));
-    assert!(rt; line_of(b"go 0").is_none());
-    assert!(rt; line_of(b"all ").is_none());
-    assert!(rt; line_of(b"wait 1").is_none());
+    assert_that(
+        &rt,
+        matches!(line_of(b"go 01"), Some(Line::Go { actor: 1 })),
+    );
+    assert_that(&rt, matches!(line_of(b"all"), Some(Line::All)));
+    assert_that(
+        &rt,
+        matches!(line_of(b"pool 128"), Some(Line::Pool { blocks: 128 })),
+    );
+    assert_that(&rt, line_of(b"pool 127").is_none());
+    assert_that(&rt, line_of(b"pool 65537").is_none());
+    assert_that(
+        &rt,
+        matches!(line_of(b"as 3 5 6 7"), Some(Line::Cred { actor: 3, .. })),
+    );
+    assert_that(&rt, line_of(b"go 0").is_none());
+    assert_that(&rt, line_of(b"all ").is_none());
+    assert_that(&rt, line_of(b"wait 1").is_none());
+}
+
+/// Returns the call that a line starts.
+fn call_of<'a>(rt: &impl Abort, line: &'a [u8]) -> Call<Text<'a>, ()> {
+    match line_of(line) {
+        Some(Line::Start { call, .. }) => call,
+        _ => panic!(rt; "no start"),
+    }
 }
 
 #[test]
@@ -64,12 +81,9 @@ fn each_call_is_understood(rt: HostRuntime) {
     let Some(Line::Start { call, goes, .. }) = get else {
         panic!(rt; "no get");
     };
-    assert!(rt; !goes);
-    assert!(rt; matches!(call, Call::Get { key: -4, .. }));
-    let Some(Line::Start { call, .. }) = line_of(b"1 set 64 5 6 0640 70000") else {
-        panic!(rt; "no set");
-    };
-    let Call::Set { id, to } = call else {
+    assert_that(&rt, !goes);
+    assert_that(&rt, matches!(call, Call::Get { key: -4, .. }));
+    let Call::Set { id, to } = call_of(&rt, b"1 set 64 5 6 0640 70000") else {
         panic!(rt; "no set");
     };
     assert_is(
@@ -77,16 +91,16 @@ fn each_call_is_understood(rt: HostRuntime) {
         (id, to.uid, to.gid, to.mode, to.qbytes),
         (64, 5, 6, 416, 70000),
     );
-    let Some(Line::Start { call, .. }) = line_of(b"2 rm 7") else {
-        panic!(rt; "no removal");
-    };
-    assert!(rt; matches!(call, Call::Remove { id: 7 }));
-    let Some(Line::Start { call, .. }) = line_of(b"2 stat 8") else {
-        panic!(rt; "no stat");
-    };
-    assert!(rt; matches!(call, Call::Stat { id: 8 }));
-    assert!(rt; line_of(b"1 set 0 1 1 1000 5").is_none());
-    assert!(rt; line_of(b"1 rm 0 ").is_none());
+    assert_that(
+        &rt,
+        matches!(call_of(&rt, b"2 rm 7"), Call::Remove { id: 7 }),
+    );
+    assert_that(
+        &rt,
+        matches!(call_of(&rt, b"2 stat 8"), Call::Stat { id: 8 }),
+    );
+    assert_that(&rt, line_of(b"1 set 0 1 1 1000 5").is_none());
+    assert_that(&rt, line_of(b"1 rm 0 ").is_none());
 }
 
 #[test]
@@ -111,7 +125,7 @@ fn heads_are_printed(rt: HostRuntime) {
         let Ok(mut printed) = Vec::with_capacity(rt.alloc(), 64) else {
             return;
         };
-        assert!(rt; write!(printed, "{head}").is_ok());
+        assert_that(&rt, write!(printed, "{head}").is_ok());
         assert_is(&rt, printed.as_slice(), line);
     }
 }

@@ -2,6 +2,7 @@
 
 use crate::parts::assert_is;
 use std::alloc::Global;
+use std::process::Abort;
 use sysv_model::{Instrumented, NoMemory};
 use sysv_script::{Output, Stage, line_of};
 use tests_kit::mark;
@@ -13,10 +14,10 @@ fn run(
     text: &[u8],
     output: &mut Output,
 ) -> Result<bool, NoMemory> {
-    match line_of(text) {
-        Some(line) => stage.run(alloc, line, output),
-        None => Ok(false),
-    }
+    let Some(line) = line_of(text) else {
+        return Ok(false);
+    };
+    stage.run(alloc, line, output)
 }
 
 /// Creates the queue, sends a message and receives it, each in a line of its own. Returns true if
@@ -60,6 +61,13 @@ fn a_message_goes_through_the_stage(rt: HostRuntime) {
     );
 }
 
+/// Asserts that a send and a receive are understood.
+fn assert_goes(rt: &impl Abort, alloc: Global, stage: &mut Stage, output: &mut Output) {
+    let sent = run(stage, alloc, b"1 snd 0 5 - =hello", output);
+    let received = run(stage, alloc, b"2 rcv 0 9 0 -", output);
+    assert_is(rt, (sent, received), (Ok(true), Ok(true)));
+}
+
 // The bodies of the first send and the first receive are used again, and the output has its memory
 // from the start.
 #[test]
@@ -76,9 +84,7 @@ fn no_growths_after_the_first_messages(rt: HostRuntime) {
     }
     let _marked = mark(rt.alloc());
     for _ in 0..100 {
-        let sent = run(&mut stage, rt.alloc(), b"1 snd 0 5 - =hello", &mut output);
-        let received = run(&mut stage, rt.alloc(), b"2 rcv 0 9 0 -", &mut output);
-        assert_is(&rt, (sent, received), (Ok(true), Ok(true)));
+        assert_goes(&rt, rt.alloc(), &mut stage, &mut output);
     }
     stage.end();
 }

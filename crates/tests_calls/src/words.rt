@@ -1,5 +1,5 @@
 //! Words of a line.
-use crate::parts::assert_is;
+use crate::parts::{assert_is, assert_that};
 use bitflags::Flags as _;
 use sysv_model::Flags;
 use sysv_words::{Octal, Reads, split_at_mark};
@@ -19,14 +19,14 @@ fn numerals_are_read(rt: HostRuntime) {
 
 #[test]
 fn modes_and_flags_are_read(rt: HostRuntime) {
-    assert!(rt; matches!(Octal::read(b"0640"), Some(Octal(416))));
-    assert!(rt; Octal::read(b"1000").is_none());
-    assert!(rt; Octal::read(b"8").is_none());
+    assert_that(&rt, matches!(Octal::read(b"0640"), Some(Octal(416))));
+    assert_that(&rt, Octal::read(b"1000").is_none());
+    assert_that(&rt, Octal::read(b"8").is_none());
     let creates = Flags::IPC_CREAT.union(Flags::from_bits_retain(0o600));
     assert_is(&rt, Flags::read(b"CREAT+0600"), Some(creates));
     assert_is(&rt, Flags::read(b"-"), Some(Flags::empty()));
-    assert!(rt; Flags::read(b"CREATE").is_none());
-    assert!(rt; Flags::read(b"00000").is_none());
+    assert_that(&rt, Flags::read(b"CREATE").is_none());
+    assert_that(&rt, Flags::read(b"00000").is_none());
 }
 
 #[test]

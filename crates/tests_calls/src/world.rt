@@ -7,7 +7,7 @@ mod keys;
 mod no_growths;
 mod waits;
 
-use crate::parts::{assert_is, open_body};
+use crate::parts::{assert_is, assert_that, open_body};
 use bitflags::Flags as _;
 use std::alloc::Global;
 use std::process::Abort;
@@ -30,8 +30,8 @@ fn world_with_queue(rt: &impl Abort, alloc: Global, actors: u32) -> World {
             World::open(alloc, actors, 1024).expect(rt, "a second try")
         }
     };
-    assert!(rt; world.preset());
-    assert!(rt; !world.preset());
+    assert_is(rt, world.preset(), true);
+    assert_is(rt, world.preset(), false);
     world
 }
 
@@ -68,6 +68,14 @@ fn make(rt: &impl Abort, world: &mut World, actor: u32, call: Call) -> Outcome {
     go(rt, world, actor)
 }
 
+/// Returns the attributes of queue 0, of which the actor asks.
+fn stat_of(rt: &impl Abort, world: &mut World, actor: u32) -> Stat {
+    match make(rt, world, actor, Call::Stat { id: 0 }) {
+        Outcome::Stat(stat) => stat,
+        _ => panic!(rt; "no attributes"),
+    }
+}
+
 /// Asserts that a call of the actor ends this way.
 fn assert_makes(rt: &impl Abort, world: &mut World, actor: u32, call: Call, wanted: Outcome) {
     assert_eq!(rt; make(rt, world, actor, call), wanted);
@@ -102,13 +110,32 @@ fn removes_at(world: &World, actor: u32) -> Option<&RemoveStep> {
     }
 }
 
+/// Returns the name of the step before which the send of an actor is, if it is before one.
+fn send_step(world: &World, actor: u32) -> Option<&'static str> {
+    match sends_at(world, actor)? {
+        SendStep::Look(_) => Some("look"),
+        SendStep::Reserve(_) => Some("reserve"),
+        SendStep::Place { .. } => Some("place"),
+        SendStep::Giveback { .. } => Some("giveback"),
+    }
+}
+
+fn is_wait<S, W>(at: &Standing<S, W>) -> bool {
+    matches!(at, Standing::Waits(_))
+}
+
 fn is_waiting(world: &World, actor: u32) -> bool {
     match world.doing(actor) {
-        Some(Doing::Get(Standing::Waits(_))) => true,
-        Some(Doing::Send(Sent { at, .. })) => matches!(at, Standing::Waits(_)),
-        Some(Doing::Receive { at, .. }) => matches!(at, Standing::Waits(_)),
+        Some(Doing::Get(at)) => is_wait(at),
+        Some(Doing::Send(sent)) => is_wait(&sent.at),
+        Some(Doing::Receive { at, .. }) => is_wait(at),
         _ => false,
     }
+}
+
+/// Asserts that the actor waits.
+fn assert_waits(rt: &impl Abort, world: &World, actor: u32) {
+    assert_that(rt, is_waiting(world, actor));
 }
 
 /// Returns a get of this key, with IPC_CREAT and mode 0600.
@@ -122,7 +149,7 @@ fn get_or_make(key: i32) -> Call {
 /// Returns a body with these bytes. Tolerates one refusal of memory.
 fn body_of(rt: &impl Abort, alloc: Global, text: &[u8]) -> Body {
     let mut body = open_body(rt, alloc);
-    assert!(rt; body.push_piece(text));
+    assert_that(rt, body.push_piece(text));
     body
 }
 
@@ -153,6 +180,11 @@ fn receive(rt: &impl Abort, alloc: Global, actor: u32) -> Event {
     start(actor, call)
 }
 
+/// Returns how a receive of a message of this type and this many bytes ends.
+fn got(mtype: i64, len: usize) -> Outcome {
+    Outcome::Got { mtype, len }
+}
+
 /// Returns a receive from queue 0. The body that it hands in is not empty.
 fn receive_of(rt: &impl Abort, alloc: Global, size: u32, mtype: i64, flags: Flags) -> Call {
     Call::Receive {
@@ -174,18 +206,27 @@ fn assert_nothing(rt: &impl Abort, stepped: Stepped) {
 
 fn assert_answers(rt: &impl Abort, answer: &Answer, want: Want<'_>) {
     let (actor, outcome, text) = want;
-    assert_eq!(rt; answer.actor, actor);
-    assert_eq!(rt; answer.result, outcome);
-    match (&answer.body, text) {
-        (None, None) => {}
-        (Some(body), Some(text)) => {
-            assert_eq!(rt; body.len(), text.len());
-            for (i, byte) in text.iter().enumerate() {
-                assert!(rt; i < body.len());
-                assert_eq!(rt; body.byte(i), *byte, "at {i}");
-            }
-        }
-        _ => panic!(rt; "a body too many or too few"),
+    assert_is(rt, answer.actor, actor);
+    assert_is(rt, answer.result, outcome);
+    assert_is(rt, answer.body.is_some(), text.is_some());
+    if let Some(body) = &answer.body {
+        assert_holds(rt, body, text.unwrap_or_default());
+    }
+}
+
+/// Asserts that the body has these bytes.
+fn assert_holds(rt: &impl Abort, body: &Body, text: &[u8]) {
+    assert_is(rt, body.len(), text.len());
+    for (i, byte) in text.iter().enumerate() {
+        assert_is(rt, (i, byte_at(body, i)), (i, Some(*byte)));
+    }
+}
+
+fn byte_at(body: &Body, i: usize) -> Option<u8> {
+    if i < body.len() {
+        Some(body.byte(i))
+    } else {
+        None
     }
 }
 
@@ -267,7 +308,7 @@ fn a_place_finds_that_the_room_is_gone(rt: HostRuntime) {
     assert_sends(&rt, alloc, &mut world, 2, &bytes);
     let full = Outcome::Refused(Errno::EAGAIN);
     assert_nothing(&rt, world.step(step(1)));
-    assert!(rt; matches!(sends_at(&world, 1), Some(SendStep::Giveback { .. })));
+    assert_is(&rt, send_step(&world, 1), Some("giveback"));
     assert_answer(&rt, world.step(step(1)), (1, full, None));
     assert_sends(&rt, alloc, &mut world, 2, b"");
     assert_is(&rt, world.end(), 1024);
@@ -285,7 +326,6 @@ fn a_receive_takes_what_it_names(rt: HostRuntime) {
     let cut = wait.union(Flags::MSG_NOERROR);
     let none = Outcome::Refused(Errno::ENOMSG);
     let long = Outcome::Refused(Errno::E2BIG);
-    let got = |mtype, len| Outcome::Got { mtype, len };
     let receives: [(i64, u32, Flags, Outcome, &[u8]); 8] = [
         (3, 9, wait, none, b""),
         (5, 0, wait, long, b""),
@@ -314,12 +354,11 @@ fn a_receive_takes_every_type_but_one(rt: HostRuntime) {
     }
     let flags = Flags::IPC_NOWAIT.union(Flags::MSG_EXCEPT);
     let none = Outcome::Refused(Errno::ENOMSG);
-    let got = |mtype| Outcome::Got { mtype, len: 1 };
     let receives: [(i64, Outcome, &[u8]); 4] = [
-        (5, got(2), b"b"),
+        (5, got(2, 1), b"b"),
         (5, none, b""),
-        (0, got(5), b"a"),
-        (-5, got(5), b"c"),
+        (0, got(5, 1), b"a"),
+        (-5, got(5, 1), b"c"),
     ];
     for (mtype, outcome, text) in receives {
         let call = receive_of(&rt, alloc, 9, mtype, flags);
@@ -329,26 +368,32 @@ fn a_receive_takes_every_type_but_one(rt: HostRuntime) {
     assert_is(&rt, world.end(), 1024);
 }
 
+/// Takes the spare body of the world, and returns its length.
+fn spare_len(world: &mut World) -> Option<usize> {
+    let body = world.spare()?;
+    Some(body.len())
+}
+
 #[test]
 fn the_body_of_a_send_comes_back_once(rt: HostRuntime) {
     let alloc = rt.alloc();
     let mut world = world_with_queue(&rt, alloc, 2);
-    assert!(rt; world.spare().is_none());
+    assert_is(&rt, spare_len(&mut world), None);
     assert_nothing(&rt, world.step(send(&rt, alloc, 1, 5, b"kept")));
-    assert!(rt; world.spare().is_none());
+    assert_is(&rt, spare_len(&mut world), None);
     assert_ends(&rt, &mut world, (1, Outcome::Zero, None));
-    assert!(rt; matches!(world.spare(), Some(body) if body.len() == 0));
-    assert!(rt; world.spare().is_none());
+    assert_is(&rt, spare_len(&mut world), Some(0));
+    assert_is(&rt, spare_len(&mut world), None);
     let got = Outcome::Got { mtype: 5, len: 4 };
     assert_receives(&rt, alloc, &mut world, (2, got, Some(b"kept")));
-    assert!(rt; world.spare().is_none());
+    assert_is(&rt, spare_len(&mut world), None);
     let invalid = Outcome::Refused(Errno::EINVAL);
     assert_answer(
         &rt,
         world.step(send(&rt, alloc, 1, 0, b"x")),
         (1, invalid, None),
     );
-    assert!(rt; world.spare().is_some());
+    assert_that(&rt, spare_len(&mut world).is_some());
     assert_is(&rt, world.end(), 1024);
 }
 
@@ -358,12 +403,10 @@ fn the_answer_of_another_call_leaves_the_body_of_a_send(rt: HostRuntime) {
     let mut world = world_with_queue(&rt, alloc, 2);
     assert_nothing(&rt, world.step(send(&rt, alloc, 1, 5, b"kept")));
     assert_ends(&rt, &mut world, (1, Outcome::Zero, None));
-    match make(&rt, &mut world, 2, Call::Stat { id: 0 }) {
-        Outcome::Stat(stat) => assert_eq!(rt; (stat.qnum, stat.lspid), (1, 101)),
-        _ => panic!(rt; "no attributes"),
-    }
-    assert!(rt; world.spare().is_some());
-    assert!(rt; world.spare().is_none());
+    let stat = stat_of(&rt, &mut world, 2);
+    assert_is(&rt, (stat.qnum, stat.lspid), (1, 101));
+    assert_that(&rt, spare_len(&mut world).is_some());
+    assert_is(&rt, spare_len(&mut world), None);
     assert_is(&rt, world.end(), 1024);
 }
 
@@ -408,63 +451,104 @@ fn what_is_not_possible_gives_nothing(rt: HostRuntime) {
     assert_is(&rt, world.end(), 1024);
 }
 
+/// Ends a world that was opened. Returns the number of its free blocks, or why it was not opened.
+fn end_of(opened: Result<World, OpenRefused>) -> Result<u32, OpenRefused> {
+    opened.map(|world| world.end())
+}
+
 #[test]
 fn a_size_out_of_range_opens_no_world(rt: HostRuntime) {
+    let bad = Err(OpenRefused::BadSize);
     for (actors, blocks) in [(0, 128), (1025, 128), (1, 127), (1, 65_537)] {
-        match World::open(rt.alloc(), actors, blocks) {
-            Ok(_) => panic!(rt; "a world of {actors} actors and {blocks} blocks"),
-            Err(why) => assert_eq!(rt; why, OpenRefused::BadSize, "{actors} {blocks}"),
-        }
+        let ends = end_of(World::open(rt.alloc(), actors, blocks));
+        assert_is(&rt, (actors, blocks, ends), (actors, blocks, bad));
     }
     for (first_step, generation) in [((1 << 62) + 1, 0), (0, 8_388_608)] {
-        match World::open_at(rt.alloc(), 2, 128, first_step, generation) {
-            Ok(_) => panic!(rt; "a world from step {first_step} and generation {generation}"),
-            Err(why) => assert_eq!(rt; why, OpenRefused::BadSize, "{first_step} {generation}"),
-        }
+        let ends = end_of(World::open_at(rt.alloc(), 2, 128, first_step, generation));
+        assert_is(
+            &rt,
+            (first_step, generation, ends),
+            (first_step, generation, bad),
+        );
     }
     for (actors, blocks) in [(1, 128), (1024, 65_536)] {
-        match World::open(rt.alloc(), actors, blocks) {
-            Ok(world) => assert_is(&rt, world.end(), blocks),
-            Err(why) => assert_eq!(rt; why, OpenRefused::NoMemory, "{actors} {blocks}"),
+        let ends = end_of(World::open(rt.alloc(), actors, blocks));
+        if ends != Err(OpenRefused::NoMemory) {
+            assert_is(&rt, (actors, ends), (actors, Ok(blocks)));
         }
+    }
+}
+
+/// Returns an empty list with room for this number of events. Tolerates one refusal of memory.
+fn room_for(rt: &impl Abort, alloc: Global, events: usize) -> Vec<Event> {
+    match Vec::with_capacity(alloc, events) {
+        Ok(room) => room,
+        Err(_) => Vec::with_capacity(alloc, events).expect(rt, "a second try"),
+    }
+}
+
+fn push(rt: &impl Abort, events: &mut Vec<Event>, event: Event) {
+    assert_that(rt, events.push(event).is_ok());
+}
+
+/// Appends the start of a call and this number of steps of its actor.
+fn push_call(rt: &impl Abort, events: &mut Vec<Event>, call: Event, actor: u32, steps: u32) {
+    push(rt, events, call);
+    for _ in 0..steps {
+        push(rt, events, step(actor));
+    }
+}
+
+/// Runs the events. Tolerates one refusal of memory, after which all events must be handed back.
+fn run(rt: &impl Abort, alloc: Global, world: &mut World, events: Vec<Event>) -> Vec<Answer> {
+    let count = events.len();
+    match world.run(alloc, events) {
+        Ok(answers) => answers,
+        Err(back) => {
+            assert_is(rt, back.len(), count);
+            run_back(rt, alloc, world, back)
+        }
+    }
+}
+
+/// Runs the events that were handed back.
+fn run_back(rt: &impl Abort, alloc: Global, world: &mut World, back: Vec<Event>) -> Vec<Answer> {
+    match world.run(alloc, back) {
+        Ok(answers) => answers,
+        Err(_) => panic!(rt; "a second try"),
     }
 }
 
 /// Returns events: actor 1 receives, sends `hello` and sends an empty body; actor 2 receives three
 /// times.
 fn six_calls(rt: &impl Abort, alloc: Global) -> Vec<Event> {
-    let mut events = match Vec::with_capacity(alloc, 19) {
-        Ok(events) => events,
-        Err(_) => Vec::with_capacity(alloc, 19).expect(rt, "a second try"),
-    };
-    for event in [receive(rt, alloc, 1), step(1)] {
-        assert!(rt; events.push(event).is_ok());
-    }
-    for (mtype, text) in [(5, b"hello".as_slice()), (2, b"")] {
-        for event in [send(rt, alloc, 1, mtype, text), step(1), step(1), step(1)] {
-            assert!(rt; events.push(event).is_ok());
-        }
-    }
+    let mut events = room_for(rt, alloc, 19);
+    push_call(rt, &mut events, receive(rt, alloc, 1), 1, 1);
+    push_call(rt, &mut events, send(rt, alloc, 1, 5, b"hello"), 1, 3);
+    push_call(rt, &mut events, send(rt, alloc, 1, 2, b""), 1, 3);
     for _ in 0..3 {
-        for event in [receive(rt, alloc, 2), step(2), step(2)] {
-            assert!(rt; events.push(event).is_ok());
-        }
+        push_call(rt, &mut events, receive(rt, alloc, 2), 2, 2);
     }
     events
+}
+
+/// Asserts that the actor has no pending call.
+fn assert_idle(rt: &impl Abort, world: &World, actor: u32) {
+    assert_that(rt, world.doing(actor).is_none());
 }
 
 #[test]
 fn an_actor_stands_before_its_next_step(rt: HostRuntime) {
     let mut world = world_with_queue(&rt, rt.alloc(), 2);
-    assert!(rt; world.doing(0).is_none());
-    assert!(rt; world.doing(1).is_none());
-    assert!(rt; world.doing(3).is_none());
+    assert_idle(&rt, &world, 0);
+    assert_idle(&rt, &world, 1);
+    assert_idle(&rt, &world, 3);
     let _started = world.step(send(&rt, rt.alloc(), 1, 5, b"hello"));
-    assert!(rt; matches!(sends_at(&world, 1), Some(SendStep::Look(_))));
-    assert!(rt; world.doing(2).is_none());
+    assert_is(&rt, send_step(&world, 1), Some("look"));
+    assert_idle(&rt, &world, 2);
     let _looked = world.step(Event::Step { actor: 1, now: 0 });
-    assert!(rt; matches!(sends_at(&world, 1), Some(SendStep::Reserve(_))));
+    assert_is(&rt, send_step(&world, 1), Some("reserve"));
     let _reserved = world.step(Event::Step { actor: 1, now: 0 });
-    assert!(rt; matches!(sends_at(&world, 1), Some(SendStep::Place { .. })));
+    assert_is(&rt, send_step(&world, 1), Some("place"));
     assert_is(&rt, world.end(), 1024);
 }

@@ -36,7 +36,7 @@ fn slot_open(rt: HostRuntime) {
     let _marked = mark(rt.alloc());
     match QueueSlot::open(rt.alloc()) {
         Ok(mut slot) => {
-            assert!(rt; slot.install(0, 7, USER, 0o600, 50));
+            assert_is(&rt, slot.install(0, 7, USER, 0o600, 50), true);
             assert_is(&rt, slot.look(0, USER, 5), Look::Fits);
             assert_is(&rt, slot.end().end(), 0);
         }

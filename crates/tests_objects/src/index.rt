@@ -74,14 +74,18 @@ fn assert_agree(
     beside: &mut Beside,
     mtype: i64,
 ) -> Result<(), Fail> {
-    assert_eq!(rt; index.len(), beside.entries.len());
+    assert_is(rt, index.len(), beside.entries.len());
     for sel in [
         Selector::Any,
         Selector::Exactly(mtype),
         Selector::UpTo(mtype.unsigned_abs()),
         Selector::Except(mtype),
     ] {
-        assert_eq!(rt; select(index, sel), beside.select(sel)?, "{mtype}");
+        assert_is(
+            rt,
+            (mtype, select(index, sel)),
+            (mtype, beside.select(sel)?),
+        );
     }
     Ok(())
 }
@@ -123,13 +127,13 @@ fn selections_follow_the_plain_rule(rt: HostRuntime) -> Result<(), Fail> {
             taken += 1;
         }
     }
-    assert!(rt; taken > 100 && beside.entries.len() > 50);
+    assert_is(&rt, (taken > 100, beside.entries.len() > 50), (true, true));
     Ok(())
 }
 
 /// Asserts that this entry is selected.
 fn assert_selects(rt: &impl Abort, index: &Index, sel: Selector, wanted: Option<Entry>) {
-    assert_eq!(rt; select(index, sel), wanted, "{sel:?}");
+    assert_is(rt, (sel, select(index, sel)), (sel, wanted));
 }
 
 const TENTH: Entry = Entry {
@@ -154,7 +158,7 @@ fn entries_come_and_go(rt: HostRuntime) {
     assert_selects(&rt, &index, Selector::Except(9), None);
     index.push(TENTH);
     index.push(TWELFTH);
-    assert_eq!(rt; index.len(), 2);
+    assert_is(&rt, index.len(), 2);
     assert_selects(&rt, &index, Selector::Any, Some(TENTH));
     assert_selects(&rt, &index, Selector::UpTo(5), Some(TWELFTH));
     assert_selects(&rt, &index, Selector::UpTo(1), None);
@@ -168,8 +172,8 @@ fn entries_come_and_go(rt: HostRuntime) {
     assert_selects(&rt, &index, Selector::Exactly(5), None);
     assert_selects(&rt, &index, Selector::Except(2), None);
     index.remove(11);
-    assert_eq!(rt; index.len(), 1);
+    assert_is(&rt, index.len(), 1);
     index.clear();
-    assert!(rt; index.is_empty());
+    assert_is(&rt, index.is_empty(), true);
     assert_selects(&rt, &index, Selector::Any, None);
 }

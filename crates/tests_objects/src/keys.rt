@@ -13,7 +13,7 @@ fn registry_at(rt: &impl Abort, alloc: Global, generation: u32) -> Registry {
     for _ in 0..3 {
         match Registry::open_at(alloc, generation) {
             Ok(registry) => return registry,
-            Err(why) => assert_eq!(rt; why, RegistryRefused::NoMemory),
+            Err(why) => assert_is(rt, why, RegistryRefused::NoMemory),
         }
     }
     Registry::open_at(alloc, generation).expect(rt, "a fourth try")
@@ -36,12 +36,12 @@ fn make_private(rt: &impl Abort, registry: &mut Registry, id: i32) {
         registry.begin(IPC_PRIVATE, flags(0)),
         Begun::Made { id },
     );
-    assert!(rt; registry.settle(id));
+    assert_is(rt, registry.settle(id), true);
 }
 
 /// Asserts that a begin has this result.
 fn assert_begins(rt: &impl Abort, registry: &mut Registry, key: i32, flags: Flags, wanted: Begun) {
-    assert_eq!(rt; registry.begin(key, flags), wanted, "key {key}");
+    assert_is(rt, (key, registry.begin(key, flags)), (key, wanted));
 }
 
 /// Asserts that a begin with IPC_CREAT makes this identifier.
@@ -64,7 +64,7 @@ fn keys_and_private_keys(rt: HostRuntime) {
         flags(512 + 1024 + 0o600),
         Begun::Made { id: 0 },
     );
-    assert!(rt; registry.settle(0));
+    assert_is(&rt, registry.settle(0), true);
     let found = Begun::Found { id: 0, settled: 1 };
     assert_begins(&rt, &mut registry, 9, flags(512 + 1024 + 0o600), found);
     assert_begins(
@@ -90,7 +90,7 @@ fn keys_and_private_keys(rt: HostRuntime) {
 fn a_full_registry_makes_no_queue(rt: HostRuntime) {
     let mut registry = open_registry(&rt, rt.alloc());
     assert_made(&rt, &mut registry, 9, 0);
-    assert!(rt; registry.settle(0));
+    assert_is(&rt, registry.settle(0), true);
     for id in 1..256 {
         make_private(&rt, &mut registry, id);
     }
@@ -115,8 +115,8 @@ fn a_key_is_busy_until_it_is_settled(rt: HostRuntime) {
     let mut registry = open_registry(&rt, rt.alloc());
     assert_made(&rt, &mut registry, -4, 0);
     assert_begins(&rt, &mut registry, -4, flags(0), Begun::Busy { settled: 0 });
-    assert!(rt; registry.settle(0));
-    assert!(rt; !registry.settle(0));
+    assert_is(&rt, registry.settle(0), true);
+    assert_is(&rt, registry.settle(0), false);
     assert_begins(
         &rt,
         &mut registry,
@@ -124,9 +124,9 @@ fn a_key_is_busy_until_it_is_settled(rt: HostRuntime) {
         flags(0),
         Begun::Found { id: 0, settled: 1 },
     );
-    assert!(rt; !registry.settle(256));
-    assert!(rt; !registry.settle(1));
-    assert!(rt; !registry.settle(-1));
+    assert_is(&rt, registry.settle(256), false);
+    assert_is(&rt, registry.settle(1), false);
+    assert_is(&rt, registry.settle(-1), false);
     assert_is(&rt, registry.settled(), 1);
 }
 
@@ -136,15 +136,15 @@ fn a_forgotten_identifier_is_never_given_again(rt: HostRuntime) {
     assert_made(&rt, &mut registry, 7, 0);
     assert_made(&rt, &mut registry, 8, 1);
     assert_made(&rt, &mut registry, i32::MIN, 2);
-    assert!(rt; registry.settle(1));
-    assert!(rt; registry.forget(1));
-    assert!(rt; !registry.forget(1));
-    assert!(rt; registry.forget(0));
+    assert_is(&rt, registry.settle(1), true);
+    assert_is(&rt, registry.forget(1), true);
+    assert_is(&rt, registry.forget(1), false);
+    assert_is(&rt, registry.forget(0), true);
     assert_is(&rt, registry.settled(), 3);
     assert_refused(&rt, &mut registry, 7, flags(0), Errno::ENOENT);
     assert_made(&rt, &mut registry, 7, 256);
-    assert!(rt; !registry.forget(0));
-    assert!(rt; !registry.settle(0));
+    assert_is(&rt, registry.forget(0), false);
+    assert_is(&rt, registry.settle(0), false);
     assert_made(&rt, &mut registry, 8, 257);
     assert_begins(
         &rt,
@@ -153,7 +153,7 @@ fn a_forgotten_identifier_is_never_given_again(rt: HostRuntime) {
         creating(),
         Begun::Busy { settled: 3 },
     );
-    assert!(rt; registry.forget(2));
+    assert_is(&rt, registry.forget(2), true);
     assert_begins(
         &rt,
         &mut registry,
@@ -171,7 +171,7 @@ fn the_last_identifiers(rt: HostRuntime) {
         let id = 2_147_483_392 + slot as i32;
         assert_is(&rt, slot_of_id(id), slot);
         assert_made(&rt, &mut registry, key, id);
-        assert!(rt; registry.forget(id));
+        assert_is(&rt, registry.forget(id), true);
         assert_refused(&rt, &mut registry, key, flags(0), Errno::ENOENT);
     }
     assert_refused(&rt, &mut registry, IPC_PRIVATE, flags(0), Errno::ENOSPC);
@@ -189,17 +189,22 @@ fn generations_past_the_last_are_refused(rt: HostRuntime) {
     }
 }
 
+/// Makes 256 queues, of which the first has this identifier, and forgets them.
+fn make_and_forget(rt: &impl Abort, registry: &mut Registry, first: i32) {
+    for id in first..first.wrapping_add(256) {
+        assert_made(rt, registry, id.wrapping_add(1), id);
+    }
+    for id in first..first.wrapping_add(256) {
+        assert_is(rt, registry.forget(id), true);
+    }
+}
+
 #[test]
 fn many_keys_come_and_go(rt: HostRuntime) {
     let mut registry = open_registry(&rt, rt.alloc());
     let mut first: i32 = 0;
     for _ in 0..50 {
-        for id in first..first.wrapping_add(256) {
-            assert_made(&rt, &mut registry, id.wrapping_add(1), id);
-        }
-        for id in first..first.wrapping_add(256) {
-            assert!(rt; registry.forget(id));
-        }
+        make_and_forget(&rt, &mut registry, first);
         first = first.wrapping_add(256);
     }
     assert_is(&rt, registry.settled(), 12_800);
@@ -208,11 +213,11 @@ fn many_keys_come_and_go(rt: HostRuntime) {
 #[test]
 fn a_slot_is_unused_until_its_first_identifier(rt: HostRuntime) {
     let mut registry = open_registry(&rt, rt.alloc());
-    assert!(rt; registry.is_unused(0));
+    assert_is(&rt, registry.is_unused(0), true);
     make_private(&rt, &mut registry, 0);
-    assert!(rt; !registry.is_unused(0));
-    assert!(rt; registry.is_unused(1));
-    assert!(rt; registry.forget(0));
-    assert!(rt; !registry.is_unused(0));
-    assert!(rt; !registry_at(&rt, rt.alloc(), 1).is_unused(0));
+    assert_is(&rt, registry.is_unused(0), false);
+    assert_is(&rt, registry.is_unused(1), true);
+    assert_is(&rt, registry.forget(0), true);
+    assert_is(&rt, registry.is_unused(0), false);
+    assert_is(&rt, registry_at(&rt, rt.alloc(), 1).is_unused(0), false);
 }

@@ -66,7 +66,7 @@ fn end_desk(rt: &impl Abort, desk: Desk, blocks: u32) {
         out: _,
     } = desk;
     let chain = messages.end();
-    assert_eq!(rt; chain.blocks(), blocks);
+    assert_is(rt, chain.blocks(), blocks);
     give_back(rt, &mut pool, chain);
     assert_is(rt, pool.free(), 512);
     pool.end();
@@ -78,7 +78,7 @@ fn send(rt: &impl Abort, desk: &mut Desk, number: u64, mtype: i64, text: &[u8])
     ensures { All (λ (m : Message). m.number < number + 1) desk.new.messages }
 {
     desk.text.clear();
-    assert!(rt; desk.text.push_piece(text));
+    assert_is(rt, desk.text.push_piece(text), true);
     let size = desk.text.len();
     assert!(rt; size <= 8192);
     let Some(mut chain) = desk.pool.reserve(size) else {
@@ -144,12 +144,13 @@ fn assert_receives(
     most: usize,
     wanted: Result<Received, NotTaken>,
 ) {
-    assert_eq!(rt; receive(rt, desk, sel, most), wanted, "{sel:?}");
+    let received = receive(rt, desk, sel, most);
+    assert_is(rt, (sel, received), (sel, wanted));
 }
 
 /// Asserts that this number of messages with this number of bytes is queued.
 fn assert_waiting(rt: &impl Abort, desk: &Desk, waiting: (usize, u32)) {
-    assert_eq!(rt; (desk.messages.len(), desk.messages.bytes()), waiting);
+    assert_is(rt, (desk.messages.len(), desk.messages.bytes()), waiting);
 }
 
 /// Opens a store with messages 3 to 6, of types 5, 2, 5 and 9.
@@ -237,7 +238,7 @@ fn all_messages_are_taken(rt: HostRuntime) {
     send(&rt, &mut desk, 0, 1, &[1; 64]);
     send(&rt, &mut desk, 1, 1, &[2; 65]);
     let all = desk.messages.take_all();
-    assert_eq!(rt; all.blocks(), 3);
+    assert_is(&rt, all.blocks(), 3);
     give_back(&rt, &mut desk.pool, all);
     assert_waiting(&rt, &desk, (0, 0));
     send(&rt, &mut desk, 0, 1, &[3; 128]);

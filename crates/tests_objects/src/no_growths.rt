@@ -24,10 +24,10 @@ fn registry(rt: HostRuntime) {
             let id = id_of(slot, round);
             let begun = registry.begin(key, creating());
             assert_is(&rt, begun, Begun::Made { id });
-            assert!(rt; registry.settle(id));
+            assert_is(&rt, registry.settle(id), true);
         }
         for slot in 0..256 {
-            assert!(rt; registry.forget(id_of(slot, round)));
+            assert_is(&rt, registry.forget(id_of(slot, round)), true);
         }
     }
     assert_is(&rt, registry.settled(), 1024);
@@ -39,7 +39,7 @@ fn pool(rt: HostRuntime) {
     let mut out = open_body(&rt, rt.alloc());
     let mut pool = open_pool(&rt, rt.alloc(), 128);
     let _marked = mark(rt.alloc());
-    assert!(rt; text.push_piece(b"hello"));
+    assert_is(&rt, text.push_piece(b"hello"), true);
     let size = text.len();
     assert!(rt; size <= 8192);
     let Some(mut chain) = pool.reserve(size) else {

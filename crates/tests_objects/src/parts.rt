@@ -22,10 +22,18 @@ pub(crate) fn open_pool(rt: &impl Abort, alloc: Global, blocks: u32) -> Pool {
 
 /// Asserts that the body has these bytes.
 pub(crate) fn assert_holds(rt: &impl Abort, body: &Body, text: &[u8]) {
-    assert_eq!(rt; body.len(), text.len());
+    assert_is(rt, body.len(), text.len());
     for (i, byte) in text.iter().enumerate() {
-        assert!(rt; i < body.len());
-        assert_eq!(rt; body.byte(i), *byte, "at {i}");
+        assert_is(rt, (i, byte_at(body, i)), (i, Some(*byte)));
+    }
+}
+
+/// Returns the byte at this index, if the body has so many.
+pub(crate) fn byte_at(body: &Body, i: usize) -> Option<u8> {
+    if i < body.len() {
+        Some(body.byte(i))
+    } else {
+        None
     }
 }
 

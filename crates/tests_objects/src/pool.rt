@@ -7,7 +7,7 @@ ghost use Rattle.sysv_model.specs.Pool.{blocks_for};
 
 mod whole;
 
-use crate::parts::{assert_is, give_back, open_body, open_pool};
+use crate::parts::{assert_is, byte_at, give_back, open_body, open_pool};
 use std::alloc::Global;
 use std::process::Abort;
 use sysv_model::Body;
@@ -47,7 +47,7 @@ fn holding(rt: &impl Abort, pool: &mut Pool, body: &Body) -> Chain
 
 /// Asserts the number of free blocks of a pool, and how often a chain was released to it.
 fn assert_counts(rt: &impl Abort, pool: &Pool, free: u32, released: u64) {
-    assert_eq!(rt; (pool.free(), pool.released()), (free, released));
+    assert_is(rt, (pool.free(), pool.released()), (free, released));
 }
 
 /// Asserts that a body of `size` bytes takes this number of the 128 blocks until they are given
@@ -57,23 +57,28 @@ fn assert_takes(rt: &impl Abort, pool: &mut Pool, size: usize, blocks: u32) {
     let chain = reserved(rt, pool, size);
     let lent = (chain.blocks(), pool.free());
     give_back(rt, pool, chain);
-    assert_eq!(rt;
-        lent,
-        (blocks, 128_u32.saturating_sub(blocks)),
-        "{size} bytes are out"
+    assert_is(
+        rt,
+        (size, lent),
+        (size, (blocks, 128_u32.saturating_sub(blocks))),
     );
-    assert_eq!(rt; pool.free(), 128, "{size} bytes are back");
+    assert_is(rt, (size, pool.free()), (size, 128));
 }
 
 /// Asserts that the body is two bytes followed by these bytes.
 fn assert_ends(rt: &impl Abort, body: &Body, text: &[u8]) {
-    assert_eq!(rt; body.len(), text.len() + 2);
+    let len = text.len();
+    assert_is(rt, body.len(), len + 2);
     for (i, byte) in text.iter().enumerate() {
-        assert!(rt;
-            i + 2 < body.len() && body.byte(i + 2) == *byte,
-            "{i} of {}",
-            text.len()
-        );
+        assert_is(rt, (i, len, byte_at(body, i + 2)), (i, len, Some(*byte)));
+    }
+}
+
+/// Asserts that the pool has no free block.
+fn assert_none_free(rt: &impl Abort, pool: &mut Pool) {
+    if let Some(chain) = pool.reserve(1) {
+        let blocks = chain.end();
+        panic!(rt; "{blocks} blocks of none");
     }
 }
 
@@ -84,10 +89,7 @@ fn blocks_are_reserved_and_come_back(rt: HostRuntime) {
     let all = reserved(&rt, &mut pool, 8192);
     assert_counts(&rt, &pool, 0, 0);
     assert_is(&rt, all.blocks(), 128);
-    if let Some(chain) = pool.reserve(1) {
-        let blocks = chain.end();
-        panic!(rt; "{blocks} blocks of none");
-    }
+    assert_none_free(&rt, &mut pool);
     let none = reserved(&rt, &mut pool, 0);
     assert_counts(&rt, &pool, 0, 0);
     give_back(&rt, &mut pool, all);
@@ -99,11 +101,8 @@ fn blocks_are_reserved_and_come_back(rt: HostRuntime) {
 #[test]
 fn sizes_out_of_range(rt: HostRuntime) {
     for blocks in [0, 1, 127, 65_537, u32::MAX] {
-        assert_eq!(rt;
-            refusal(rt.alloc(), blocks),
-            Some(PoolRefused::BadSize),
-            "{blocks} blocks"
-        );
+        let why = refusal(rt.alloc(), blocks);
+        assert_is(&rt, (blocks, why), (blocks, Some(PoolRefused::BadSize)));
     }
 }
 
@@ -141,6 +140,30 @@ fn an_empty_chain_fits_where_no_block_is_free(rt: HostRuntime) {
     pool.end();
 }
 
+/// Asserts that a body with this text comes out of its chain as it was put in, whole and cut.
+fn assert_comes_out(
+    rt: &impl Abort,
+    pool: &mut Pool,
+    body: &mut Body,
+    out: &mut Body,
+    text: &[u8],
+) {
+    body.clear();
+    assert_is(rt, body.push_piece(text), true);
+    assert_is(rt, body.len(), text.len());
+    assert!(rt; body.len() <= 8192);
+    let chain = holding(rt, pool, body);
+    for n in [0, 1, 63, 64, 65, 129, 8191, 8192] {
+        if n <= body.len() && n <= text.len() {
+            out.clear();
+            assert!(rt; out.push_piece(b"--") && out.len() == 2);
+            chain.copy_out(n, out);
+            assert_ends(rt, out, &text[..n]);
+        }
+    }
+    give_back(rt, pool, chain);
+}
+
 #[test]
 fn texts_come_out_as_they_were_put_in(rt: HostRuntime) {
     let mut pool = open_pool(&rt, rt.alloc(), 128);
@@ -152,19 +175,8 @@ fn texts_come_out_as_they_were_put_in(rt: HostRuntime) {
     }
     // The blocks still contain bytes of the previous body.
     for len in [8192, 0, 1, 63, 64, 65, 130, 8192] {
-        body.clear();
-        assert!(rt; len <= 8192 && body.push_piece(&text[..len]));
-        assert!(rt; body.len() <= 8192);
-        let chain = holding(&rt, &mut pool, &body);
-        for n in [0, 1, 63, 64, 65, 129, 8191, 8192] {
-            if n <= body.len() {
-                out.clear();
-                assert!(rt; out.push_piece(b"--") && out.len() == 2);
-                chain.copy_out(n, &mut out);
-                assert_ends(&rt, &out, &text[..n]);
-            }
-        }
-        give_back(&rt, &mut pool, chain);
+        assert!(rt; len <= text.len());
+        assert_comes_out(&rt, &mut pool, &mut body, &mut out, &text[..len]);
     }
     pool.end();
 }

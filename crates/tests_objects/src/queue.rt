@@ -86,14 +86,14 @@ fn open_desk(rt: &impl Abort, alloc: Global) -> Desk {
 /// Opens a slot with queue 0.
 fn desk_with_queue(rt: &impl Abort, alloc: Global) -> Desk {
     let mut desk = open_desk(rt, alloc);
-    assert!(rt; desk.slot.install(0, 0, SENDER, 0o600, 0));
+    assert_is(rt, desk.slot.install(0, 0, SENDER, 0o600, 0), true);
     desk
 }
 
 /// Opens a slot with queue 0, which its group may read.
 fn desk_with_shared_queue(rt: &impl Abort, alloc: Global) -> Desk {
     let mut desk = open_desk(rt, alloc);
-    assert!(rt; desk.slot.install(0, 0, SENDER, 0o640, 0));
+    assert_is(rt, desk.slot.install(0, 0, SENDER, 0o640, 0), true);
     desk
 }
 
@@ -107,7 +107,7 @@ fn end_desk(rt: &impl Abort, desk: Desk, blocks: u32) {
         out: _,
     } = desk;
     let chain = slot.end();
-    assert_eq!(rt; chain.blocks(), blocks);
+    assert_is(rt, chain.blocks(), blocks);
     give_back(rt, &mut pool, chain);
     assert_is(rt, pool.free(), 512);
     pool.end();
@@ -123,7 +123,7 @@ fn send_as(
     text: &[u8],
 ) -> Result<u64, Unplaced> {
     desk.text.clear();
-    assert!(rt; desk.text.push_piece(text));
+    assert_is(rt, desk.text.push_piece(text), true);
     let size = desk.text.len();
     assert!(rt; size <= 8192);
     let Some(mut chain) = desk.pool.reserve(size) else {
@@ -222,16 +222,13 @@ fn got(mtype: i64, text: &[u8], number: u64) -> Received {
 
 /// Asserts that queue `id` finds this for a body of `size` bytes.
 fn assert_looks(rt: &impl Abort, desk: &Desk, id: i32, cred: Cred, size: usize, found: Look) {
-    assert_eq!(rt;
-        desk.slot.look(id, cred, size),
-        found,
-        "{size} bytes to {id}"
-    );
+    let looked = desk.slot.look(id, cred, size);
+    assert_is(rt, (id, size, looked), (id, size, found));
 }
 
 /// Asserts the arrived count and the freed count.
 fn assert_counts(rt: &impl Abort, desk: &Desk, counts: (u64, u64)) {
-    assert_eq!(rt; desk.slot.counts(), counts);
+    assert_is(rt, desk.slot.counts(), counts);
 }
 
 /// Asserts that a send of this body to queue `id` has this result.
@@ -244,7 +241,7 @@ fn assert_sends_as(
     text: &[u8],
     wanted: Result<u64, Unplaced>,
 ) {
-    assert_eq!(rt; send_as(rt, desk, id, cred, mtype, text), wanted);
+    assert_is(rt, send_as(rt, desk, id, cred, mtype, text), wanted);
 }
 
 /// Asserts that a send of this body to queue 0 has this result.
@@ -267,7 +264,8 @@ fn assert_receives_as(
     sel: Selector,
     wanted: Result<Received, TakeRefused>,
 ) {
-    assert_eq!(rt; receive_as(rt, desk, id, cred, sel), wanted, "{sel:?}");
+    let received = receive_as(rt, desk, id, cred, sel);
+    assert_is(rt, (sel, received), (sel, wanted));
 }
 
 /// Asserts that a receive of any message of queue 0 has this result.
@@ -278,7 +276,8 @@ fn assert_receives(
     noerror: bool,
     wanted: Result<Received, TakeRefused>,
 ) {
-    assert_eq!(rt; receive(rt, desk, size, noerror), wanted, "{size} bytes");
+    let received = receive(rt, desk, size, noerror);
+    assert_is(rt, (size, received), (size, wanted));
 }
 
 #[test]
@@ -295,8 +294,8 @@ fn a_vacant_slot_has_no_queue(rt: HostRuntime) {
 #[test]
 fn an_installed_queue_stays(rt: HostRuntime) {
     let mut desk = open_desk(&rt, rt.alloc());
-    assert!(rt; desk.slot.install(0, 0, SENDER, 0o600, 0));
-    assert!(rt; !desk.slot.install(64, 7, RECEIVER, 0o777, 1));
+    assert_is(&rt, desk.slot.install(0, 0, SENDER, 0o600, 0), true);
+    assert_is(&rt, desk.slot.install(64, 7, RECEIVER, 0o777, 1), false);
     assert_looks(&rt, &desk, 0, RECEIVER, 16_384, Look::Fits);
     assert_looks(&rt, &desk, 64, RECEIVER, 0, Look::Gone);
     assert_looks(&rt, &desk, -1, RECEIVER, 0, Look::Gone);
@@ -416,6 +415,28 @@ fn a_selector_names_one_message(rt: HostRuntime) {
     end_desk(&rt, desk, 0);
 }
 
+/// Asserts that this caller may send to queue 0.
+fn assert_writes(rt: &impl Abort, desk: &mut Desk, cred: Cred) {
+    assert_looks(rt, desk, 0, cred, 4, Look::Fits);
+    let sent = send_as(rt, desk, 0, cred, 1, b"text");
+    assert_is(rt, (cred, sent.is_ok()), (cred, true));
+}
+
+/// Asserts that this caller may not send to queue 0, and sends as its owner.
+fn assert_may_not_write(rt: &impl Abort, desk: &mut Desk, cred: Cred) {
+    assert_looks(rt, desk, 0, cred, 4, Look::Denied);
+    assert_sends_as(rt, desk, 0, cred, 1, b"text", Err(Unplaced::Denied));
+    let sent = send(rt, desk, 1, b"text");
+    assert_is(rt, (cred, sent.is_ok()), (cred, true));
+}
+
+/// Asserts that this caller may receive from queue 0.
+fn assert_reads(rt: &impl Abort, desk: &mut Desk, cred: Cred) {
+    let given = receive_as(rt, desk, 0, cred, Selector::Any);
+    assert_is(rt, (cred, given.is_ok()), (cred, true));
+    assert_holds(rt, &desk.out, b"text");
+}
+
 #[test]
 fn each_class_has_its_own_bits(rt: HostRuntime) {
     let mut desk = desk_with_shared_queue(&rt, rt.alloc());
@@ -426,23 +447,15 @@ fn each_class_has_its_own_bits(rt: HostRuntime) {
         (USER_ZERO, true, true),
     ];
     for (cred, writes, reads) in callers {
-        let found = desk.slot.look(0, cred, 4);
-        let sent = send_as(&rt, &mut desk, 0, cred, 1, b"text");
         if writes {
-            assert_eq!(rt; found, Look::Fits, "{cred:?}");
-            assert!(rt; sent.is_ok(), "{cred:?}");
+            assert_writes(&rt, &mut desk, cred);
         } else {
-            assert_eq!(rt; found, Look::Denied, "{cred:?}");
-            assert_eq!(rt; sent, Err(Unplaced::Denied), "{cred:?}");
-            let sent = send(&rt, &mut desk, 1, b"text");
-            assert!(rt; sent.is_ok(), "{cred:?}");
+            assert_may_not_write(&rt, &mut desk, cred);
         }
-        let given = receive_as(&rt, &mut desk, 0, cred, Selector::Any);
         if reads {
-            assert!(rt; given.is_ok(), "{cred:?}");
-            assert_holds(&rt, &desk.out, b"text");
+            assert_reads(&rt, &mut desk, cred);
         } else {
-            assert_eq!(rt; given, Err(TakeRefused::Denied), "{cred:?}");
+            assert_refuses(&rt, &mut desk, cred, Selector::Any, TakeRefused::Denied);
         }
     }
     assert_counts(&rt, &desk, (4, 3));
@@ -571,10 +584,24 @@ fn a_slot_ends_with_the_blocks_of_what_waits(rt: HostRuntime) {
     for size in [0, 1, 64, 65, 130] {
         assert!(rt; size <= bytes.len());
         let sent = send(&rt, &mut desk, 1, &bytes[..size]);
-        assert!(rt; sent.is_ok(), "{size}");
+        assert_is(&rt, (size, sent.is_ok()), (size, true));
     }
     assert_is(&rt, desk.pool.free(), 505);
     end_desk(&rt, desk, 7);
+}
+
+/// Receives any message of queue 0, and returns its delivery.
+fn delivered(rt: &impl Abort, desk: &mut Desk) -> Delivery {
+    let (_, freed) = desk.slot.counts();
+    assert!(rt; freed < 1 << 63);
+    match desk.slot.take(0, RECEIVER, Selector::Any, 9, false, 9) {
+        Ok(taken) => {
+            let (delivery, chain) = taken.finish(9, &mut desk.out);
+            give_back(rt, &mut desk.pool, chain);
+            delivery
+        }
+        Err(why) => panic!(rt; "{why}"),
+    }
 }
 
 #[test]
@@ -588,21 +615,13 @@ fn receipts_are_written_or_lost(rt: HostRuntime) {
     );
     for arrives in [true, false, true] {
         let sent = send(&rt, &mut desk, 1, b"text");
-        assert!(rt; sent.is_ok());
-        let (_, freed) = desk.slot.counts();
-        assert!(rt; freed < 1 << 63);
-        match desk.slot.take(0, RECEIVER, Selector::Any, 9, false, 9) {
-            Ok(taken) => {
-                let (delivery, chain) = taken.finish(9, &mut desk.out);
-                give_back(&rt, &mut desk.pool, chain);
-                assert!(rt; tally.taken() < 3);
-                if arrives {
-                    delivery.written(&mut tally);
-                } else {
-                    delivery.lost(&mut tally);
-                }
-            }
-            Err(why) => panic!(&rt; "{why}"),
+        assert_is(&rt, sent.is_ok(), true);
+        let delivery = delivered(&rt, &mut desk);
+        assert!(rt; tally.taken() < 3);
+        if arrives {
+            delivery.written(&mut tally);
+        } else {
+            delivery.lost(&mut tally);
         }
     }
     assert_is(
@@ -628,11 +647,14 @@ fn a_probe_asks_what_the_mode_asks(rt: HostRuntime) {
     ];
     for (cred, bits, found) in table {
         let flags = Flags::from_bits_retain(bits);
-        assert_eq!(rt; desk.slot.probe(0, cred, flags), found, "{cred:?} {bits}");
-        assert_eq!(rt;
+        let probes = (
+            desk.slot.probe(0, cred, flags),
             desk.slot.probe(64, cred, flags),
-            Probe::Gone,
-            "{cred:?} {bits}"
+        );
+        assert_is(
+            &rt,
+            (cred, bits, probes),
+            (cred, bits, (found, Probe::Gone)),
         );
     }
     end_desk(&rt, desk, 0);
@@ -644,7 +666,7 @@ fn a_queue_shows_its_attributes(rt: HostRuntime) {
     assert_is(&rt, desk.slot.row(), None);
     assert_is(&rt, desk.slot.qnum(), 0);
     assert_is(&rt, desk.slot.stat(64, SENDER), Err(Errno::EINVAL));
-    assert!(rt; desk.slot.install(64, 3, SENDER, 0o640, 50));
+    assert_is(&rt, desk.slot.install(64, 3, SENDER, 0o640, 50), true);
     assert_sends_as(&rt, &mut desk, 64, SENDER, 4, b"abc", Ok(0));
     let shown = Stat {
         key: 3,

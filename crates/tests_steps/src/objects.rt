@@ -235,7 +235,7 @@ fn take(rt: &impl Abort, alloc: Global, objects: &mut Objects, id: i32, raised: 
     ensures { CountsUpTo (raised + 1) objects.new }
 {
     let mut out = open_body(rt, alloc);
-    assert!(rt; out.push_piece(b"old"));
+    assert_is(rt, out.push_piece(b"old"), true);
     match turn(objects, taking(id), raised) {
         ObjectReply::Slot(SlotReply::Taken(Ok(taken))) => {
             let (delivery, chain) = taken.finish(9, &mut out);
@@ -339,21 +339,29 @@ fn counts(objects: &Objects, id: i32) -> (u64, u64) {
     (objects.arrived(id), objects.freed(id))
 }
 
+fn key_of(told: Result<Stat, Errno>) -> Result<i32, Errno> {
+    told.map(|stat| stat.key)
+}
+
+fn id_of(row: Option<Row>) -> Option<i32> {
+    row.map(|row| row.id)
+}
+
 #[test]
 fn two_queues_lie_in_two_slots(rt: HostRuntime) {
     let mut objects = objects_at(&rt, rt.alloc(), 0);
-    assert!(rt; objects.is_unused(0));
+    assert_is(&rt, objects.is_unused(0), true);
     make(&rt, &mut objects, 7, 0, 0);
     make(&rt, &mut objects, 8, 1, 3);
-    assert!(rt; !objects.is_unused(0));
+    assert_is(&rt, objects.is_unused(0), false);
     assert_is(&rt, objects.settled(), 2);
     assert_is(&rt, probe(&mut objects, 1, 6), Probe::Granted);
     assert_is(&rt, probe(&mut objects, 257, 7), Probe::Gone);
-    assert!(rt; !install(&mut objects, 256, 9, 8));
-    assert_is(&rt, stat(&mut objects, 0, 9).map(|stat| stat.key), Ok(7));
-    assert_is(&rt, stat(&mut objects, 1, 10).map(|stat| stat.key), Ok(8));
+    assert_is(&rt, install(&mut objects, 256, 9, 8), false);
+    assert_is(&rt, key_of(stat(&mut objects, 0, 9)), Ok(7));
+    assert_is(&rt, key_of(stat(&mut objects, 1, 10)), Ok(8));
     assert_is(&rt, stat(&mut objects, 2, 11), Err(Errno::EINVAL));
-    assert_is(&rt, row(&mut objects, 1, 12).map(|row| row.id), Some(1));
+    assert_is(&rt, id_of(row(&mut objects, 1, 12)), Some(1));
     assert_is(&rt, row(&mut objects, 2, 13), None);
     end(&rt, objects, Chain::empty(), 14);
 }
@@ -390,8 +398,8 @@ fn a_queue_is_changed_removed_and_forgotten(rt: HostRuntime) {
     let Ok(chain) = remove(&mut objects, 2_147_483_392, 5) else {
         panic!(rt; "no removal");
     };
-    assert!(rt; forget(&mut objects, 2_147_483_392, 6));
-    assert!(rt; !forget(&mut objects, 2_147_483_392, 7));
+    assert_is(&rt, forget(&mut objects, 2_147_483_392, 6), true);
+    assert_is(&rt, forget(&mut objects, 2_147_483_392, 7), false);
     assert_is(&rt, objects.settled(), 2);
     end(&rt, objects, chain, 8);
 }

@@ -56,30 +56,49 @@ fn getting(flags: Flags) -> Getting {
 /// type.
 #[derive(Clone, Copy, PartialEq, Eq, Debug)]
 enum Shown {
-    Begin(Getting),
-    Install { get: Getting, id: i32 },
-    Settle { id: i32 },
-    Probe { get: Getting, id: i32, settled: u64 },
-    Unmake { id: i32 },
-    Look(Sending),
-    Reserve(Sending),
-    Place { send: Sending, blocks: u32 },
-    SendGiveback { blocks: u32, afterwards: Afterwards },
-    Take(Receiving),
-    ReceiveGiveback { blocks: u32, mtype: i64 },
-    Stat { cred: Cred, id: i32 },
-    Set { cred: Cred, id: i32, to: SetTo },
-    SetGiveback,
-    Remove { cred: Cred, id: i32 },
-    Forget { id: i32, blocks: u32 },
-    RemoveGiveback { blocks: u32 },
+    Get(GetStep),
+    Send(ShownSend),
+    Receive(ShownReceive),
+    Stat(StatStep),
+    Set(SetStep),
+    Remove(ShownRemoval),
     WaitsToGet(GetWait),
     WaitsToSend(SendWait),
     WaitsToReceive(ReceiveWait),
+    Over(Told),
+}
+
+/// A step of a send.
+#[derive(Clone, Copy, PartialEq, Eq, Debug)]
+enum ShownSend {
+    Look(Sending),
+    Reserve(Sending),
+    Place { send: Sending, blocks: u32 },
+    Giveback { blocks: u32, afterwards: Afterwards },
+}
+
+/// A step of a receive.
+#[derive(Clone, Copy, PartialEq, Eq, Debug)]
+enum ShownReceive {
+    Take(Receiving),
+    Giveback { blocks: u32, mtype: i64 },
+}
+
+/// A step of a removal.
+#[derive(Clone, Copy, PartialEq, Eq, Debug)]
+enum ShownRemoval {
+    Remove { cred: Cred, id: i32 },
+    Forget { id: i32, blocks: u32 },
+    Giveback { blocks: u32 },
+}
+
+/// The end of a call.
+#[derive(Clone, Copy, PartialEq, Eq, Debug)]
+enum Told {
     Id(i32),
     Zero,
     Got { mtype: i64 },
-    Told(Stat),
+    Stat(Stat),
     Refused(Errno),
 }
 
@@ -97,13 +116,7 @@ trait Shows {
 
 impl Shows for GetStep {
     fn shown(self) -> Shown {
-        match self {
-            GetStep::Begin(get) => Shown::Begin(get),
-            GetStep::Install { get, id } => Shown::Install { get, id },
-            GetStep::Settle { id } => Shown::Settle { id },
-            GetStep::Probe { get, id, settled } => Shown::Probe { get, id, settled },
-            GetStep::Unmake { id } => Shown::Unmake { id },
-        }
+        Shown::Get(self)
     }
 }
 
@@ -115,23 +128,23 @@ impl Shows for GetWait {
 
 impl Shows for i32 {
     fn shown(self) -> Shown {
-        Shown::Id(self)
+        Shown::Over(Told::Id(self))
     }
 }
 
 impl Shows for SendStep {
     fn shown(self) -> Shown {
         match self {
-            SendStep::Look(send) => Shown::Look(send),
-            SendStep::Reserve(send) => Shown::Reserve(send),
-            SendStep::Place { send, chain } => Shown::Place {
+            SendStep::Look(send) => Shown::Send(ShownSend::Look(send)),
+            SendStep::Reserve(send) => Shown::Send(ShownSend::Reserve(send)),
+            SendStep::Place { send, chain } => Shown::Send(ShownSend::Place {
                 send,
                 blocks: chain.end(),
-            },
-            SendStep::Giveback { chain, afterwards } => Shown::SendGiveback {
+            }),
+            SendStep::Giveback { chain, afterwards } => Shown::Send(ShownSend::Giveback {
                 blocks: chain.end(),
                 afterwards,
-            },
+            }),
         }
     }
 }
@@ -144,18 +157,18 @@ impl Shows for SendWait {
 
 impl Shows for () {
     fn shown(self) -> Shown {
-        Shown::Zero
+        Shown::Over(Told::Zero)
     }
 }
 
 impl Shows for ReceiveStep {
     fn shown(self) -> Shown {
         match self {
-            ReceiveStep::Take(receive) => Shown::Take(receive),
-            ReceiveStep::Giveback { chain, delivery } => Shown::ReceiveGiveback {
+            ReceiveStep::Take(receive) => Shown::Receive(ShownReceive::Take(receive)),
+            ReceiveStep::Giveback { chain, delivery } => Shown::Receive(ShownReceive::Giveback {
                 blocks: chain.end(),
                 mtype: mtype_of(delivery),
-            },
+            }),
         }
     }
 }
@@ -168,45 +181,41 @@ impl Shows for ReceiveWait {
 
 impl Shows for Delivery {
     fn shown(self) -> Shown {
-        Shown::Got {
+        Shown::Over(Told::Got {
             mtype: mtype_of(self),
-        }
+        })
     }
 }
 
 impl Shows for StatStep {
     fn shown(self) -> Shown {
-        let StatStep { cred, id } = self;
-        Shown::Stat { cred, id }
+        Shown::Stat(self)
     }
 }
 
 impl Shows for Stat {
     fn shown(self) -> Shown {
-        Shown::Told(self)
+        Shown::Over(Told::Stat(self))
     }
 }
 
 impl Shows for SetStep {
     fn shown(self) -> Shown {
-        match self {
-            SetStep::Set { cred, id, to } => Shown::Set { cred, id, to },
-            SetStep::Giveback => Shown::SetGiveback,
-        }
+        Shown::Set(self)
     }
 }
 
 impl Shows for RemoveStep {
     fn shown(self) -> Shown {
         match self {
-            RemoveStep::Remove { cred, id } => Shown::Remove { cred, id },
-            RemoveStep::Forget { id, chain } => Shown::Forget {
+            RemoveStep::Remove { cred, id } => Shown::Remove(ShownRemoval::Remove { cred, id }),
+            RemoveStep::Forget { id, chain } => Shown::Remove(ShownRemoval::Forget {
                 id,
                 blocks: chain.end(),
-            },
-            RemoveStep::Giveback { chain } => Shown::RemoveGiveback {
+            }),
+            RemoveStep::Giveback { chain } => Shown::Remove(ShownRemoval::Giveback {
                 blocks: chain.end(),
-            },
+            }),
         }
     }
 }
@@ -254,7 +263,7 @@ impl<S: Shows, T: Shows> Shows for State<S, NoWait, T> {
 fn show_end<T: Shows>(told: Result<T, Errno>) -> Shown {
     match told {
         Ok(told) => told.shown(),
-        Err(why) => Shown::Refused(why),
+        Err(why) => failed(why),
     }
 }
 
@@ -262,16 +271,26 @@ fn show(state: impl Shows) -> Shown {
     state.shown()
 }
 
-/// Opens a slot with queue 0, which belongs to its caller. Tolerates one refusal of memory.
-fn open_queue(rt: &impl Abort, alloc: Global) -> QueueSlot {
-    let mut slot = match QueueSlot::open(alloc) {
+/// Returns what is shown of a call that failed with this error.
+fn failed(why: Errno) -> Shown {
+    Shown::Over(Told::Refused(why))
+}
+
+/// Opens a vacant slot. Tolerates one refusal of memory.
+fn open_slot(rt: &impl Abort, alloc: Global) -> QueueSlot {
+    match QueueSlot::open(alloc) {
         Ok(slot) => slot,
         Err(NoMemory) => match QueueSlot::open(alloc) {
             Ok(slot) => slot,
             Err(NoMemory) => panic!(rt; "a second try"),
         },
-    };
-    assert!(rt; slot.install(0, 7, USER, 0o600, 0));
+    }
+}
+
+/// Opens a slot with queue 0, which belongs to its caller.
+fn open_queue(rt: &impl Abort, alloc: Global) -> QueueSlot {
+    let mut slot = open_slot(rt, alloc);
+    assert_is(rt, slot.install(0, 7, USER, 0o600, 0), true);
     slot
 }
 
@@ -295,7 +314,7 @@ fn send_text(rt: &impl Abort, slot: &mut QueueSlot, pool: &mut Pool, alloc: Glob
     let (arrived, _) = slot.counts();
     assert!(rt; arrived < 100);
     match slot.place(0, USER, 2, chain, 130, 0) {
-        Ok(number) => assert_eq!(rt; number, arrived),
+        Ok(number) => assert_is(rt, number, arrived),
         Err(PlaceRefused { why, chain }) => {
             panic!(rt; "{} blocks came back: {why:?}", chain.end())
         }
@@ -356,12 +375,12 @@ fn a_get_begins(rt: HostRuntime) {
     assert_is(
         &rt,
         show(Getting::begin(USER, 7, Flags::IPC_CREAT)),
-        Shown::Begin(get),
+        Shown::Get(GetStep::Begin(get)),
     );
     assert_is(
         &rt,
         begun(Begun::Made { id: 259 }),
-        Shown::Install { get, id: 259 },
+        Shown::Get(GetStep::Install { get, id: 259 }),
     );
     assert_is(
         &rt,
@@ -369,11 +388,11 @@ fn a_get_begins(rt: HostRuntime) {
             id: 259,
             settled: 5,
         }),
-        Shown::Probe {
+        Shown::Get(GetStep::Probe {
             get,
             id: 259,
             settled: 5,
-        },
+        }),
     );
     let wait = GetWait { above: 5, get };
     assert_is(
@@ -384,7 +403,7 @@ fn a_get_begins(rt: HostRuntime) {
     assert_is(
         &rt,
         begun(Begun::Refused(Errno::ENOSPC)),
-        Shown::Refused(Errno::ENOSPC),
+        failed(Errno::ENOSPC),
     );
 }
 
@@ -393,15 +412,15 @@ fn a_get_makes_a_queue(rt: HostRuntime) {
     assert_is(
         &rt,
         show(Getting::installed(259, true)),
-        Shown::Settle { id: 259 },
+        Shown::Get(GetStep::Settle { id: 259 }),
     );
-    assert_is(&rt, show(Getting::settled(259)), Shown::Id(259));
+    assert_is(&rt, show(Getting::settled(259)), Shown::Over(Told::Id(259)));
     assert_is(
         &rt,
         show(Getting::installed(259, false)),
-        Shown::Unmake { id: 259 },
+        Shown::Get(GetStep::Unmake { id: 259 }),
     );
-    assert_is(&rt, show(Getting::unmade()), Shown::Refused(Errno::ENOSPC));
+    assert_is(&rt, show(Getting::unmade()), failed(Errno::ENOSPC));
 }
 
 #[test]
@@ -410,19 +429,19 @@ fn a_get_probes_what_it_found(rt: HostRuntime) {
     let wait = GetWait { above: 5, get };
     let probed = |found| show(get.probed(259, 5, found));
     assert_is(&rt, probed(Probe::Gone), Shown::WaitsToGet(wait));
-    assert_is(&rt, probed(Probe::Denied), Shown::Refused(Errno::EACCES));
-    assert_is(&rt, probed(Probe::Granted), Shown::Id(259));
+    assert_is(&rt, probed(Probe::Denied), failed(Errno::EACCES));
+    assert_is(&rt, probed(Probe::Granted), Shown::Over(Told::Id(259)));
     let get = getting(Flags::IPC_CREAT | Flags::IPC_EXCL);
     let wait = GetWait { above: 5, get };
     let probed = |found| show(get.probed(259, 5, found));
     assert_is(&rt, probed(Probe::Gone), Shown::WaitsToGet(wait));
-    assert_is(&rt, probed(Probe::Denied), Shown::Refused(Errno::EEXIST));
-    assert_is(&rt, probed(Probe::Granted), Shown::Refused(Errno::EEXIST));
+    assert_is(&rt, probed(Probe::Denied), failed(Errno::EEXIST));
+    assert_is(&rt, probed(Probe::Granted), failed(Errno::EEXIST));
     let old = getting(Flags::IPC_EXCL);
     assert_is(
         &rt,
         show(old.probed(259, 5, Probe::Granted)),
-        Shown::Id(259),
+        Shown::Over(Told::Id(259)),
     );
 }
 
@@ -446,21 +465,21 @@ fn the_attributes_are_told(rt: HostRuntime) {
         rtime: 11,
         ctime: 12,
     };
-    let read = Shown::Stat {
+    let read = Shown::Stat(StatStep {
         cred: USER,
         id: 259,
-    };
+    });
     assert_is(&rt, show(StatStep::begin(USER, 259)), read);
+    assert_is(&rt, show(StatStep::begin(USER, -1)), failed(Errno::EINVAL));
     assert_is(
         &rt,
-        show(StatStep::begin(USER, -1)),
-        Shown::Refused(Errno::EINVAL),
+        show(StatStep::told(Ok(stat))),
+        Shown::Over(Told::Stat(stat)),
     );
-    assert_is(&rt, show(StatStep::told(Ok(stat))), Shown::Told(stat));
     assert_is(
         &rt,
         show(StatStep::told(Err(Errno::EACCES))),
-        Shown::Refused(Errno::EACCES),
+        failed(Errno::EACCES),
     );
 }
 
@@ -472,28 +491,32 @@ fn a_queue_is_changed(rt: HostRuntime) {
         mode: 0o640,
         qbytes: 4096,
     };
-    let set = Shown::Set {
+    let set = Shown::Set(SetStep::Set {
         cred: USER,
         id: 259,
         to,
-    };
+    });
     assert_is(&rt, show(SetStep::begin(USER, 259, to)), set);
     assert_is(
         &rt,
         show(SetStep::begin(USER, -1, to)),
-        Shown::Refused(Errno::EINVAL),
+        failed(Errno::EINVAL),
     );
-    assert_is(&rt, show(SetStep::done(Ok(()))), Shown::SetGiveback);
+    assert_is(
+        &rt,
+        show(SetStep::done(Ok(()))),
+        Shown::Set(SetStep::Giveback),
+    );
     assert_is(
         &rt,
         show(SetStep::done(Err(Errno::EPERM))),
-        Shown::Refused(Errno::EPERM),
+        failed(Errno::EPERM),
     );
     let mut pool = open_pool(&rt, rt.alloc(), 128);
     assert_is(
         &rt,
         release(&rt, &mut pool, (Chain::empty(), SetStep::given_back())),
-        Shown::Zero,
+        Shown::Over(Told::Zero),
     );
     assert_is(&rt, pool.free(), 128);
     pool.end();
@@ -501,20 +524,20 @@ fn a_queue_is_changed(rt: HostRuntime) {
 
 #[test]
 fn a_removal_begins(rt: HostRuntime) {
-    let remove = Shown::Remove {
+    let remove = Shown::Remove(ShownRemoval::Remove {
         cred: USER,
         id: 259,
-    };
+    });
     assert_is(&rt, show(RemoveStep::begin(USER, 259)), remove);
     assert_is(
         &rt,
         show(RemoveStep::begin(USER, -1)),
-        Shown::Refused(Errno::EINVAL),
+        failed(Errno::EINVAL),
     );
     assert_is(
         &rt,
         show(RemoveStep::removed(259, Err(Errno::EPERM))),
-        Shown::Refused(Errno::EPERM),
+        failed(Errno::EPERM),
     );
 }
 
@@ -540,7 +563,7 @@ fn a_removal_gives_back_what_it_discarded(rt: HostRuntime) {
             &mut pool,
             remove_giveback(&rt, RemoveStep::forgotten(chain)),
         ),
-        Shown::Zero,
+        Shown::Over(Told::Zero),
     );
     assert_is(&rt, pool.free(), 128);
     pool.end();
@@ -548,7 +571,7 @@ fn a_removal_gives_back_what_it_discarded(rt: HostRuntime) {
     assert_is(
         &rt,
         show(RemoveStep::forgotten(Chain::empty())),
-        Shown::RemoveGiveback { blocks: 0 },
+        Shown::Remove(ShownRemoval::Giveback { blocks: 0 }),
     );
 }
 
@@ -556,15 +579,27 @@ fn a_removal_gives_back_what_it_discarded(rt: HostRuntime) {
 fn a_wait_ends_above_its_value(rt: HostRuntime) {
     let get = getting(Flags::IPC_CREAT);
     let settled = GetWait { above: 5, get };
-    assert!(rt; !settled.is_over(5) && settled.is_over(6));
-    assert!(rt; !settled.is_over(0) && settled.is_over(u64::MAX));
-    assert_is(&rt, settled.resume().shown(), Shown::Begin(get));
+    assert_is(&rt, (settled.is_over(5), settled.is_over(6)), (false, true));
+    assert_is(
+        &rt,
+        (settled.is_over(0), settled.is_over(u64::MAX)),
+        (false, true),
+    );
+    assert_is(
+        &rt,
+        settled.resume().shown(),
+        Shown::Get(GetStep::Begin(get)),
+    );
     let arrived = ReceiveWait {
         above: 0,
         receive: receiving(true),
     };
-    assert!(rt; !arrived.is_over(0) && arrived.is_over(1));
-    assert_is(&rt, arrived.resume().shown(), Shown::Take(receiving(true)));
+    assert_is(&rt, (arrived.is_over(0), arrived.is_over(1)), (false, true));
+    assert_is(
+        &rt,
+        arrived.resume().shown(),
+        Shown::Receive(ShownReceive::Take(receiving(true))),
+    );
 }
 
 #[test]
@@ -573,18 +608,30 @@ fn the_released_count_is_read_by_its_own_wait_alone(rt: HostRuntime) {
         above: u64::MAX,
         send: sending(true),
     };
-    assert!(rt; !freed.is_over(u64::MAX));
-    assert_is(&rt, freed.resume(9).shown(), Shown::Look(sending(true)));
+    assert_is(&rt, freed.is_over(u64::MAX), false);
+    assert_is(
+        &rt,
+        freed.resume(9).shown(),
+        Shown::Send(ShownSend::Look(sending(true))),
+    );
     let released = SendWait::Blocks {
         above: 7,
         send: sending(true),
     };
-    assert!(rt; !released.is_over(7) && released.is_over(8));
+    assert_is(
+        &rt,
+        (released.is_over(7), released.is_over(8)),
+        (false, true),
+    );
     let later = Sending {
         released: 9,
         ..sending(true)
     };
-    assert_is(&rt, released.resume(9).shown(), Shown::Look(later));
+    assert_is(
+        &rt,
+        released.resume(9).shown(),
+        Shown::Send(ShownSend::Look(later)),
+    );
 }
 
 #[test]
@@ -629,14 +676,14 @@ fn a_send_waits_for_blocks(rt: HostRuntime) {
     assert_is(
         &rt,
         show(sending(true).reserved(None)),
-        Shown::Refused(Errno::EAGAIN),
+        failed(Errno::EAGAIN),
     );
     let mut pool = open_pool(&rt, rt.alloc(), 128);
     let chain = three_blocks(&rt, &mut pool);
-    let place = Shown::Place {
+    let place = Shown::Send(ShownSend::Place {
         send: waiting,
         blocks: 3,
-    };
+    });
     assert_is(&rt, show(waiting.reserved(Some(chain))), place);
     pool.end();
 }
@@ -658,31 +705,35 @@ fn a_receive_waits_for_a_message(rt: HostRuntime) {
         Shown::WaitsToReceive(wait),
     );
     let gone = waiting(true).untaken(TakeRefused::Gone);
-    assert_is(&rt, show(gone), Shown::Refused(Errno::EIDRM));
+    assert_is(&rt, show(gone), failed(Errno::EIDRM));
 }
 
 #[test]
 fn a_send_begins(rt: HostRuntime) {
     let begin = |id, mtype, size| show(Sending::begin(USER, id, mtype, Flags::IPC_NOWAIT, size, 7));
-    assert_is(&rt, begin(0, 5, 8192), Shown::Look(sending(false)));
-    assert_is(&rt, begin(0, 0, 1), Shown::Refused(Errno::EINVAL));
-    assert_is(&rt, begin(0, 5, 8193), Shown::Refused(Errno::EINVAL));
-    assert_is(&rt, begin(-1, 5, 1), Shown::Refused(Errno::EINVAL));
+    assert_is(
+        &rt,
+        begin(0, 5, 8192),
+        Shown::Send(ShownSend::Look(sending(false))),
+    );
+    assert_is(&rt, begin(0, 0, 1), failed(Errno::EINVAL));
+    assert_is(&rt, begin(0, 5, 8193), failed(Errno::EINVAL));
+    assert_is(&rt, begin(-1, 5, 1), failed(Errno::EINVAL));
 }
 
 #[test]
 fn a_send_looks(rt: HostRuntime) {
     let looked = |found| show(sending(false).looked(found));
-    assert_is(&rt, looked(Look::Fits), Shown::Reserve(sending(true)));
-    assert_is(&rt, looked(Look::Gone), Shown::Refused(Errno::EINVAL));
-    assert_is(&rt, looked(Look::Denied), Shown::Refused(Errno::EACCES));
     assert_is(
         &rt,
-        looked(Look::Full { freed: 3 }),
-        Shown::Refused(Errno::EAGAIN),
+        looked(Look::Fits),
+        Shown::Send(ShownSend::Reserve(sending(true))),
     );
+    assert_is(&rt, looked(Look::Gone), failed(Errno::EINVAL));
+    assert_is(&rt, looked(Look::Denied), failed(Errno::EACCES));
+    assert_is(&rt, looked(Look::Full { freed: 3 }), failed(Errno::EAGAIN));
     let again = sending(true).looked(Look::Gone);
-    assert_is(&rt, show(again), Shown::Refused(Errno::EIDRM));
+    assert_is(&rt, show(again), failed(Errno::EIDRM));
 }
 
 #[test]
@@ -700,18 +751,18 @@ fn a_send_is_refused_at_its_place(rt: HostRuntime) {
         assert_is(
             &rt,
             release(&rt, &mut pool, send_giveback(&rt, refused)),
-            Shown::Refused(errno),
+            failed(errno),
         );
         assert_is(&rt, pool.free(), 128);
     }
     pool.end();
-    let giveback = Shown::SendGiveback {
+    let giveback = Shown::Send(ShownSend::Giveback {
         blocks: 0,
         afterwards: Afterwards::Refused(Errno::EIDRM),
-    };
+    });
     let refused = sending(true).unplaced(Unplaced::Gone, Chain::empty());
     assert_is(&rt, show(refused), giveback);
-    assert_is(&rt, show(Sending::placed()), Shown::Zero);
+    assert_is(&rt, show(Sending::placed()), Shown::Over(Told::Zero));
 }
 
 #[test]
@@ -720,21 +771,21 @@ fn a_receive_begins(rt: HostRuntime) {
     assert_is(
         &rt,
         begin(0, Flags::IPC_NOWAIT),
-        Shown::Take(receiving(false)),
+        Shown::Receive(ShownReceive::Take(receiving(false))),
     );
+    assert_is(&rt, begin(-1, Flags::IPC_NOWAIT), failed(Errno::EINVAL));
+    let except = Flags::IPC_NOWAIT.union(Flags::MSG_EXCEPT);
     assert_is(
         &rt,
-        begin(-1, Flags::IPC_NOWAIT),
-        Shown::Refused(Errno::EINVAL),
+        begin(0, except),
+        Shown::Receive(ShownReceive::Take(receiving(false))),
     );
-    let except = Flags::IPC_NOWAIT.union(Flags::MSG_EXCEPT);
-    assert_is(&rt, begin(0, except), Shown::Take(receiving(false)));
     let another = Receiving {
         selector: Selector::Except(5),
         ..receiving(false)
     };
     let begun = show(Receiving::begin(USER, 0, 9, 5, except));
-    assert_is(&rt, begun, Shown::Take(another));
+    assert_is(&rt, begun, Shown::Receive(ShownReceive::Take(another)));
 }
 
 #[test]
@@ -756,7 +807,7 @@ fn a_receive_gives_back_what_it_took(rt: HostRuntime) {
     assert_is(
         &rt,
         release(&rt, &mut pool, receive_giveback(&rt, given)),
-        Shown::Got { mtype: 2 },
+        Shown::Over(Told::Got { mtype: 2 }),
     );
     assert_is(&rt, pool.free(), 128);
     assert_is(&rt, out.len(), 9);
@@ -770,26 +821,22 @@ fn a_receive_is_given_no_message(rt: HostRuntime) {
     assert_is(
         &rt,
         untaken(false, TakeRefused::Gone),
-        Shown::Refused(Errno::EINVAL),
+        failed(Errno::EINVAL),
     );
-    assert_is(
-        &rt,
-        untaken(true, TakeRefused::Gone),
-        Shown::Refused(Errno::EIDRM),
-    );
+    assert_is(&rt, untaken(true, TakeRefused::Gone), failed(Errno::EIDRM));
     assert_is(
         &rt,
         untaken(false, TakeRefused::Denied),
-        Shown::Refused(Errno::EACCES),
+        failed(Errno::EACCES),
     );
     assert_is(
         &rt,
         untaken(false, TakeRefused::NoMatch { arrived: 1 }),
-        Shown::Refused(Errno::ENOMSG),
+        failed(Errno::ENOMSG),
     );
     assert_is(
         &rt,
         untaken(false, TakeRefused::TooLong),
-        Shown::Refused(Errno::E2BIG),
+        failed(Errno::E2BIG),
     );
 }

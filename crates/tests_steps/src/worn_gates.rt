@@ -5,10 +5,11 @@ use crate::steps::{RECEIVE, SEND, Still, TO};
 use std::process::Abort;
 use sysv_model::{Errno, Flags};
 use sysv_objects::{ObjectCall, ObjectReply, Turns};
-use sysv_pool::Chain;
+use sysv_pool::{Chain, Pool};
 use sysv_steps::{
-    Afterwards, GetStep, Getting, ReceiveStep, RemoveState, RemoveStep, SendStep, SetStep,
-    StatStep, State, get_step, receive_step, remove_step, send_step, set_step, stat_step,
+    Afterwards, GetStep, Getting, ReceiveState, ReceiveStep, RemoveState, RemoveStep, SendState,
+    SendStep, SetStep, StatStep, State, get_step, receive_step, remove_step, send_step, set_step,
+    stat_step,
 };
 use tests_kit::USER;
 
@@ -35,6 +36,14 @@ impl Turns for WornGates {
     fn make(&self, at: &mut u32, call: ObjectCall) -> Result<ObjectReply, ObjectCall> {
         *at = at.wrapping_add(1);
         Err(call)
+    }
+}
+
+/// Reserves the chain of a body of 65 bytes, which takes two blocks.
+fn two_blocks(rt: &impl Abort, pool: &mut Pool) -> Chain {
+    match pool.reserve(65) {
+        Some(chain) => chain,
+        None => panic!(rt; "too few blocks"),
     }
 }
 
@@ -93,13 +102,9 @@ fn sends_at_worn_gates(rt: HostRuntime) {
         send: SEND,
         chain: Chain::empty(),
     };
-    match send_step(&WornGates, &mut back, &mut kept, &Still, &text, place) {
-        State::Goes(giveback) => assert_gives_nothing_back(&rt, giveback),
-        _other => panic!(rt; "no chain goes back"),
-    }
-    let Some(chain) = pool.reserve(65) else {
-        panic!(rt; "no blocks")
-    };
+    let placed = send_step(&WornGates, &mut back, &mut kept, &Still, &text, place);
+    assert_gives_nothing_back(&rt, placed);
+    let chain = two_blocks(&rt, &mut pool);
     let giveback = SendStep::Giveback {
         chain,
         afterwards: Afterwards::Refused(Errno::EAGAIN),
@@ -111,13 +116,22 @@ fn sends_at_worn_gates(rt: HostRuntime) {
 }
 
 /// Asserts that a send gives back a chain of no blocks, and then fails with EOVERFLOW.
-fn assert_gives_nothing_back(rt: &impl Abort, step: SendStep) {
-    match step {
-        SendStep::Giveback { chain, afterwards } => {
-            assert!(rt; afterwards == Afterwards::Refused(Errno::EOVERFLOW));
+fn assert_gives_nothing_back(rt: &impl Abort, state: SendState) {
+    match state {
+        State::Goes(SendStep::Giveback { chain, afterwards }) => {
+            assert_is(rt, afterwards, Afterwards::Refused(Errno::EOVERFLOW));
             assert_is(rt, chain.end(), 0);
         }
         _other => panic!(rt; "another step"),
+    }
+}
+
+/// Asserts that a receive is over, with EOVERFLOW.
+fn assert_untaken(rt: &impl Abort, state: ReceiveState) {
+    match state {
+        State::Over(Err(why)) => assert_is(rt, why, Errno::EOVERFLOW),
+        State::Over(Ok(delivery)) => panic!(rt; "a message of type {}", delivery.mtype()),
+        _other => panic!(rt; "the receive goes on"),
     }
 }
 
@@ -128,13 +142,7 @@ fn receives_at_worn_gates(rt: HostRuntime) {
     let mut out = open_body(&rt, rt.alloc());
     let take = ReceiveStep::Take(RECEIVE);
     let taken = receive_step(&WornGates, &mut back, &mut kept, &Still, &mut out, take);
-    let State::Over(told) = taken else {
-        panic!(rt; "the receive goes on");
-    };
-    match told {
-        Ok(delivery) => panic!(rt; "a message of type {}", delivery.mtype()),
-        Err(why) => assert_is(&rt, why, Errno::EOVERFLOW),
-    }
+    assert_untaken(&rt, taken);
     assert_is(&rt, (back, kept.end()), (1, 0));
 }
 
@@ -156,9 +164,7 @@ fn commands_at_worn_gates(rt: HostRuntime) {
     assert_over(&rt, removed, worn);
     // The result of a removal stays, even if a gate is worn out after it.
     let mut pool = open_pool(&rt, rt.alloc(), 128);
-    let Some(chain) = pool.reserve(65) else {
-        panic!(rt; "no blocks")
-    };
+    let chain = two_blocks(&rt, &mut pool);
     let forget = RemoveStep::Forget { id, chain };
     match remove_step(&WornGates, &mut back, &mut kept, forget) {
         State::Goes(giveback) => {

@@ -1,6 +1,6 @@
 //! Keys, control, waiting and blocks, as POSIX.1-2017 defines them in msgget and msgctl, and by the
 //! steps of this project's profile.
-use super::language::run;
+use super::language::{assert_runs, run};
 use crate::parts::assert_is;
 use std::io::Write;
 use std::test::Fail;
@@ -395,9 +395,7 @@ go 2
 #[test]
 fn makes_changes_and_removes_queues(rt: HostRuntime) {
     for (script, answers) in RUNS.iter() {
-        let ending = run(rt.alloc(), script);
-        assert_eq!(rt; ending.end, Ok(()), "{script:?}");
-        assert!(rt; ending.written.as_slice() == *answers, "{script:?}");
+        assert_runs(&rt, script, Ok(()), answers);
     }
 }
 

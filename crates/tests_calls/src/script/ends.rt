@@ -45,7 +45,10 @@ impl Read for Asker<'_> {
             }
             ends.get() == self.at_once
         });
-        let count = end.map_or(self.rest.len(), |end| end.saturating_add(1));
+        let count = match end {
+            Some(end) => end.saturating_add(1),
+            None => self.rest.len(),
+        };
         let count = count.min(buf.len()).min(self.rest.len());
         let (front, rest) = self.rest.split_at(count);
         buf[..count].copy_from_slice(front);

@@ -46,14 +46,18 @@ fn is_front(part: &[u8], whole: &[u8]) -> bool {
     whole.starts_with(part)
 }
 
+fn lines_in(bytes: &[u8]) -> usize {
+    bytes.iter().filter(|byte| **byte == b'\n').count()
+}
+
 #[test]
 fn takes_any_pieces(rt: HostRuntime) -> Result<(), Fail> {
     for piece in [1usize, 2, 3, 7, 20, 9000, 9001, 100_000] {
         let mut reader = Pieces::new(SCRIPT, piece);
         let mut writer = Page::taking(piece, 512, false);
         let end = run(&rt, rt.alloc(), &mut reader, &mut writer);
-        assert_eq!(rt; end, Ok(()), "{piece}");
-        assert!(rt; writer.written() == ANSWERS, "{piece}");
+        assert_is(&rt, (piece, end), (piece, Ok(())));
+        assert_is(&rt, (piece, writer.written()), (piece, ANSWERS));
     }
     Ok(())
 }
@@ -65,15 +69,15 @@ fn says_that_the_reader_failed(rt: HostRuntime) -> Result<(), Fail> {
         reader.good = good;
         let mut writer = Page::taking(512, 512, false);
         let end = run(&rt, rt.alloc(), &mut reader, &mut writer);
-        assert_eq!(rt; end, Err(ScriptFault::Read), "{good}");
-        let lines = SCRIPT[..good].iter().filter(|byte| **byte == b'\n').count();
-        let answers = writer
-            .written()
-            .iter()
-            .filter(|byte| **byte == b'\n')
-            .count();
-        assert_eq!(rt; answers, lines.saturating_sub(1), "{good}");
-        assert!(rt; is_front(writer.written(), ANSWERS), "{good}");
+        assert_is(&rt, (good, end), (good, Err(ScriptFault::Read)));
+        let lines = lines_in(&SCRIPT[..good]);
+        let answers = lines_in(writer.written());
+        assert_is(&rt, (good, answers), (good, lines.saturating_sub(1)));
+        assert_is(
+            &rt,
+            (good, is_front(writer.written(), ANSWERS)),
+            (good, true),
+        );
     }
     Ok(())
 }
@@ -86,9 +90,13 @@ fn says_that_the_writer_failed(rt: HostRuntime) -> Result<(), Fail> {
                 let mut reader = SCRIPT;
                 let mut writer = Page::taking(piece, room, stalls);
                 let end = run(&rt, rt.alloc(), &mut reader, &mut writer);
-                assert_eq!(rt; end, Err(ScriptFault::Write), "{room}");
+                assert_is(&rt, (room, end), (room, Err(ScriptFault::Write)));
                 assert_is(&rt, writer.written().len(), room);
-                assert!(rt; is_front(writer.written(), ANSWERS), "{room}");
+                assert_is(
+                    &rt,
+                    (room, is_front(writer.written(), ANSWERS)),
+                    (room, true),
+                );
             }
         }
     }
@@ -114,7 +122,7 @@ fn holds_a_conversation(rt: HostRuntime) -> Result<(), Fail> {
         let mut writer = Counter { answers: &answers };
         let end = run(&rt, rt.alloc(), &mut reader, &mut writer);
         assert_is(&rt, end, Ok(()));
-        assert_eq!(rt; reader.missing, 0, "{at_once}");
+        assert_is(&rt, (at_once, reader.missing), (at_once, 0));
         assert_is(&rt, reader.lines, 7);
         assert_is(&rt, answers.get(), 6);
     }

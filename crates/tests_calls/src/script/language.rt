@@ -25,15 +25,16 @@ pub(super) fn run(alloc: Global, script: &[u8]) -> Ending {
 }
 
 /// Asserts that a script ends this way, with this output.
-fn assert_runs(
+pub(super) fn assert_runs(
     rt: &(impl Abort + AllocGlobal),
     script: &[u8],
     end: Result<(), ScriptFault>,
     written: &[u8],
 ) {
     let ending = run(rt.alloc(), script);
-    assert_eq!(rt; ending.end, end, "{script:?}");
-    assert!(rt; ending.written.as_slice() == written, "{script:?}");
+    assert_is(rt, (script, ending.end), (script, end));
+    let is_written = ending.written.as_slice() == written;
+    assert_is(rt, (script, is_written), (script, true));
 }
 
 /// Returns a script of `preset` and this line.
@@ -47,7 +48,8 @@ fn after_preset(alloc: Global, line: &[u8]) -> Result<Vec<u8>, Fail> {
 
 /// Returns a line that ends in this number of letters.
 fn lettered(alloc: Global, start: &[u8], letters: usize) -> Result<Vec<u8>, Fail> {
-    let mut line = Vec::from_slice(alloc, start)?;
+    let mut line = Vec::new(alloc);
+    line.extend_from_slice(start)?;
     for _ in 0..letters {
         line.push(b'a')?;
     }
@@ -158,18 +160,31 @@ const BAD: [&[u8]; 101] = [
     b"1 snd 0 1 0-64 =a",
 ];
 
+/// Asserts that this line behind `preset` is bad.
+fn assert_bad(rt: &(impl Abort + AllocGlobal), line: &[u8]) -> Result<(), Fail> {
+    let script = after_preset(rt.alloc(), line)?;
+    let end = Err(ScriptFault::Line(2));
+    assert_runs(rt, script.as_slice(), end, b"line 2: bad\n");
+    Ok(())
+}
+
+/// Asserts that a line of this start and this number of letters is bad.
+fn assert_bad_letters(
+    rt: &(impl Abort + AllocGlobal),
+    start: &[u8],
+    letters: usize,
+) -> Result<(), Fail> {
+    let line = lettered(rt.alloc(), start, letters)?;
+    assert_bad(rt, line.as_slice())
+}
+
 #[test]
 fn names_bad_lines(rt: HostRuntime) -> Result<(), Fail> {
-    let bad = b"line 2: bad\n".as_slice();
     for line in BAD.iter() {
-        let script = after_preset(rt.alloc(), line)?;
-        assert_runs(&rt, script.as_slice(), Err(ScriptFault::Line(2)), bad);
+        assert_bad(&rt, line)?;
     }
-    for (start, letters) in [(b"1 snd 0 1 NOWAIT =".as_slice(), 8257), (b"#", 9000)] {
-        let line = lettered(rt.alloc(), start, letters)?;
-        let script = after_preset(rt.alloc(), line.as_slice())?;
-        assert_runs(&rt, script.as_slice(), Err(ScriptFault::Line(2)), bad);
-    }
+    assert_bad_letters(&rt, b"1 snd 0 1 NOWAIT =", 8257)?;
+    assert_bad_letters(&rt, b"#", 9000)?;
     let script = b"# one\n\n1 rcv 0 1 0 -\n#\nx\n1 rcv 0 1 0 -\n";
     let written = b"1 rcv ! EINVAL\nline 5: bad\n";
     assert_runs(&rt, script, Err(ScriptFault::Line(5)), written);
@@ -287,8 +302,9 @@ const FULL_OUT: &[u8] = b"1 snd = 0
 #[test]
 fn keeps_the_limits_of_a_queue(rt: HostRuntime) -> Result<(), Fail> {
     assert_runs(&rt, FULL_IN, Ok(()), FULL_OUT);
-    let mut script = Vec::from_slice(rt.alloc(), b"preset\n")?;
+    let mut script = Vec::new(rt.alloc());
     let mut answers = Vec::new(rt.alloc());
+    script.extend_from_slice(b"preset\n")?;
     for _ in 0..256 {
         script.extend_from_slice(b"1 snd 0 1 NOWAIT =\n")?;
         answers.extend_from_slice(b"1 snd = 0\n")?;
@@ -299,9 +315,16 @@ fn keeps_the_limits_of_a_queue(rt: HostRuntime) -> Result<(), Fail> {
     Ok(())
 }
 
+/// Returns a script of a receive in the millionth line, and these bytes behind it.
+fn long_script(alloc: Global, behind: &[u8]) -> Result<Vec<u8>, Fail> {
+    let mut script = Vec::from_elem(alloc, b'\n', 999_999)?;
+    script.extend_from_slice(b"1 rcv 0 1 0 -")?;
+    script.extend_from_slice(behind)?;
+    Ok(script)
+}
+
 #[test]
 fn ends_behind_the_millionth_line(rt: HostRuntime) -> Result<(), Fail> {
-    let last = b"1 rcv 0 1 0 -".as_slice();
     let ends = [
         (b"".as_slice(), Ok(())),
         (b"\n".as_slice(), Ok(())),
@@ -310,11 +333,9 @@ fn ends_behind_the_millionth_line(rt: HostRuntime) -> Result<(), Fail> {
         (b"\nx\n".as_slice(), Err(ScriptFault::Bound)),
     ];
     for (behind, end) in ends {
-        let mut script = Vec::from_elem(rt.alloc(), b'\n', 999_999)?;
-        script.extend_from_slice(last)?;
-        script.extend_from_slice(behind)?;
+        let script = long_script(rt.alloc(), behind)?;
         let ending = run(rt.alloc(), script.as_slice());
-        assert_eq!(rt; ending.end, end, "{behind:?}");
+        assert_is(&rt, (behind, ending.end), (behind, end));
         assert_is(
             &rt,
             ending.written.as_slice(),
@@ -326,8 +347,9 @@ fn ends_behind_the_millionth_line(rt: HostRuntime) -> Result<(), Fail> {
 
 #[test]
 fn gives_long_texts_back(rt: HostRuntime) -> Result<(), Fail> {
-    let mut script = Vec::from_slice(rt.alloc(), b"preset\n")?;
+    let mut script = Vec::new(rt.alloc());
     let mut answers = Vec::new(rt.alloc());
+    script.extend_from_slice(b"preset\n")?;
     for _ in 0..40 {
         script.extend_from_slice(b"1 snd 0 1 NOWAIT *8192\n2 rcv 0 8192 0 NOWAIT\n")?;
         answers.extend_from_slice(b"1 snd = 0\n2 rcv = 8192 type 1 =")?;

@@ -1,7 +1,7 @@
 //! Which message a receive takes, how much of it is returned, and who may send and receive, as
 //! POSIX.1-2017 defines it in msgsnd, msgrcv and the general description of interprocess
 //! communication.
-use super::language::run;
+use super::language::assert_runs;
 
 /// Scripts with their output. In each script the queue belongs to user and group 1000 and has mode
 /// 0600.
@@ -236,8 +236,6 @@ as 3 0 0 1
 #[test]
 fn selects_and_permits(rt: HostRuntime) {
     for (script, answers) in RUNS.iter() {
-        let ending = run(rt.alloc(), script);
-        assert_eq!(rt; ending.end, Ok(()), "{script:?}");
-        assert!(rt; ending.written.as_slice() == *answers, "{script:?}");
+        assert_runs(&rt, script, Ok(()), answers);
     }
 }

@@ -1,5 +1,5 @@
 //! A script from its first byte to its last answer. Memory may be refused.
-use crate::parts::assert_is;
+use crate::parts::{assert_is, assert_that};
 use sysv_model::Instrumented;
 use sysv_script::{ScriptFault, run_script};
 
@@ -13,12 +13,12 @@ fn runs_a_script(rt: HostRuntime) {
     let mut reader = Instrumented::new(&mut script);
     let mut writer = Instrumented::new(&mut written);
     let ended = run_script(rt.alloc(), &mut reader, &mut writer);
-    assert!(rt; reader.failures() == 0 && writer.failures() == 0);
+    assert_is(&rt, (reader.failures(), writer.failures()), (0, 0));
     match ended {
-        Ok(()) => assert!(rt; written.as_slice() == answers),
+        Ok(()) => assert_is(&rt, written.as_slice(), answers),
         Err(fault) => {
             assert_is(&rt, fault, ScriptFault::NoMemory);
-            assert!(rt; answers.starts_with(written.as_slice()));
+            assert_that(&rt, answers.starts_with(written.as_slice()));
         }
     }
 }

@@ -16,7 +16,7 @@ fn send_to(rt: &impl Abort, alloc: Global, id: i32, mtype: i64, text: &[u8], fla
 fn a_send_is_refused_where_no_block_is_free(rt: HostRuntime) {
     let alloc = rt.alloc();
     let mut world = world_at(&rt, alloc, 0, 0);
-    assert!(rt; world.preset());
+    assert_that(&rt, world.preset());
     let again = Outcome::Refused(Errno::EAGAIN);
     assert_sends(&rt, alloc, &mut world, 1, &[b'x'; 8192]);
     let call = send_to(&rt, alloc, 0, 1, b"x", Flags::IPC_NOWAIT);
@@ -40,7 +40,7 @@ fn a_send_waits_for_the_blocks_of_another_queue(rt: HostRuntime) {
     for _ in 0..4 {
         assert_nothing(&rt, world.step(step(2)));
     }
-    assert!(rt; is_waiting(&world, 2));
+    assert_waits(&rt, &world, 2);
     let call = receive_of(&rt, alloc, 0, 0, Flags::MSG_NOERROR);
     let got = Outcome::Got { mtype: 7, len: 0 };
     assert_makes(&rt, &mut world, 3, call, got);
@@ -51,7 +51,7 @@ fn a_send_waits_for_the_blocks_of_another_queue(rt: HostRuntime) {
     for _ in 0..4 {
         assert_nothing(&rt, world.step(step(2)));
     }
-    assert!(rt; is_waiting(&world, 2));
+    assert_waits(&rt, &world, 2);
     let removed = make(&rt, &mut world, 1, Call::Remove { id: 1 });
     assert_is(&rt, removed, Outcome::Zero);
     let gone = Outcome::Refused(Errno::EIDRM);
@@ -72,16 +72,16 @@ fn a_send_refused_at_its_place_waits_for_room(rt: HostRuntime) {
     assert_makes(&rt, &mut world, 1, Call::Set { id: 0, to }, Outcome::Zero);
     let call = send_to(&rt, alloc, 0, 1, b"a", flags(0));
     assert_nothing(&rt, world.step(start(2, call)));
-    assert!(rt; matches!(sends_at(&world, 2), Some(SendStep::Look(_))));
+    assert_is(&rt, send_step(&world, 2), Some("look"));
     assert_nothing(&rt, world.step(step(2)));
-    assert!(rt; matches!(sends_at(&world, 2), Some(SendStep::Reserve(_))));
+    assert_is(&rt, send_step(&world, 2), Some("reserve"));
     assert_nothing(&rt, world.step(step(2)));
-    assert!(rt; matches!(sends_at(&world, 2), Some(SendStep::Place { .. })));
+    assert_is(&rt, send_step(&world, 2), Some("place"));
     assert_sends_type(&rt, alloc, &mut world, 1, 1, b"b");
     assert_nothing(&rt, world.step(step(2)));
-    assert!(rt; matches!(sends_at(&world, 2), Some(SendStep::Giveback { .. })));
+    assert_is(&rt, send_step(&world, 2), Some("giveback"));
     assert_nothing(&rt, world.step(step(2)));
-    assert!(rt; is_waiting(&world, 2));
+    assert_waits(&rt, &world, 2);
     let got = Outcome::Got { mtype: 1, len: 1 };
     assert_receives(&rt, alloc, &mut world, (3, got, Some(b"b")));
     assert_is(&rt, go(&rt, &mut world, 2), Outcome::Zero);

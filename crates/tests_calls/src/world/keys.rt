@@ -63,9 +63,12 @@ fn stranger(actor: u32, call: Call) -> Event {
 fn a_get_waits_until_the_key_is_settled(rt: HostRuntime) {
     let mut world = world_at(&rt, rt.alloc(), 0, 0);
     assert_nothing(&rt, world.step(start(1, get_or_make(4))));
-    assert!(rt; matches!(gets_at(&world, 1), Some(GetStep::Begin(_))));
+    assert_that(&rt, matches!(gets_at(&world, 1), Some(GetStep::Begin(_))));
     assert_nothing(&rt, world.step(step(1)));
-    assert!(rt; matches!(gets_at(&world, 1), Some(GetStep::Install { .. })));
+    assert_that(
+        &rt,
+        matches!(gets_at(&world, 1), Some(GetStep::Install { .. })),
+    );
     let call = Call::Get {
         key: 4,
         flags: flags(0),
@@ -73,7 +76,7 @@ fn a_get_waits_until_the_key_is_settled(rt: HostRuntime) {
     assert_nothing(&rt, world.step(start(2, call)));
     assert_nothing(&rt, world.step(step(2)));
     assert_nothing(&rt, world.step(step(2)));
-    assert!(rt; is_waiting(&world, 2));
+    assert_waits(&rt, &world, 2);
     assert_is(&rt, go(&rt, &mut world, 1), Outcome::Id(0));
     assert_is(&rt, go(&rt, &mut world, 2), Outcome::Id(0));
     assert_is(&rt, world.end(), 128);
@@ -84,9 +87,15 @@ fn a_get_waits_between_removal_and_forget(rt: HostRuntime) {
     let mut world = world_at(&rt, rt.alloc(), 0, 0);
     assert_makes(&rt, &mut world, 1, get_or_make(4), Outcome::Id(0));
     assert_nothing(&rt, world.step(start(1, Call::Remove { id: 0 })));
-    assert!(rt; matches!(removes_at(&world, 1), Some(RemoveStep::Remove { .. })));
+    assert_that(
+        &rt,
+        matches!(removes_at(&world, 1), Some(RemoveStep::Remove { .. })),
+    );
     assert_nothing(&rt, world.step(step(1)));
-    assert!(rt; matches!(removes_at(&world, 1), Some(RemoveStep::Forget { .. })));
+    assert_that(
+        &rt,
+        matches!(removes_at(&world, 1), Some(RemoveStep::Forget { .. })),
+    );
     let call = Call::Get {
         key: 4,
         flags: flags(512 + 1024 + 0o600),
@@ -95,7 +104,7 @@ fn a_get_waits_between_removal_and_forget(rt: HostRuntime) {
     for _ in 0..4 {
         assert_nothing(&rt, world.step(step(2)));
     }
-    assert!(rt; is_waiting(&world, 2));
+    assert_waits(&rt, &world, 2);
     assert_is(&rt, go(&rt, &mut world, 1), Outcome::Zero);
     assert_is(&rt, go(&rt, &mut world, 2), Outcome::Id(256));
     assert_is(&rt, world.end(), 128);
@@ -122,14 +131,10 @@ fn controls_are_refused_in_their_order(rt: HostRuntime) {
         assert_nothing(&rt, world.step(stranger(2, call)));
         assert_is(&rt, go(&rt, &mut world, 2), owner);
     }
-    let rest = [
-        (Call::Remove { id: 0 }, Outcome::Zero),
-        (Call::Remove { id: 0 }, Outcome::Refused(Errno::EINVAL)),
-        (Call::Stat { id: 0 }, Outcome::Refused(Errno::EINVAL)),
-    ];
-    for (call, outcome) in rest {
-        assert_makes(&rt, &mut world, 1, call, outcome);
-    }
+    let invalid = Outcome::Refused(Errno::EINVAL);
+    assert_makes(&rt, &mut world, 1, Call::Remove { id: 0 }, Outcome::Zero);
+    assert_makes(&rt, &mut world, 1, Call::Remove { id: 0 }, invalid);
+    assert_makes(&rt, &mut world, 1, Call::Stat { id: 0 }, invalid);
     assert_is(&rt, world.end(), 128);
 }
 
@@ -180,20 +185,31 @@ fn a_set_queue_tells_its_attributes(rt: HostRuntime) {
 #[test]
 fn a_preset_is_made_in_an_unused_slot_alone(rt: HostRuntime) {
     let mut world = world_at(&rt, rt.alloc(), 0, 0);
-    assert!(rt; world.preset());
-    assert!(rt; !world.preset());
+    assert_is(&rt, world.preset(), true);
+    assert_is(&rt, world.preset(), false);
     let removed = make(&rt, &mut world, 1, Call::Remove { id: 0 });
     assert_is(&rt, removed, Outcome::Zero);
-    assert!(rt; !world.preset());
+    assert_is(&rt, world.preset(), false);
     assert_makes(&rt, &mut world, 1, private(), Outcome::Id(256));
     assert_is(&rt, world.end(), 128);
     let mut world = world_at(&rt, rt.alloc(), 0, 0);
     assert_makes(&rt, &mut world, 1, private(), Outcome::Id(0));
-    assert!(rt; !world.preset());
+    assert_is(&rt, world.preset(), false);
     let _blocks = world.end();
     let mut world = world_at(&rt, rt.alloc(), 0, 1);
-    assert!(rt; !world.preset());
+    assert_is(&rt, world.preset(), false);
     let _blocks = world.end();
+}
+
+/// Runs a call of actor 1 with three steps, and asserts that this is the one answer.
+fn assert_runs(rt: &impl Abort, alloc: Global, world: &mut World, call: Call, wanted: Outcome) {
+    let mut events = room_for(rt, alloc, 4);
+    push_call(rt, &mut events, start(1, call), 1, 3);
+    let answers = run(rt, alloc, world, events);
+    assert_is(rt, answers.len(), 1);
+    for answer in answers.iter() {
+        assert_answers(rt, answer, (1, wanted, None));
+    }
 }
 
 #[test]
@@ -201,29 +217,10 @@ fn the_last_generation(rt: HostRuntime) {
     let alloc = rt.alloc();
     let mut world = world_at(&rt, alloc, 0, 8_388_607);
     let id = 2_147_483_392;
-    let calls = [
-        (private(), 3, Outcome::Id(id)),
-        (Call::Remove { id }, 3, Outcome::Zero),
-        (private(), 3, Outcome::Id(2_147_483_393)),
-    ];
-    for (call, steps, outcome) in calls {
-        let mut events = match Vec::with_capacity(alloc, 4) {
-            Ok(events) => events,
-            Err(_) => Vec::with_capacity(alloc, 4).expect(&rt, "a second try"),
-        };
-        assert!(rt; events.push(start(1, call)).is_ok());
-        for _ in 0..steps {
-            assert!(rt; events.push(step(1)).is_ok());
-        }
-        let answers = match world.run(alloc, events) {
-            Ok(answers) => answers,
-            Err(back) => match world.run(alloc, back) {
-                Ok(answers) => answers,
-                Err(_) => panic!(rt; "a second try"),
-            },
-        };
-        assert_eq!(rt; answers.len(), 1);
-        assert_answers(&rt, &answers[0], (1, outcome, None));
-    }
+    assert_runs(&rt, alloc, &mut world, private(), Outcome::Id(id));
+    let removal = Call::Remove { id };
+    assert_runs(&rt, alloc, &mut world, removal, Outcome::Zero);
+    let last = Outcome::Id(2_147_483_393);
+    assert_runs(&rt, alloc, &mut world, private(), last);
     assert_is(&rt, world.end(), 128);
 }

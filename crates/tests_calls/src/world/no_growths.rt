@@ -5,10 +5,8 @@ use tests_kit::mark;
 
 /// Reads and changes the queue's attributes.
 fn control(rt: &impl Abort, world: &mut World) {
-    match make(rt, world, 2, Call::Stat { id: 0 }) {
-        Outcome::Stat(stat) => assert_eq!(rt; (stat.key, stat.qnum), (7, 0)),
-        _ => panic!(rt; "no attributes"),
-    }
+    let stat = stat_of(rt, world, 2);
+    assert_is(rt, (stat.key, stat.qnum), (7, 0));
     let to = SetTo {
         uid: 1000,
         gid: 1000,

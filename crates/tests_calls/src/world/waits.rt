@@ -9,7 +9,7 @@ fn receive_waiting(rt: &impl Abort, alloc: Global, world: &mut World, actor: u32
     for _ in 0..3 {
         assert_nothing(rt, world.step(step(actor)));
     }
-    assert!(rt; is_waiting(world, actor));
+    assert_waits(rt, world, actor);
 }
 
 /// Returns a send to queue 0 that waits for room.
@@ -34,7 +34,7 @@ fn one_of_two_receivers_is_given_the_message(rt: HostRuntime) {
     for _ in 0..3 {
         assert_nothing(&rt, world.step(step(3)));
     }
-    assert!(rt; is_waiting(&world, 3));
+    assert_waits(&rt, &world, 3);
     assert_is(&rt, world.end(), 1024);
 }
 
@@ -54,7 +54,7 @@ fn a_removal_ends_all_waits(rt: HostRuntime) {
     assert_nothing(&rt, world.step(start(2, call)));
     assert_nothing(&rt, world.step(step(2)));
     assert_nothing(&rt, world.step(step(2)));
-    assert!(rt; is_waiting(&world, 2));
+    assert_waits(&rt, &world, 2);
     receive_waiting(&rt, alloc, &mut world, 3, 0);
     let removed = make(&rt, &mut world, 1, Call::Remove { id: 0 });
     assert_is(&rt, removed, Outcome::Zero);
@@ -81,7 +81,7 @@ fn a_taken_message_makes_room(rt: HostRuntime) {
     assert_nothing(&rt, world.step(start(2, call)));
     assert_nothing(&rt, world.step(step(2)));
     assert_nothing(&rt, world.step(step(2)));
-    assert!(rt; is_waiting(&world, 2));
+    assert_waits(&rt, &world, 2);
     let call = receive_of(&rt, alloc, 9000, 0, Flags::IPC_NOWAIT);
     let got = Outcome::Got {
         mtype: 7,
@@ -92,20 +92,24 @@ fn a_taken_message_makes_room(rt: HostRuntime) {
     assert_is(&rt, world.end(), 1024);
 }
 
+fn assert_worn(rt: &impl Abort, stepped: Stepped) {
+    assert!(rt; matches!(&stepped, Stepped::Worn));
+}
+
 #[test]
 fn the_last_steps_of_a_world(rt: HostRuntime) {
     let alloc = rt.alloc();
     let mut world = world_at(&rt, alloc, (1 << 62) - 1, 0);
     assert_nothing(&rt, world.step(start(1, get_or_make(0))));
-    assert!(rt; matches!(world.step(step(1)), Stepped::Worn));
+    assert_worn(&rt, world.step(step(1)));
     assert_is(&rt, world.end(), 128);
     let mut world = world_at(&rt, alloc, (1 << 62) - 3, 0);
-    assert!(rt; world.preset());
+    assert_is(&rt, world.preset(), true);
     receive_waiting(&rt, alloc, &mut world, 1, 0);
     assert_nothing(&rt, world.step(step(1)));
     assert_nothing(&rt, world.step(start(2, get_or_make(0))));
-    assert!(rt; matches!(world.step(step(1)), Stepped::Worn));
-    assert!(rt; matches!(world.step(step(2)), Stepped::Worn));
-    assert!(rt; !world.preset());
+    assert_worn(&rt, world.step(step(1)));
+    assert_worn(&rt, world.step(step(2)));
+    assert_is(&rt, world.preset(), false);
     assert_is(&rt, world.end(), 128);
 }

@@ -29,7 +29,7 @@ fn assert_too_few(rt: &impl Abort, pool: &mut Pool, size: usize)
         let blocks = chain.end();
         panic!(rt; "{blocks} blocks for {size} bytes");
     }
-    assert_eq!(rt; pool.free(), free, "{size} bytes");
+    assert_is(rt, (size, pool.free()), (size, free));
 }
 
 // The chain of each length takes apart those before it, so the pool is never short of blocks.

@@ -59,7 +59,8 @@ fn assert_sets(
     to: SetTo,
     wanted: Result<(), Errno>,
 ) {
-    assert_eq!(rt; set_as(rt, desk, id, cred, to), wanted, "{cred:?}");
+    let done = set_as(rt, desk, id, cred, to);
+    assert_is(rt, (cred, to.qbytes, done), (cred, to.qbytes, wanted));
 }
 
 /// Asserts that a removal of queue `id` has this result.
@@ -70,13 +71,14 @@ fn assert_removes(
     cred: Cred,
     wanted: Result<u32, Errno>,
 ) {
-    assert_eq!(rt; remove_as(rt, desk, id, cred), wanted, "{cred:?}");
+    let done = remove_as(rt, desk, id, cred);
+    assert_is(rt, (cred, done), (cred, wanted));
 }
 
 #[test]
 fn a_set_changes_owner_mode_limit_and_moment(rt: HostRuntime) {
     let mut desk = open_desk(&rt, rt.alloc());
-    assert!(rt; desk.slot.install(64, 3, SENDER, 0o640, 50));
+    assert_is(&rt, desk.slot.install(64, 3, SENDER, 0o640, 50), true);
     assert_sends_as(&rt, &mut desk, 64, SENDER, 4, b"abc", Ok(0));
     let to = SetTo {
         uid: 1001,
@@ -129,9 +131,7 @@ fn a_set_is_refused_by_the_first_cause(rt: HostRuntime) {
         (0, SENDER, 65_536, Ok(())),
     ];
     for (id, cred, qbytes, done) in table {
-        let to = limited_to(qbytes);
-        let answer = set_as(&rt, &mut desk, id, cred, to);
-        assert_eq!(rt; answer, done, "{cred:?} {qbytes}");
+        assert_sets(&rt, &mut desk, id, cred, limited_to(qbytes), done);
     }
     end_desk(&rt, desk, 0);
 }
@@ -172,16 +172,8 @@ fn a_removal_discards_what_waits(rt: HostRuntime) {
     let sent = send(&rt, &mut desk, 1, &[b'x'; 130]);
     assert_is(&rt, sent, Ok(1));
     for cred in [STRANGER, MEMBER] {
-        assert_eq!(rt;
-            remove_as(&rt, &mut desk, 0, cred),
-            Err(Errno::EPERM),
-            "{cred:?}"
-        );
-        assert_eq!(rt;
-            remove_as(&rt, &mut desk, 64, cred),
-            Err(Errno::EINVAL),
-            "{cred:?}"
-        );
+        assert_removes(&rt, &mut desk, 0, cred, Err(Errno::EPERM));
+        assert_removes(&rt, &mut desk, 64, cred, Err(Errno::EINVAL));
     }
     assert_removes(&rt, &mut desk, 0, USER_ZERO, Ok(4));
     assert_counts(&rt, &desk, (3, 1));
@@ -194,22 +186,15 @@ fn a_removed_queue_is_gone(rt: HostRuntime) {
     let mut desk = desk_with_shared_queue(&rt, rt.alloc());
     assert_removes(&rt, &mut desk, 0, USER_ZERO, Ok(0));
     for cred in [SENDER, STRANGER, USER_ZERO] {
-        assert_eq!(rt;
-            remove_as(&rt, &mut desk, 0, cred),
-            Err(Errno::EINVAL),
-            "{cred:?}"
-        );
-        assert_eq!(rt;
-            set_as(&rt, &mut desk, 0, cred, limited_to(1)),
-            Err(Errno::EINVAL),
-            "{cred:?}"
-        );
-        assert_eq!(rt; desk.slot.stat(0, cred), Err(Errno::EINVAL), "{cred:?}");
+        assert_removes(&rt, &mut desk, 0, cred, Err(Errno::EINVAL));
+        assert_sets(&rt, &mut desk, 0, cred, limited_to(1), Err(Errno::EINVAL));
+        let stat = desk.slot.stat(0, cred);
+        assert_is(&rt, (cred, stat), (cred, Err(Errno::EINVAL)));
     }
     assert_looks(&rt, &desk, 0, SENDER, 0, Look::Gone);
     assert_receives(&rt, &mut desk, 100, false, Err(TakeRefused::Gone));
 
-    assert!(rt; desk.slot.install(64, 0, SENDER, 0o600, 0));
+    assert_is(&rt, desk.slot.install(64, 0, SENDER, 0o600, 0), true);
     assert_looks(&rt, &desk, 0, SENDER, 0, Look::Gone);
     assert_receives_as(
         &rt,

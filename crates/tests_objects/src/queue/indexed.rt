@@ -27,7 +27,7 @@ struct Desk {
 /// Opens all of it. Tolerates one refusal of memory.
 fn open_desk(rt: &impl Abort, alloc: Global) -> Desk {
     let mut slot = open_slot(rt, alloc);
-    assert!(rt; slot.install(0, 0, SENDER, 0o600, 0));
+    assert_is(rt, slot.install(0, 0, SENDER, 0o600, 0), true);
     Desk {
         slot,
         pool: open_pool(rt, alloc, 512),
@@ -103,8 +103,8 @@ impl Beside {
     }
 
     fn push(&mut self, rt: &impl Abort, number: u64, mtype: i64) {
-        assert!(rt; self.numbers.push(number).is_ok());
-        assert!(rt; self.types.push(mtype).is_ok());
+        assert_is(rt, self.numbers.push(number).is_ok(), true);
+        assert_is(rt, self.types.push(mtype).is_ok(), true);
     }
 
     /// Takes out what the plain rule selects.
@@ -141,12 +141,13 @@ fn takes_follow_the_plain_rule(rt: HostRuntime) {
             beside.push(&rt, number, mtype);
         } else {
             let wanted = beside.take(&rt, sel);
-            assert_eq!(rt; receive(&rt, &mut desk, sel), wanted, "{sel:?}");
+            let received = receive(&rt, &mut desk, sel);
+            assert_is(&rt, (sel, received), (sel, wanted));
         }
     }
     let (arrived, freed) = desk.slot.counts();
     assert_is(&rt, arrived, 300);
-    assert!(rt; freed > 150 && beside.types.len() > 50);
+    assert_is(&rt, (freed > 150, beside.types.len() > 50), (true, true));
     end_desk(&rt, desk);
 }
 
@@ -215,7 +216,7 @@ fn empty(rt: &impl Abort, desk: &mut Desk) {
         Ok(discarded) => give_back(rt, &mut desk.pool, discarded.into_chain()),
         Err(why) => panic!(rt; "{why:?}"),
     }
-    assert!(rt; desk.slot.install(0, 0, SENDER, 0o600, 0));
+    assert_is(rt, desk.slot.install(0, 0, SENDER, 0o600, 0), true);
 }
 
 #[test]

@@ -25,11 +25,28 @@ fn assert_is_set(rt: &impl Abort, slot: &mut QueueSlot) {
         qbytes: 300,
     };
     assert_may_rise(rt, slot);
-    assert_eq!(rt; slot.set(0, SENDER, to, 80), Ok(()));
+    assert_is(rt, slot.set(0, SENDER, to, 80), Ok(()));
     let stat = slot.stat(0, SENDER).map(|stat| (stat.qnum, stat.qbytes));
-    assert_eq!(rt; stat, Ok((0, 300)));
+    assert_is(rt, stat, Ok((0, 300)));
     let row = slot.row().map(|row| (row.key, row.mode));
-    assert_eq!(rt; row, Some((7, 0o640)));
+    assert_is(rt, row, Some((7, 0o640)));
+}
+
+/// Takes 32 messages by this selector.
+fn assert_takes(rt: &impl Abort, desk: &mut Desk, sel: Selector) {
+    for _ in 0..32 {
+        let taken = take_as(rt, desk, 0, RECEIVER, sel, 9, false);
+        assert_is(rt, (sel, taken.is_ok()), (sel, true));
+    }
+}
+
+/// Removes the queue with its messages.
+fn remove_all(rt: &impl Abort, desk: &mut Desk) {
+    assert_may_rise(rt, &desk.slot);
+    match desk.slot.remove(0, SENDER) {
+        Ok(discarded) => give_back(rt, &mut desk.pool, discarded.into_chain()),
+        Err(why) => panic!(rt; "{why}"),
+    }
 }
 
 // The slot has the maximum number of messages, which are taken by each kind of selector.
@@ -37,7 +54,7 @@ fn assert_is_set(rt: &impl Abort, slot: &mut QueueSlot) {
 fn slot(rt: HostRuntime) {
     let mut desk = open_desk(&rt, rt.alloc());
     let _marked = mark(rt.alloc());
-    assert!(rt; desk.slot.install(0, 7, SENDER, 0o600, 50));
+    assert_is(&rt, desk.slot.install(0, 7, SENDER, 0o600, 50), true);
     assert_is(
         &rt,
         desk.slot.probe(0, RECEIVER, creating()),
@@ -46,23 +63,17 @@ fn slot(rt: HostRuntime) {
     assert_is_set(&rt, &mut desk.slot);
     for number in 0..256_u16 {
         let mtype = i64::from(number % 7) + 1;
-        assert!(rt; send(&rt, &mut desk, mtype, b"x").is_ok());
+        assert_is(&rt, send(&rt, &mut desk, mtype, b"x").is_ok(), true);
     }
-    assert!(rt; matches!(&desk.slot.look(0, SENDER, 1), Look::Full { .. }));
+    assert_looks(&rt, &desk, 0, SENDER, 1, Look::Full { freed: 1 });
     for sel in [
         Selector::Any,
         Selector::Exactly(5),
         Selector::UpTo(3),
         Selector::Except(1),
     ] {
-        for _ in 0..32 {
-            assert!(rt; take_as(&rt, &mut desk, 0, RECEIVER, sel, 9, false).is_ok());
-        }
+        assert_takes(&rt, &mut desk, sel);
     }
-    assert_may_rise(&rt, &desk.slot);
-    match desk.slot.remove(0, SENDER) {
-        Ok(discarded) => give_back(&rt, &mut desk.pool, discarded.into_chain()),
-        Err(why) => panic!(rt; "{why}"),
-    }
+    remove_all(&rt, &mut desk);
     end_desk(&rt, desk, 0);
 }
