@@ -129,50 +129,33 @@ fn take_of_many<R: Wait + CpuClock>(
     Some((item.number, used))
 }
 
-fn try_put_late_to_many(rt: &impl Clock, buffer: &ManyBuffer<Ware>, mut seat: Seat<Ware>) -> bool
-    requires { seat.buffer ≡ buffer.now }
-{
-    thread::sleep(rt, Duration::from_millis(LATE));
-    buffer.try_put(&mut seat, Ware { number: 7 }).is_ok()
-}
-
-fn take_and_try_put_of_many<R: Threads + Wait + Clock + CpuClock + Sync>(
-    rt: &R,
-    buffer: &ManyBuffer<Ware>,
-    mut seat: Seat<Ware>,
-) -> (Option<(u64, Duration)>, bool)
-    requires { seat.buffer ≡ buffer.now }
-{
-    let other = buffer.split(&mut seat);
-    join(
-        rt,
-        || take_of_many(rt, buffer, seat),
-        || try_put_late_to_many(rt, buffer, other),
-    )
-}
-
-#[test]
-fn a_try_put_wakes_a_seat(rt: HostRuntime) {
-    let (buffer, seat) = many::opened(&rt, rt.alloc(), 1);
-    let (told, put) = take_and_try_put_of_many(&rt, &buffer, seat);
-    assert_eq!(rt; (slept(told), put), (Some(7), true));
+/// How the thread that comes late puts or takes.
+#[derive(Clone, Copy)]
+enum How {
+    Tries,
+    Waits,
 }
 
 fn put_late_to_many<R: Wait + Clock>(
     rt: &R,
     buffer: &ManyBuffer<Ware>,
     mut seat: Seat<Ware>,
+    how: How,
 ) -> bool
     requires { seat.buffer ≡ buffer.now }
 {
     thread::sleep(rt, Duration::from_millis(LATE));
-    buffer.put(rt, &mut seat, Ware { number: 7 }).is_ok()
+    match how {
+        How::Tries => buffer.try_put(&mut seat, Ware { number: 7 }).is_ok(),
+        How::Waits => buffer.put(rt, &mut seat, Ware { number: 7 }).is_ok(),
+    }
 }
 
 fn take_and_put_of_many<R: Threads + Wait + Clock + CpuClock + Sync>(
     rt: &R,
     buffer: &ManyBuffer<Ware>,
     mut seat: Seat<Ware>,
+    how: How,
 ) -> (Option<(u64, Duration)>, bool)
     requires { seat.buffer ≡ buffer.now }
 {
@@ -180,14 +163,21 @@ fn take_and_put_of_many<R: Threads + Wait + Clock + CpuClock + Sync>(
     join(
         rt,
         || take_of_many(rt, buffer, seat),
-        || put_late_to_many(rt, buffer, other),
+        || put_late_to_many(rt, buffer, other, how),
     )
+}
+
+#[test]
+fn a_try_put_wakes_a_seat(rt: HostRuntime) {
+    let (buffer, seat) = many::opened(&rt, rt.alloc(), 1);
+    let (told, put) = take_and_put_of_many(&rt, &buffer, seat, How::Tries);
+    assert_eq!(rt; (slept(told), put), (Some(7), true));
 }
 
 #[test]
 fn a_put_wakes_a_seat(rt: HostRuntime) {
     let (buffer, seat) = many::opened(&rt, rt.alloc(), 1);
-    let (told, put) = take_and_put_of_many(&rt, &buffer, seat);
+    let (told, put) = take_and_put_of_many(&rt, &buffer, seat, How::Waits);
     assert_eq!(rt; (slept(told), put), (Some(7), true));
 }
 
@@ -205,21 +195,27 @@ fn put_to_many<R: Wait + CpuClock>(
     Some((number, used))
 }
 
-fn try_take_late_of_many(
-    rt: &impl Clock,
+fn take_late_of_many<R: Wait + Clock>(
+    rt: &R,
     buffer: &ManyBuffer<Ware>,
     mut seat: Seat<Ware>,
+    how: How,
 ) -> Option<u64>
     requires { seat.buffer ≡ buffer.now }
 {
     thread::sleep(rt, Duration::from_millis(LATE));
-    Some(buffer.try_take(&mut seat).ok()?.number)
+    let number = match how {
+        How::Tries => buffer.try_take(&mut seat).ok()?.number,
+        How::Waits => buffer.take(rt, &mut seat).ok()?.number,
+    };
+    Some(number)
 }
 
-fn put_and_try_take_of_many<R: Threads + Wait + Clock + CpuClock + Sync>(
+fn put_and_take_of_many<R: Threads + Wait + Clock + CpuClock + Sync>(
     rt: &R,
     buffer: &ManyBuffer<Ware>,
     mut seat: Seat<Ware>,
+    how: How,
 ) -> (Option<(u64, Duration)>, Option<u64>)
     requires { seat.buffer ≡ buffer.now }
 {
@@ -227,7 +223,7 @@ fn put_and_try_take_of_many<R: Threads + Wait + Clock + CpuClock + Sync>(
     join(
         rt,
         || put_to_many(rt, buffer, seat, 8),
-        || try_take_late_of_many(rt, buffer, other),
+        || take_late_of_many(rt, buffer, other, how),
     )
 }
 
@@ -236,34 +232,8 @@ fn a_try_take_wakes_a_seat(rt: HostRuntime) {
     let (buffer, mut seat) = many::opened(&rt, rt.alloc(), 1);
     let first = buffer.try_put(&mut seat, Ware { number: 7 });
     assert!(rt; first.is_ok());
-    let (told, taken) = put_and_try_take_of_many(&rt, &buffer, seat);
+    let (told, taken) = put_and_take_of_many(&rt, &buffer, seat, How::Tries);
     assert_eq!(rt; (slept(told), taken), (Some(8), Some(7)));
-}
-
-fn take_late_of_many<R: Wait + Clock>(
-    rt: &R,
-    buffer: &ManyBuffer<Ware>,
-    mut seat: Seat<Ware>,
-) -> Option<u64>
-    requires { seat.buffer ≡ buffer.now }
-{
-    thread::sleep(rt, Duration::from_millis(LATE));
-    Some(buffer.take(rt, &mut seat).ok()?.number)
-}
-
-fn put_and_take_of_many<R: Threads + Wait + Clock + CpuClock + Sync>(
-    rt: &R,
-    buffer: &ManyBuffer<Ware>,
-    mut seat: Seat<Ware>,
-) -> (Option<(u64, Duration)>, Option<u64>)
-    requires { seat.buffer ≡ buffer.now }
-{
-    let other = buffer.split(&mut seat);
-    join(
-        rt,
-        || put_to_many(rt, buffer, seat, 8),
-        || take_late_of_many(rt, buffer, other),
-    )
 }
 
 #[test]
@@ -271,6 +241,6 @@ fn a_take_wakes_a_seat(rt: HostRuntime) {
     let (buffer, mut seat) = many::opened(&rt, rt.alloc(), 1);
     let first = buffer.try_put(&mut seat, Ware { number: 7 });
     assert!(rt; first.is_ok());
-    let (told, taken) = put_and_take_of_many(&rt, &buffer, seat);
+    let (told, taken) = put_and_take_of_many(&rt, &buffer, seat, How::Waits);
     assert_eq!(rt; (slept(told), taken), (Some(8), Some(7)));
 }

@@ -2,7 +2,7 @@
 //! the mark, and expects none.
 ghost use Rattle.std.specs.Prelude.{◌≡◌};
 
-use super::{LATE, put_and_take_of_many, take_and_put_of_many};
+use super::{How, LATE, put_and_take_of_many, take_and_put_of_many};
 use crate::buffer::{Ware, many, opened};
 use std::alloc::Global;
 use std::sync::Wait;
@@ -86,10 +86,10 @@ fn buffer_of_one(rt: HostRuntime) {
 fn buffer_of_many(rt: HostRuntime) {
     let (buffer, mut seat) = many::opened(&rt, rt.alloc(), 1);
     let takes = buffer.split(&mut seat);
-    let (_told, late) = take_and_put_of_many(&rt, &buffer, takes);
+    let (_told, late) = take_and_put_of_many(&rt, &buffer, takes, How::Waits);
     let first = buffer.try_put(&mut seat, Ware { number: 7 });
     let puts = buffer.split(&mut seat);
-    let (_told, taken) = put_and_take_of_many(&rt, &buffer, puts);
+    let (_told, taken) = put_and_take_of_many(&rt, &buffer, puts, How::Waits);
     assert_eq!(rt; (late, first.is_ok(), taken), (true, true, Some(7)));
     let _marked = mark(rt.alloc());
     let last = buffer.try_take(&mut seat);
