@@ -7,4 +7,6 @@ mod frames;
 #[cfg(test)]
 mod memory;
 #[cfg(test)]
+mod parts;
+#[cfg(test)]
 mod worked;

@@ -2,6 +2,7 @@
 ghost use Rattle.std.specs.Prelude.{◌≡◌, ◌≤◌, vec_len};
 
 use crate::frames::{CREATE, EMPTY, FOUND, HELLO, KNOWN, RECEIVE, RECEIVED, SEND, SENT, sums};
+use crate::parts::assert_is;
 use std::alloc::Global;
 use std::process::Abort;
 use std::sync::Wait;
@@ -79,22 +80,32 @@ fn count(books: &[Replies], replies: &[u8]) -> usize {
     count
 }
 
+/// Asserts that the server ended after this number of sessions, in which one message was written,
+/// and removed one queue.
+fn assert_ended(rt: &impl Abort, ended: Ended, sessions: u64) {
+    let wanted = Ended {
+        sums: sums(sessions, 1, 0),
+        refused: 0,
+        removed: Ok(1),
+        closed: EMPTY,
+    };
+    assert_is(rt, ended, wanted);
+}
+
+/// Asserts that these replies, one after another, were written to one connection in these books.
+fn assert_once(rt: &impl Abort, alloc: Global, books: &[Replies], replies: &[&[u8]]) {
+    let found = count(books, joined(rt, alloc, replies).as_slice());
+    assert_is(rt, found, 1);
+}
+
 // The replies of the session are those that were worked out by hand.
 #[test]
 fn a_worked_session_in_memory(rt: HostRuntime) {
     let alloc = rt.alloc();
     let mut books = Vec::from_array(alloc, [book(&rt, alloc)]).expect(&rt, "memory");
     let ended = served(&rt, alloc, &[SESSION], &[], &mut books, 1);
-    assert_eq!(rt;
-        ended,
-        Ended {
-            sums: sums(1, 1, 0),
-            refused: 0,
-            removed: Ok(1),
-            closed: EMPTY,
-        }
-    );
-    assert_eq!(rt; count(books.as_slice(), ANSWERS), 1);
+    assert_ended(&rt, ended, 1);
+    assert_is(&rt, count(books.as_slice(), ANSWERS), 1);
 }
 
 // One client sends a message, and the other waits for it. Either may be first, and either may be
@@ -104,27 +115,23 @@ fn two_clients_in_memory(rt: HostRuntime) {
     let alloc = rt.alloc();
     let sender = joined(&rt, alloc, &[HELLO, CREATE, SEND]);
     let receiver = joined(&rt, alloc, &[HELLO, CREATE, RECEIVE]);
-    let sent = joined(&rt, alloc, &[KNOWN, FOUND, SENT]);
-    let received = joined(&rt, alloc, &[KNOWN, FOUND, RECEIVED]);
-    for clients in [
-        [sender.as_slice(), receiver.as_slice()],
-        [receiver.as_slice(), sender.as_slice()],
-    ] {
-        let books = [book(&rt, alloc), book(&rt, alloc)];
-        let mut books = Vec::from_array(alloc, books).expect(&rt, "memory");
-        let ended = served(&rt, alloc, &clients, &[], &mut books, 2);
-        assert_eq!(rt;
-            ended,
-            Ended {
-                sums: sums(2, 1, 0),
-                refused: 0,
-                removed: Ok(1),
-                closed: EMPTY,
-            }
-        );
-        assert_eq!(rt; count(books.as_slice(), sent.as_slice()), 1);
-        assert_eq!(rt; count(books.as_slice(), received.as_slice()), 1);
-    }
+    let (sender, receiver) = (sender.as_slice(), receiver.as_slice());
+    assert_two_are_served(&rt, alloc, &[sender, receiver]);
+    assert_two_are_served(&rt, alloc, &[receiver, sender]);
+}
+
+/// Asserts that two workers serve these two clients.
+fn assert_two_are_served<R: Threads + Wait + Abort + Sync>(
+    rt: &R,
+    alloc: Global,
+    clients: &[&[u8]],
+) {
+    let books = [book(rt, alloc), book(rt, alloc)];
+    let mut books = Vec::from_array(alloc, books).expect(rt, "memory");
+    let ended = served(rt, alloc, clients, &[], &mut books, 2);
+    assert_ended(rt, ended, 2);
+    assert_once(rt, alloc, books.as_slice(), &[KNOWN, FOUND, SENT]);
+    assert_once(rt, alloc, books.as_slice(), &[KNOWN, FOUND, RECEIVED]);
 }
 
 // With one place, the replies are in the order of the connections. The source returns the last
@@ -132,26 +139,24 @@ fn two_clients_in_memory(rt: HostRuntime) {
 #[test]
 fn one_place_serves_in_order(rt: HostRuntime) {
     let alloc = rt.alloc();
+    let mut books = Vec::from_array(alloc, [book(&rt, alloc)]).expect(&rt, "memory");
     let sender = joined(&rt, alloc, &[HELLO, CREATE, SEND]);
     let receiver = joined(&rt, alloc, &[HELLO, CREATE, RECEIVE]);
-    let sent = joined(&rt, alloc, &[KNOWN, FOUND, SENT]);
-    let received = joined(&rt, alloc, &[KNOWN, FOUND, RECEIVED]);
-    let mut books = Vec::from_array(alloc, [book(&rt, alloc)]).expect(&rt, "memory");
     let clients = [receiver.as_slice(), sender.as_slice()];
     let ended = served(&rt, alloc, &clients, &[], &mut books, 1);
-    assert_eq!(rt;
-        ended,
-        Ended {
-            sums: sums(2, 1, 0),
-            refused: 0,
-            removed: Ok(1),
-            closed: EMPTY,
-        }
-    );
-    let kept = books.first().expect(&rt, "a book").kept();
+    assert_ended(&rt, ended, 2);
+    assert_in_order(&rt, alloc, books.as_slice());
+}
+
+/// Asserts that the first of these books has the replies of the sender and then of the receiver.
+fn assert_in_order(rt: &impl Abort, alloc: Global, books: &[Replies]) {
+    let kept = books.first().expect(rt, "a book").kept();
     assert_eq!(rt; kept.len(), 2);
-    assert_eq!(rt; kept[0].as_slice(), sent.as_slice());
-    assert_eq!(rt; kept[1].as_slice(), received.as_slice());
+    let (first, second) = (kept[0].as_slice(), kept[1].as_slice());
+    let sent = joined(rt, alloc, &[KNOWN, FOUND, SENT]);
+    assert_is(rt, first, sent.as_slice());
+    let received = joined(rt, alloc, &[KNOWN, FOUND, RECEIVED]);
+    assert_is(rt, second, received.as_slice());
 }
 
 /// Steps that move a few bytes at a time, with nothing to move between.
@@ -173,30 +178,24 @@ fn three_clients_in_pieces(rt: HostRuntime) {
     let alloc = rt.alloc();
     let sender = joined(&rt, alloc, &[HELLO, CREATE, SEND]);
     let receiver = joined(&rt, alloc, &[HELLO, CREATE, RECEIVE]);
-    let sent = joined(&rt, alloc, &[KNOWN, FOUND, SENT]);
-    let received = joined(&rt, alloc, &[KNOWN, FOUND, RECEIVED]);
-    let found = joined(&rt, alloc, &[KNOWN, FOUND]);
     let finder = joined(&rt, alloc, &[HELLO, CREATE]);
     let (sender, receiver, finder) = (sender.as_slice(), receiver.as_slice(), finder.as_slice());
-    for clients in [
-        [sender, receiver, finder],
-        [receiver, finder, sender],
-        [finder, sender, receiver],
-    ] {
-        let books = [book(&rt, alloc), book(&rt, alloc), book(&rt, alloc)];
-        let mut books = Vec::from_array(alloc, books).expect(&rt, "memory");
-        let ended = served(&rt, alloc, &clients, PIECES, &mut books, 2);
-        assert_eq!(rt;
-            ended,
-            Ended {
-                sums: sums(3, 1, 0),
-                refused: 0,
-                removed: Ok(1),
-                closed: EMPTY,
-            }
-        );
-        assert_eq!(rt; count(books.as_slice(), sent.as_slice()), 1);
-        assert_eq!(rt; count(books.as_slice(), received.as_slice()), 1);
-        assert_eq!(rt; count(books.as_slice(), found.as_slice()), 1);
-    }
+    assert_three_are_served(&rt, alloc, &[sender, receiver, finder]);
+    assert_three_are_served(&rt, alloc, &[receiver, finder, sender]);
+    assert_three_are_served(&rt, alloc, &[finder, sender, receiver]);
+}
+
+/// Asserts that two workers serve these three clients, whose connections move in pieces.
+fn assert_three_are_served<R: Threads + Wait + Abort + Sync>(
+    rt: &R,
+    alloc: Global,
+    clients: &[&[u8]],
+) {
+    let books = [book(rt, alloc), book(rt, alloc), book(rt, alloc)];
+    let mut books = Vec::from_array(alloc, books).expect(rt, "memory");
+    let ended = served(rt, alloc, clients, PIECES, &mut books, 2);
+    assert_ended(rt, ended, 3);
+    assert_once(rt, alloc, books.as_slice(), &[KNOWN, FOUND, SENT]);
+    assert_once(rt, alloc, books.as_slice(), &[KNOWN, FOUND, RECEIVED]);
+    assert_once(rt, alloc, books.as_slice(), &[KNOWN, FOUND]);
 }

@@ -6,6 +6,7 @@ ghost use Rattle.sysv_service.specs.Seats.{AreOf};
 mod client;
 mod handler;
 
+use crate::parts::{assert_at, assert_is};
 use std::alloc::Global;
 use std::process::Abort;
 use sysv_service::{Closed, OpenRefused, Pass, Service};
@@ -95,9 +96,10 @@ fn assert_done(
         free: 128,
         held: 0,
     };
-    assert_eq!(rt; (told.end, counts), (wanted.end, wanted.counts), "{place}");
-    assert_eq!(rt; replies, wanted.replies, "{place}");
-    assert_eq!(rt; closed, left, "{place}");
+    assert_at(rt, told.end, wanted.end, place);
+    assert_at(rt, counts, wanted.counts, place);
+    assert_at(rt, replies, wanted.replies, place);
+    assert_at(rt, closed, left, place);
 }
 
 /// Opens a service with 128 blocks. Tolerates one refusal of memory.
@@ -107,7 +109,7 @@ fn opened(rt: &impl Abort, alloc: Global) -> (Service, Pass)
     match Service::open(alloc, 128) {
         Ok(opened) => opened,
         Err(why) => {
-            assert_eq!(rt; why, OpenRefused::NoMemory);
+            assert_is(rt, why, OpenRefused::NoMemory);
             match Service::open(alloc, 128) {
                 Ok(opened) => opened,
                 Err(why) => panic!(rt; "a second try: {why:?}"),

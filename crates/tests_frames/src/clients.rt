@@ -4,8 +4,9 @@ mod growths;
 mod options;
 mod several;
 
-use crate::parts::assert_is;
+use crate::parts::{assert_at, assert_is};
 use std::alloc::Global;
+use std::fmt::Debug;
 use std::io;
 use std::io::{ErrorKind, Read, Write};
 use std::process::Abort;
@@ -148,6 +149,36 @@ impl Dialogue {
     }
 }
 
+impl Dialogue {
+    /// Asserts that these bytes were requested. A failure says where, and not the bytes, which can
+    /// be many.
+    fn assert_requested(&self, rt: &impl Abort, bytes: &[u8], at: impl Debug + Drop) {
+        assert!(rt; self.requests.text() == bytes, "at {at:?}");
+    }
+
+    /// Asserts that this text was shown, in the same way.
+    fn assert_shown(&self, rt: &impl Abort, text: &[u8], at: impl Debug + Drop) {
+        assert!(rt; self.screen.text() == text, "at {at:?}");
+    }
+
+    /// Asserts that these parts were requested, one after another.
+    fn assert_requests(&self, rt: &impl Abort, alloc: Global, parts: &[&[u8]]) {
+        assert_is(rt, self.requests.text(), joined(rt, alloc, parts).text());
+    }
+
+    /// Runs a client with this task, and asserts that it fails and shows that it has no reply.
+    fn assert_no_reply(
+        &mut self,
+        rt: &impl Abort,
+        alloc: Global,
+        task: Task<'_>,
+        at: impl Debug + Copy + Drop,
+    ) {
+        assert_at(rt, self.run(rt, alloc, task), 1, at);
+        self.assert_shown(rt, NO_REPLY, at);
+    }
+}
+
 /// The credentials of the clients.
 const WHO: Cred = Cred {
     uid: 1000,
@@ -254,36 +285,39 @@ fn a_queue_is_removed_by_its_key(rt: HostRuntime) {
     assert_is(&rt, dialogue.screen.len(), 0);
 }
 
+/// Asserts what is requested to send `abc` with this type, if its last fields are these.
+fn assert_sends(rt: &impl Abort, alloc: Global, mtype: i64, nowait: bool, fields: &[u8]) {
+    let mut dialogue = Dialogue::new(rt, alloc, &[WELCOME, GOT, SENT]);
+    let task = Task::Send {
+        key: 7,
+        text: b"abc",
+        mtype,
+        nowait,
+    };
+    assert_is(rt, dialogue.run(rt, alloc, task), 0);
+    let wanted = joined(
+        rt,
+        alloc,
+        &[
+            HELLO,
+            b"\0\0\0\x0a\x02\x01\0\0\0\x07\0\0\x03\x80",
+            b"\0\0\0\x15\x02\x02\0\0\0\x40",
+            fields,
+            b"abc",
+        ],
+    );
+    dialogue.assert_requested(rt, wanted.text(), mtype);
+    assert_is(rt, dialogue.screen.len(), 0);
+}
+
 #[test]
 fn a_message_is_sent(rt: HostRuntime) {
-    let table: [(i64, bool, &[u8]); 3] = [
-        (1, false, b"\0\0\0\0\0\0\0\x01\0\0\0\0"),
-        (5, true, b"\0\0\0\0\0\0\0\x05\0\0\x08\0"),
-        (i64::MAX, false, b"\x7f\xff\xff\xff\xff\xff\xff\xff\0\0\0\0"),
-    ];
-    for (mtype, nowait, fields) in table {
-        let mut dialogue = Dialogue::new(&rt, rt.alloc(), &[WELCOME, GOT, SENT]);
-        let task = Task::Send {
-            key: 7,
-            text: b"abc",
-            mtype,
-            nowait,
-        };
-        assert_is(&rt, dialogue.run(&rt, rt.alloc(), task), 0);
-        let wanted = joined(
-            &rt,
-            rt.alloc(),
-            &[
-                HELLO,
-                b"\0\0\0\x0a\x02\x01\0\0\0\x07\0\0\x03\x80",
-                b"\0\0\0\x15\x02\x02\0\0\0\x40",
-                fields,
-                b"abc",
-            ],
-        );
-        assert!(rt; dialogue.requests.text() == wanted.text(), "{mtype}");
-        assert_is(&rt, dialogue.screen.len(), 0);
-    }
+    let least = b"\0\0\0\0\0\0\0\x01\0\0\0\0";
+    assert_sends(&rt, rt.alloc(), 1, false, least);
+    let unwaited = b"\0\0\0\0\0\0\0\x05\0\0\x08\0";
+    assert_sends(&rt, rt.alloc(), 5, true, unwaited);
+    let greatest = b"\x7f\xff\xff\xff\xff\xff\xff\xff\0\0\0\0";
+    assert_sends(&rt, rt.alloc(), i64::MAX, false, greatest);
 }
 
 #[test]
@@ -418,25 +452,24 @@ fn requested_rows(rt: &impl Abort, alloc: Global, slots: u16) -> Tape {
     tape
 }
 
+/// Asserts that a client lists no queue if the server, whose slots have none, replies this to the
+/// hello. Returns how often its requests are flushed.
+fn flushes_of_rows(rt: &impl Abort, alloc: Global, welcome: &[u8], slots: u16) -> usize {
+    let mut dialogue = Dialogue::new(rt, alloc, &[welcome]);
+    for _ in 0..slots {
+        dialogue.replies.put(VACANT);
+    }
+    assert_is(rt, dialogue.run(rt, alloc, LIST), 0);
+    dialogue.assert_requested(rt, requested_rows(rt, alloc, slots).text(), slots);
+    dialogue.assert_shown(rt, HEAD, slots);
+    dialogue.requests.flushed
+}
+
 #[test]
 fn as_many_rows_are_asked_for_as_the_server_has_slots(rt: HostRuntime) {
-    let table: [(&[u8], u8); 3] = [
-        (b"\0\0\0\x07\x02\0\0\0\0\0\0", 0),
-        (b"\0\0\0\x07\x02\0\0\0\0\0\x01", 1),
-        (b"\0\0\0\x07\x02\0\0\0\0\0\x05", 5),
-    ];
-    for (welcome, slots) in table {
-        let mut dialogue = Dialogue::new(&rt, rt.alloc(), &[welcome]);
-        let mut wanted = joined(&rt, rt.alloc(), &[HELLO]);
-        for slot in 0..slots {
-            dialogue.replies.put(VACANT);
-            wanted.put(b"\0\0\0\x06\x02\x07\0\0\0");
-            wanted.put(&[slot]);
-        }
-        assert_is(&rt, dialogue.run(&rt, rt.alloc(), LIST), 0);
-        assert!(rt; dialogue.requests.text() == wanted.text(), "{slots}");
-        assert!(rt; dialogue.screen.text() == HEAD, "{slots}");
-    }
+    flushes_of_rows(&rt, rt.alloc(), b"\0\0\0\x07\x02\0\0\0\0\0\0", 0);
+    flushes_of_rows(&rt, rt.alloc(), b"\0\0\0\x07\x02\0\0\0\0\0\x01", 1);
+    flushes_of_rows(&rt, rt.alloc(), b"\0\0\0\x07\x02\0\0\0\0\0\x05", 5);
 }
 
 #[test]
@@ -459,31 +492,27 @@ fn rows_are_requested_in_a_window(rt: HostRuntime) {
         (b"\0\0\0\x07\x02\0\0\0\0\x02\x58", 600, 4),
     ];
     for (welcome, slots, flushes) in table {
-        let mut dialogue = Dialogue::new(&rt, rt.alloc(), &[welcome]);
-        for _ in 0..slots {
-            dialogue.replies.put(VACANT);
-        }
-        assert_is(&rt, dialogue.run(&rt, rt.alloc(), LIST), 0);
-        let wanted = requested_rows(&rt, rt.alloc(), slots);
-        assert!(rt; dialogue.requests.text() == wanted.text(), "{slots}");
-        assert!(rt; dialogue.screen.text() == HEAD, "{slots}");
-        assert_eq!(rt; dialogue.requests.flushed, flushes, "{slots}");
+        let found = flushes_of_rows(&rt, rt.alloc(), welcome, slots);
+        assert_at(&rt, found, flushes, slots);
     }
+}
+
+/// Asserts how a list ends if the writer takes no more than `wanted`.
+fn assert_list_ends_after(rt: &impl Abort, alloc: Global, wanted: &[u8]) {
+    let room = wanted.len();
+    let mut dialogue = Dialogue::new(rt, alloc, &[WELCOME, ROW, VACANT]);
+    dialogue.requests.good = room;
+    dialogue.assert_no_reply(rt, alloc, LIST, room);
+    dialogue.assert_requested(rt, wanted, room);
+    assert_at(rt, dialogue.replies.read, WELCOME.len(), room);
 }
 
 #[test]
 fn the_writer_fails_between_rows(rt: HostRuntime) {
-    let all = requested_rows(&rt, rt.alloc(), 64);
+    let rows = requested_rows(&rt, rt.alloc(), 64);
+    let all = rows.text();
     for room in 18..all.len() {
-        let mut dialogue = Dialogue::new(&rt, rt.alloc(), &[WELCOME, ROW, VACANT]);
-        dialogue.requests.good = room;
-        assert_eq!(rt; dialogue.run(&rt, rt.alloc(), LIST), 1, "{room}");
-        assert!(rt; dialogue.screen.text() == NO_REPLY, "{room}");
-        assert!(rt;
-            Some(dialogue.requests.text()) == all.text().get(..room),
-            "{room}"
-        );
-        assert_eq!(rt; dialogue.replies.read, WELCOME.len(), "{room}");
+        assert_list_ends_after(&rt, rt.alloc(), &all[..room]);
     }
 }
 
@@ -525,6 +554,15 @@ fn a_table_takes_memory_as_its_rows_come(rt: HostRuntime) {
     assert_is(&rt, dialogue.screen.text(), shown.text());
 }
 
+/// Asserts that a hello that is refused with this number is shown by this line.
+fn assert_refusal(rt: &impl Abort, alloc: Global, number: u8, line: &[u8]) {
+    let mut dialogue = Dialogue::new(rt, alloc, &[b"\0\0\0\x03\x02\0", &[number], WELCOME]);
+    assert_is(rt, dialogue.run(rt, alloc, LIST), 1);
+    dialogue.assert_shown(rt, line, number);
+    assert_is(rt, dialogue.requests.text(), HELLO);
+    assert_is(rt, dialogue.replies.read, 7);
+}
+
 #[test]
 fn a_refusal_is_named(rt: HostRuntime) {
     let table: [(u8, &[u8]); 11] = [
@@ -541,15 +579,7 @@ fn a_refusal_is_named(rt: HostRuntime) {
         (75, b"sysvmsg: EOVERFLOW\n"),
     ];
     for (number, line) in table {
-        let mut dialogue = Dialogue::new(
-            &rt,
-            rt.alloc(),
-            &[b"\0\0\0\x03\x02\0", &[number], WELCOME],
-        );
-        assert_is(&rt, dialogue.run(&rt, rt.alloc(), LIST), 1);
-        assert!(rt; dialogue.screen.text() == line, "{number}");
-        assert_is(&rt, dialogue.requests.text(), HELLO);
-        assert_is(&rt, dialogue.replies.read, 7);
+        assert_refusal(&rt, rt.alloc(), number, line);
     }
 }
 
@@ -572,25 +602,28 @@ fn a_later_request_is_refused(rt: HostRuntime) {
 /// The one line that is shown if the server does not reply.
 const NO_REPLY: &[u8] = b"sysvmsg: no reply\n";
 
+/// Asserts how a receive ends if the replies end or fail after this number of bytes.
+fn assert_cut(rt: &impl Abort, alloc: Global, cut: usize, fails: bool) {
+    let mut dialogue = Dialogue::new(rt, alloc, &[WELCOME, GOT, MESSAGE]);
+    if fails {
+        dialogue.replies.good = cut;
+    } else {
+        dialogue.replies.bytes.truncate(cut);
+    }
+    dialogue.assert_no_reply(rt, alloc, RECEIVE_ANY, cut);
+    let asked: &[&[u8]] = match cut {
+        0..=10 => &[HELLO],
+        11..=21 => &[HELLO, GET],
+        _ => &[HELLO, GET, RECEIVE],
+    };
+    dialogue.assert_requested(rt, joined(rt, alloc, asked).text(), cut);
+}
+
 #[test]
 fn the_replies_are_cut_after_each_byte(rt: HostRuntime) {
     for cut in 0..40 {
-        for fails in [false, true] {
-            let mut dialogue = Dialogue::new(&rt, rt.alloc(), &[WELCOME, GOT, MESSAGE]);
-            if fails {
-                dialogue.replies.good = cut;
-            } else {
-                dialogue.replies.bytes.truncate(cut);
-            }
-            assert_eq!(rt; dialogue.run(&rt, rt.alloc(), RECEIVE_ANY), 1, "{cut}");
-            assert!(rt; dialogue.screen.text() == NO_REPLY, "{cut}");
-            let asked = match cut {
-                0..=10 => joined(&rt, rt.alloc(), &[HELLO]),
-                11..=21 => joined(&rt, rt.alloc(), &[HELLO, GET]),
-                _ => joined(&rt, rt.alloc(), &[HELLO, GET, RECEIVE]),
-            };
-            assert!(rt; dialogue.requests.text() == asked.text(), "{cut}");
-        }
+        assert_cut(&rt, rt.alloc(), cut, false);
+        assert_cut(&rt, rt.alloc(), cut, true);
     }
 }
 
@@ -601,6 +634,13 @@ fn a_table_that_is_cut_leaves_one_line(rt: HostRuntime) {
     dialogue.replies.bytes.truncate(len.saturating_sub(1));
     assert_is(&rt, dialogue.run(&rt, rt.alloc(), LIST), 1);
     assert_is(&rt, dialogue.screen.text(), NO_REPLY);
+}
+
+/// Asserts that these bytes are no reply to a hello.
+fn assert_is_no_reply(rt: &impl Abort, alloc: Global, bytes: &[u8]) {
+    let mut dialogue = Dialogue::new(rt, alloc, &[bytes, WELCOME]);
+    dialogue.assert_no_reply(rt, alloc, Task::Remove(Target::Id(0)), bytes);
+    assert_is(rt, dialogue.requests.text(), HELLO);
 }
 
 #[test]
@@ -618,65 +658,71 @@ fn a_reply_to_another_request_is_none(rt: HostRuntime) {
         b"\0\0\x20\x0c\x02\0\0",
     ];
     for reply in table {
-        let mut dialogue = Dialogue::new(&rt, rt.alloc(), &[reply, WELCOME]);
-        let status = dialogue.run(&rt, rt.alloc(), Task::Remove(Target::Id(0)));
-        assert_is(&rt, status, 1);
-        assert_is(&rt, dialogue.screen.text(), NO_REPLY);
-        assert_is(&rt, dialogue.requests.text(), HELLO);
+        assert_is_no_reply(&rt, rt.alloc(), reply);
     }
+}
+
+/// Asserts how a receive ends if the writer fails after `room` bytes of `all`.
+fn assert_writer_fails(rt: &impl Abort, alloc: Global, room: usize, all: &[u8]) {
+    let mut dialogue = Dialogue::new(rt, alloc, &[WELCOME, GOT, MESSAGE]);
+    dialogue.requests.good = room;
+    dialogue.assert_no_reply(rt, alloc, RECEIVE_ANY, room);
+    dialogue.assert_requested(rt, &all[..room.min(all.len())], room);
+    let read = match room {
+        0..=17 => 0,
+        18..=31 => 11,
+        _ => 22,
+    };
+    assert_at(rt, dialogue.replies.read, read, room);
 }
 
 #[test]
 fn the_writer_fails(rt: HostRuntime) {
     let all = joined(&rt, rt.alloc(), &[HELLO, GET, RECEIVE]);
     for room in 0..58 {
-        let mut dialogue = Dialogue::new(&rt, rt.alloc(), &[WELCOME, GOT, MESSAGE]);
-        dialogue.requests.good = room;
-        assert_eq!(rt; dialogue.run(&rt, rt.alloc(), RECEIVE_ANY), 1, "{room}");
-        assert!(rt; dialogue.screen.text() == NO_REPLY, "{room}");
-        let text = all.text();
-        assert!(rt;
-            dialogue.requests.text() == &text[..room.min(text.len())],
-            "{room}"
-        );
-        let read = match room {
-            0..=17 => 0,
-            18..=31 => 11,
-            _ => 22,
-        };
-        assert_eq!(rt; dialogue.replies.read, read, "{room}");
+        assert_writer_fails(&rt, rt.alloc(), room, all.text());
     }
+}
+
+/// Asserts that a receive ends after this number of bytes of the replies if its requests can be
+/// flushed so often.
+fn assert_ends_unflushed(rt: &impl Abort, alloc: Global, flushes: usize, read: usize) {
+    let mut dialogue = Dialogue::new(rt, alloc, &[WELCOME, GOT, MESSAGE]);
+    dialogue.requests.flushes = flushes;
+    dialogue.assert_no_reply(rt, alloc, RECEIVE_ANY, flushes);
+    assert_at(rt, dialogue.replies.read, read, flushes);
 }
 
 #[test]
 fn the_writer_cannot_be_flushed(rt: HostRuntime) {
-    for flushes in 0..3 {
-        let mut dialogue = Dialogue::new(&rt, rt.alloc(), &[WELCOME, GOT, MESSAGE]);
-        dialogue.requests.flushes = flushes;
-        assert_eq!(rt; dialogue.run(&rt, rt.alloc(), RECEIVE_ANY), 1, "{flushes}");
-        assert!(rt; dialogue.screen.text() == NO_REPLY, "{flushes}");
-        let read = [0, 11, 22];
-        assert_eq!(rt; dialogue.replies.read, read[flushes], "{flushes}");
-    }
+    assert_ends_unflushed(&rt, rt.alloc(), 0, 0);
+    assert_ends_unflushed(&rt, rt.alloc(), 1, 11);
+    assert_ends_unflushed(&rt, rt.alloc(), 2, 22);
+}
+
+/// Asserts how a list ends if the screen fails after `room` bytes of `all`.
+fn assert_screen_fails(rt: &impl Abort, alloc: Global, room: usize, all: &[u8]) {
+    let mut dialogue = listed(rt, alloc);
+    dialogue.screen.good = room;
+    assert_at(rt, dialogue.run(rt, alloc, LIST), 1, room);
+    dialogue.assert_shown(rt, &all[..room.min(all.len())], room);
+}
+
+/// Asserts how a list ends if the screen, which shows `all`, cannot be flushed.
+fn assert_screen_is_unflushed(rt: &impl Abort, alloc: Global, all: &[u8]) {
+    let mut dialogue = listed(rt, alloc);
+    dialogue.screen.flushes = 0;
+    assert_is(rt, dialogue.run(rt, alloc, LIST), 1);
+    assert_is(rt, dialogue.screen.text(), all);
 }
 
 #[test]
 fn the_screen_fails(rt: HostRuntime) {
     let shown = joined(&rt, rt.alloc(), &[HEAD, LINE, WIDE_LINE]);
     for room in [0, 1, 54, 55, 56, 170] {
-        let mut dialogue = listed(&rt, rt.alloc());
-        dialogue.screen.good = room;
-        assert_eq!(rt; dialogue.run(&rt, rt.alloc(), LIST), 1, "{room}");
-        let text = shown.text();
-        assert!(rt;
-            dialogue.screen.text() == &text[..room.min(text.len())],
-            "{room}"
-        );
+        assert_screen_fails(&rt, rt.alloc(), room, shown.text());
     }
-    let mut dialogue = listed(&rt, rt.alloc());
-    dialogue.screen.flushes = 0;
-    assert_is(&rt, dialogue.run(&rt, rt.alloc(), LIST), 1);
-    assert_is(&rt, dialogue.screen.text(), shown.text());
+    assert_screen_is_unflushed(&rt, rt.alloc(), shown.text());
 }
 
 #[test]
@@ -708,7 +754,7 @@ fn keys(rt: HostRuntime) {
         (b"7 ", None),
     ];
     for (word, key) in table {
-        assert_eq!(rt; key_of(word), key, "{word:?}");
+        assert_at(&rt, key_of(word), key, word);
     }
 }
 
@@ -726,7 +772,7 @@ fn identifiers(rt: HostRuntime) {
         (b"\xff", None),
     ];
     for (word, id) in table {
-        assert_eq!(rt; id_of(word), id, "{word:?}");
+        assert_at(&rt, id_of(word), id, word);
     }
 }
 
@@ -743,6 +789,6 @@ fn types(rt: HostRuntime) {
         (b"", None),
     ];
     for (word, mtype) in table {
-        assert_eq!(rt; type_of(word), mtype, "{word:?}");
+        assert_at(&rt, type_of(word), mtype, word);
     }
 }

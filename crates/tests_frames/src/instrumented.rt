@@ -2,6 +2,7 @@
 use crate::parts::assert_is;
 use std::io;
 use std::io::{ErrorKind, Read, Write};
+use std::process::Abort;
 use sysv_model::{Instrumented, WriteFault};
 use tests_kit::Page;
 
@@ -51,11 +52,11 @@ fn each_failed_read_is_counted(rt: HostRuntime) {
         stalls: false,
     };
     let mut reader = Instrumented::new(&mut stream);
-    assert!(rt; matches!(reader.read(&mut bytes), Ok(1)));
+    assert_is(&rt, reader.read(&mut bytes).ok(), Some(1));
     assert_is(&rt, reader.failures(), 0);
-    assert!(rt; reader.read(&mut bytes).is_err());
+    assert_is(&rt, reader.read(&mut bytes).ok(), None);
     assert_is(&rt, reader.failures(), 1);
-    assert!(rt; reader.read(&mut bytes).is_err());
+    assert_is(&rt, reader.read(&mut bytes).ok(), None);
     assert_is(&rt, reader.failures(), 2);
 }
 
@@ -64,25 +65,29 @@ fn the_end_of_a_reader_is_no_failure(rt: HostRuntime) {
     let mut bytes = [0; 4];
     let mut stream = b"hi".as_slice();
     let mut reader = Instrumented::new(&mut stream);
-    assert!(rt; matches!(reader.read(&mut bytes), Ok(2)));
-    assert!(rt; matches!(reader.read(&mut bytes), Ok(0)));
+    assert_is(&rt, reader.read(&mut bytes).ok(), Some(2));
+    assert_is(&rt, reader.read(&mut bytes).ok(), Some(0));
     assert_is(&rt, reader.failures(), 0);
     assert_is(&rt, bytes, *b"hi\0\0");
 }
 
 #[test]
 fn each_failed_write_is_counted(rt: HostRuntime) {
-    for stalls in [false, true] {
-        let mut stream = Once {
-            is_over: false,
-            stalls,
-        };
-        let mut writer = Instrumented::new(&mut stream);
-        assert!(rt; matches!(writer.write(b"hi"), Ok(1)));
-        assert_is(&rt, writer.failures(), 0);
-        assert_is(&rt, writer.write(b"i").is_ok(), stalls);
-        assert_is(&rt, writer.failures(), 1);
-    }
+    assert_failed_write_is_counted(&rt, false);
+    assert_failed_write_is_counted(&rt, true);
+}
+
+/// Asserts that a write that fails, or that takes nothing, is counted.
+fn assert_failed_write_is_counted(rt: &impl Abort, stalls: bool) {
+    let mut stream = Once {
+        is_over: false,
+        stalls,
+    };
+    let mut writer = Instrumented::new(&mut stream);
+    assert_is(rt, writer.write(b"hi").ok(), Some(1));
+    assert_is(rt, writer.failures(), 0);
+    assert_is(rt, writer.write(b"i").is_ok(), stalls);
+    assert_is(rt, writer.failures(), 1);
 }
 
 #[test]
@@ -92,8 +97,8 @@ fn a_write_of_nothing_is_no_failure(rt: HostRuntime) {
         stalls: true,
     };
     let mut writer = Instrumented::new(&mut stream);
-    assert!(rt; matches!(writer.write(b""), Ok(0)));
-    assert!(rt; writer.flush().is_ok());
+    assert_is(&rt, writer.write(b"").ok(), Some(0));
+    assert_is(&rt, writer.flush().is_ok(), true);
     assert_is(&rt, writer.failures(), 0);
 }
 
@@ -104,7 +109,7 @@ fn a_failed_flush_is_counted(rt: HostRuntime) {
         stalls: false,
     };
     let mut writer = Instrumented::new(&mut stream);
-    assert!(rt; writer.flush().is_err());
+    assert_is(&rt, writer.flush().is_err(), true);
     assert_is(&rt, writer.failures(), 1);
 }
 
@@ -153,9 +158,9 @@ fn an_interrupted_read_is_not_tried_again(rt: HostRuntime) {
     let mut bytes = [0; 4];
     let mut stream = Interrupted { calls: 0 };
     let mut reader = Instrumented::new(&mut stream);
-    assert!(rt; is_interrupted(&reader.read(&mut bytes)));
+    assert_is(&rt, is_interrupted(&reader.read(&mut bytes)), true);
     assert_is(&rt, reader.failures(), 1);
-    assert!(rt; matches!(reader.read(&mut bytes), Ok(4)));
+    assert_is(&rt, reader.read(&mut bytes).ok(), Some(4));
     assert_is(&rt, reader.failures(), 1);
     assert_is(&rt, stream.calls, 2);
 }
@@ -164,9 +169,9 @@ fn an_interrupted_read_is_not_tried_again(rt: HostRuntime) {
 fn an_interrupted_write_is_not_tried_again(rt: HostRuntime) {
     let mut stream = Interrupted { calls: 0 };
     let mut writer = Instrumented::new(&mut stream);
-    assert!(rt; is_interrupted(&writer.write(b"hi")));
+    assert_is(&rt, is_interrupted(&writer.write(b"hi")), true);
     assert_is(&rt, writer.failures(), 1);
-    assert!(rt; matches!(writer.write(b"hi"), Ok(2)));
+    assert_is(&rt, writer.write(b"hi").ok(), Some(2));
     assert_is(&rt, writer.failures(), 1);
     assert_is(&rt, stream.calls, 2);
 }
@@ -175,9 +180,9 @@ fn an_interrupted_write_is_not_tried_again(rt: HostRuntime) {
 fn an_interrupted_flush_is_not_tried_again(rt: HostRuntime) {
     let mut stream = Interrupted { calls: 0 };
     let mut writer = Instrumented::new(&mut stream);
-    assert!(rt; is_interrupted(&writer.flush()));
+    assert_is(&rt, is_interrupted(&writer.flush()), true);
     assert_is(&rt, writer.failures(), 1);
-    assert!(rt; writer.flush().is_ok());
+    assert_is(&rt, writer.flush().is_ok(), true);
     assert_is(&rt, writer.failures(), 1);
     assert_is(&rt, stream.calls, 2);
 }

@@ -1,7 +1,7 @@
 //! The words of all calls: limits, errors, flags, bodies and selectors.
 mod growths;
 
-use crate::parts::{assert_holds, assert_is, open_body};
+use crate::parts::{assert_at, assert_holds, assert_is, open_body};
 use bitflags::Flags as Set;
 use std::alloc::Global;
 use std::process::Abort;
@@ -49,7 +49,7 @@ fn numbers_and_names(rt: HostRuntime) {
         (Errno::EOVERFLOW, 75, "EOVERFLOW"),
     ];
     for (error, number, name) in table {
-        assert_eq!(rt; error.number(), number, "{name}");
+        assert_at(&rt, error.number(), number, name);
         assert_is(&rt, printed(&rt, rt.alloc(), error).as_str(), name);
     }
 }
@@ -74,8 +74,8 @@ fn named_flags_have_their_numbers(rt: HostRuntime) {
     ];
     assert_is(&rt, Flags::flags().len(), table.len());
     for (flag, number, name) in table {
-        assert_eq!(rt; flag.bits(), number, "{name}");
-        assert_eq!(rt; Flags::from_name(name), Some(flag), "{name}");
+        assert_at(&rt, flag.bits(), number, name);
+        assert_at(&rt, Flags::from_name(name), Some(flag), name);
     }
 }
 
@@ -111,14 +111,10 @@ fn a_piece_is_added_whole_or_not_at_all(rt: HostRuntime) {
     for (held, piece, fits, left) in table {
         assert!(rt; held <= bytes.len() && piece <= bytes.len());
         body.clear();
-        assert_eq!(rt; body.len(), 0, "cleared before {held}");
-        assert!(rt; body.push_piece(&bytes[..held]));
-        assert_eq!(rt;
-            body.push_piece(&bytes[..piece]),
-            fits,
-            "{piece} after {held}"
-        );
-        assert_eq!(rt; body.len(), left, "{piece} after {held}");
+        assert_at(&rt, body.len(), 0, held);
+        assert_is(&rt, body.push_piece(&bytes[..held]), true);
+        assert_at(&rt, body.push_piece(&bytes[..piece]), fits, [held, piece]);
+        assert_at(&rt, body.len(), left, [held, piece]);
     }
 }
 
@@ -129,7 +125,7 @@ fn a_text_is_read_by_blocks(rt: HostRuntime) {
     assert!(rt; body.push_piece(&text));
     let table = [(0, 64), (1, 64), (2, 2), (3, 0), (u32::MAX, 0)];
     for (k, len) in table {
-        assert_eq!(rt; body.block(k).len(), len, "block {k}");
+        assert_at(&rt, body.block(k).len(), len, k);
     }
     assert_is(&rt, body.block(2), b"xx".as_slice());
 }
@@ -173,10 +169,7 @@ fn bytes_stand_in_order(rt: HostRuntime) {
     assert!(rt; body.push_piece(b"he"));
     assert!(rt; body.push_piece(b"llo"));
     assert_is(&rt, body.len(), 5);
-    for (i, byte) in [b'h', b'e', b'l', b'l', b'o'].into_iter().enumerate() {
-        assert!(rt; i < body.len());
-        assert_eq!(rt; body.byte(i), byte, "at {i}");
-    }
+    assert_holds(&rt, &body, b"hello");
 }
 
 #[test]
@@ -188,8 +181,8 @@ fn a_type_argument_asks_for_its_kind(rt: HostRuntime) {
         (i64::MIN, Selector::UpTo(9_223_372_036_854_775_808)),
     ];
     for (mtype, sel) in table {
-        assert_eq!(rt; Selector::of(mtype, Flags::IPC_NOWAIT), sel, "{mtype}");
-        assert_eq!(rt; Selector::of(mtype, Flags::MSG_EXCEPT), sel, "{mtype}");
+        assert_at(&rt, Selector::of(mtype, Flags::IPC_NOWAIT), sel, mtype);
+        assert_at(&rt, Selector::of(mtype, Flags::MSG_EXCEPT), sel, mtype);
     }
     for mtype in [1, 5, i64::MAX] {
         let exactly = Selector::of(mtype, Flags::IPC_NOWAIT);

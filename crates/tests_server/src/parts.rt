@@ -13,6 +13,21 @@ pub(crate) fn assert_is<T: PartialEq + Debug + Drop>(rt: &impl Abort, found: T, 
     assert_eq!(rt; found, wanted);
 }
 
+/// Asserts that the found value is the wanted value. A failure names the place.
+pub(crate) fn assert_at<T: PartialEq + Debug + Drop>(
+    rt: &impl Abort,
+    found: T,
+    wanted: T,
+    place: usize,
+) {
+    assert_eq!(rt; found, wanted, "{place}");
+}
+
+/// Asserts that this holds.
+pub(crate) fn assert_that(rt: &impl Abort, holds: bool) {
+    assert!(rt; holds);
+}
+
 /// Opens a pool with this number of blocks. Tolerates one refusal of memory.
 pub(crate) fn open_pool(rt: &impl Abort, alloc: Global, blocks: u32) -> Pool {
     tests_kit::open_pool(alloc, blocks).expect(rt, "a second try")
@@ -39,7 +54,7 @@ pub(crate) fn opened(rt: &impl Abort, alloc: Global, blocks: u32, first: u64) ->
     match Service::open_at(alloc, blocks, first, 0) {
         Ok(opened) => opened,
         Err(why) => {
-            assert_eq!(rt; why, OpenRefused::NoMemory);
+            assert_is(rt, why, OpenRefused::NoMemory);
             match Service::open_at(alloc, blocks, first, 0) {
                 Ok(opened) => opened,
                 Err(why) => panic!(rt; "a second try: {why:?}"),

@@ -1,5 +1,5 @@
 //! Connections that never wait, in memory and on a pair of sockets.
-use crate::parts::assert_is;
+use crate::parts::{assert_is, assert_that};
 use std::alloc::Global;
 use std::io::{Read, Write};
 use std::net::Net;
@@ -43,12 +43,12 @@ fn socket<R: Net + Abort>(rt: &R) -> (SocketStream, UnixStream) {
 fn pieces_with_nothing_between(rt: HostRuntime) {
     let steps = [Step::AtMost(3), Step::AtMost(0), Step::AtMost(2)];
     let mut stream = memory(&rt, rt.alloc(), b"abcdefghijk", &steps, &[]);
-    assert!(rt; gives(&mut stream, b"abc"));
+    assert_that(&rt, gives(&mut stream, b"abc"));
     assert_is(&rt, reads(&mut stream), Filled::NothingNow);
-    assert!(rt; gives(&mut stream, b"de"));
-    assert!(rt; gives(&mut stream, b"fghi"));
+    assert_that(&rt, gives(&mut stream, b"de"));
+    assert_that(&rt, gives(&mut stream, b"fghi"));
     assert_is(&rt, stream.fill(&mut []), Filled::NothingNow);
-    assert!(rt; gives(&mut stream, b"jk"));
+    assert_that(&rt, gives(&mut stream, b"jk"));
     assert_is(&rt, reads(&mut stream), Filled::Over(Over::End));
     assert_is(&rt, reads(&mut stream), Filled::Over(Over::End));
 }
@@ -64,14 +64,16 @@ fn parts_of_a_write(rt: HostRuntime) {
     assert_is(&rt, stream.drain(b"fg"), Drained::Took(1));
     assert_is(&rt, stream.drain(b"g"), Drained::NothingNow);
     assert_is(&rt, stream.written(), b"abcdef".as_slice());
-    let mut book = Replies::with_room(rt.alloc(), 1).expect(&rt, "memory");
+    assert_keeps(&rt, rt.alloc(), stream, b"abcdef");
+}
+
+/// Closes the connection, and asserts that its book has these bytes alone.
+fn assert_keeps(rt: &impl Abort, alloc: Global, stream: MemoryStream<'_>, bytes: &[u8]) {
+    let mut book = Replies::with_room(alloc, 1).expect(rt, "memory");
     stream.close(&mut book);
     let kept = book.kept();
-    assert_eq!(rt; kept.len(), 1);
-    assert!(rt;
-        kept.iter()
-            .all(|bytes| bytes.as_slice() == b"abcdef".as_slice())
-    );
+    assert_is(rt, kept.len(), 1);
+    assert_that(rt, kept.iter().all(|reply| reply.as_slice() == bytes));
 }
 
 // After a read or a write has failed, each later one fails. The other direction goes on.
@@ -79,7 +81,7 @@ fn parts_of_a_write(rt: HostRuntime) {
 fn failures_stay(rt: HostRuntime) {
     let steps = [Step::AtMost(1), Step::Fail];
     let mut stream = memory(&rt, rt.alloc(), b"abc", &steps, &steps);
-    assert!(rt; gives(&mut stream, b"a"));
+    assert_that(&rt, gives(&mut stream, b"a"));
     assert_is(&rt, reads(&mut stream), Filled::Over(Over::Failed));
     assert_is(&rt, reads(&mut stream), Filled::Over(Over::Failed));
     assert_is(&rt, stream.drain(b"xyz"), Drained::Took(1));
@@ -95,17 +97,17 @@ fn failures_stay(rt: HostRuntime) {
 #[test]
 fn a_socket_that_ends(rt: HostRuntime) {
     let (mut stream, mut client) = socket(&rt);
-    assert!(rt; stream.as_raw_fd() >= 0);
+    assert_that(&rt, stream.as_raw_fd() >= 0);
     assert_is(&rt, reads(&mut stream), Filled::NothingNow);
-    client.write_all(b"abcdef").expect(&rt, "a write");
-    assert!(rt; gives(&mut stream, b"abcd"));
+    assert_that(&rt, client.write_all(b"abcdef").is_ok());
+    assert_that(&rt, gives(&mut stream, b"abcd"));
     assert_is(&rt, stream.fill(&mut []), Filled::NothingNow);
-    assert!(rt; gives(&mut stream, b"ef"));
+    assert_that(&rt, gives(&mut stream, b"ef"));
     assert_is(&rt, reads(&mut stream), Filled::NothingNow);
     assert_is(&rt, stream.drain(b"xyz"), Drained::Took(3));
     assert_is(&rt, stream.drain(b""), Drained::NothingNow);
     let mut reply = [0u8; 3];
-    client.read_exact(&mut reply).expect(&rt, "a read");
+    assert_that(&rt, client.read_exact(&mut reply).is_ok());
     assert_is(&rt, &reply, b"xyz");
     drop(client);
     assert_is(&rt, reads(&mut stream), Filled::Over(Over::End));
@@ -118,10 +120,10 @@ fn a_socket_that_ends(rt: HostRuntime) {
 #[test]
 fn a_socket_that_is_reset(rt: HostRuntime) {
     let (mut stream, mut client) = socket(&rt);
-    client.write_all(b"ab").expect(&rt, "a write");
+    assert_that(&rt, client.write_all(b"ab").is_ok());
     assert_is(&rt, stream.drain(b"xyz"), Drained::Took(3));
     drop(client);
-    assert!(rt; gives(&mut stream, b"ab"));
+    assert_that(&rt, gives(&mut stream, b"ab"));
     assert_is(&rt, reads(&mut stream), Filled::Over(Over::Reset));
     assert_is(&rt, reads(&mut stream), Filled::Over(Over::Reset));
     assert_is(&rt, stream.drain(b"x"), Drained::Failed);

@@ -5,6 +5,7 @@ use super::{
     WHOLE, Wanted, assert_done, is_between_requests, opened, wanted_after, wanted_at_failure,
     whole_requests,
 };
+use crate::parts::assert_is;
 use std::alloc::Global;
 use std::process::Abort;
 use std::sync::Wait;
@@ -61,6 +62,22 @@ struct Stream<'a> {
     writes: &'a [Step],
 }
 
+/// Returns the tools of a worker.
+fn tools(rt: &impl Abort, alloc: Global) -> Tools {
+    Tools::open(alloc).expect(rt, "memory")
+}
+
+/// Returns the client of this connection.
+fn client<'a>(rt: &impl Abort, alloc: Global, stream: Stream<'a>) -> Client<MemoryStream<'a>> {
+    let Stream {
+        input,
+        reads,
+        writes,
+    } = stream;
+    let connection = MemoryStream::new(alloc, input, ROOM, reads, writes).expect(rt, "memory");
+    Client::open(alloc, connection)
+}
+
 /// Serves the client of this connection on a new service until it is over. Returns what its session
 /// did, and what is left of the service.
 fn served<R: Abort + Wait>(
@@ -69,18 +86,11 @@ fn served<R: Abort + Wait>(
     stream: Stream<'_>,
     book: &mut Replies,
 ) -> (Served, Closed) {
-    let Stream {
-        input,
-        reads,
-        writes,
-    } = stream;
     let (service, pass) = opened(rt, alloc);
     let mut handler = ServiceHandler::new(rt, &service, &ZERO, pass);
-    let mut tools = Tools::open(alloc).expect(rt, "memory");
-    let connection = MemoryStream::new(alloc, input, ROOM, reads, writes).expect(rt, "memory");
-    let mut client = Client::open(alloc, connection);
-    take_turns(&mut handler, &mut tools, &mut client);
-    assert!(rt; client.is_over());
+    let mut client = client(rt, alloc, stream);
+    take_turns(&mut handler, &mut tools(rt, alloc), &mut client);
+    assert_is(rt, client.is_over(), true);
     let told = client.close(book);
     let pass = handler.into_pass();
     (told, service.close(pass))

@@ -5,6 +5,7 @@ use super::{
     WHOLE, Wanted, assert_done, is_between_requests, opened, wanted_after, wanted_at_failure,
     whole_requests,
 };
+use crate::parts::assert_is;
 use std::alloc::Global;
 use std::process::Abort;
 use std::sync::Wait;
@@ -14,6 +15,14 @@ use sysv_session::{End, Served, Texts};
 use sysv_wire::Fault;
 use tests_kit::worked::{ANSWERS, SESSION};
 use tests_kit::{Page, Pieces};
+
+/// Returns the texts of a session. Tolerates one refusal of memory.
+fn texts(rt: &impl Abort, alloc: Global) -> Texts {
+    match Texts::open(alloc) {
+        Ok(texts) => texts,
+        Err(_) => Texts::open(alloc).expect(rt, "a second try"),
+    }
+}
 
 /// Runs the session, and asserts that each stream has failed if and only if the end says so.
 fn serve<R: Abort + Wait>(
@@ -25,20 +34,16 @@ fn serve<R: Abort + Wait>(
 ) -> Served
     ensures { handler.new.service ≡ handler.old.service }
 {
-    let mut texts = match Texts::open(alloc) {
-        Ok(texts) => texts,
-        Err(_) => Texts::open(alloc).expect(rt, "a second try"),
-    };
     let mut reader = Instrumented::new(reader);
     let mut page = Instrumented::new(page);
-    let told = handler.serve_instrumented(&mut texts, &mut reader, &mut page);
+    let told = handler.serve_instrumented(&mut texts(rt, alloc), &mut reader, &mut page);
     let failures = (reader.failures(), page.failures());
     let wanted = match told.end {
         End::Fault(Fault::Read) => (1, 0),
         End::Write => (0, 1),
         _ => (0, 0),
     };
-    assert_eq!(rt; failures, wanted);
+    assert_is(rt, failures, wanted);
     told
 }
 

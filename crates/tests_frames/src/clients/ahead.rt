@@ -47,7 +47,7 @@ fn dialogue_of(rt: &impl Abort, alloc: Global, messages: u64) -> Dialogue {
 }
 
 /// Returns the requests of a session with this number of receives.
-fn requested(rt: &impl Abort, alloc: Global, receives: u64) -> Tape {
+pub(super) fn requested(rt: &impl Abort, alloc: Global, receives: u64) -> Tape {
     let mut tape = joined(rt, alloc, &[HELLO, GET]);
     for _ in 0..receives {
         tape.put(RECEIVE);
@@ -56,12 +56,27 @@ fn requested(rt: &impl Abort, alloc: Global, receives: u64) -> Tape {
 }
 
 /// Returns what a screen shows of this number of messages.
-fn shown(rt: &impl Abort, alloc: Global, messages: u64) -> Tape {
+pub(super) fn shown(rt: &impl Abort, alloc: Global, messages: u64) -> Tape {
     let mut tape = Tape::new(rt, alloc);
     for _ in 0..messages {
         tape.put(b"abc\n");
     }
     tape
+}
+
+/// Asserts that so many messages were received, whose requests were flushed so often.
+fn assert_received(
+    rt: &impl Abort,
+    alloc: Global,
+    dialogue: &Dialogue,
+    count: u64,
+    flushes: usize,
+) {
+    dialogue.assert_requested(rt, requested(rt, alloc, count).text(), count);
+    assert_at(rt, dialogue.requests.flushed, flushes.min(9) + 2, count);
+    dialogue.assert_shown(rt, shown(rt, alloc, count).text(), count);
+    assert_at(rt, dialogue.screen.flushed as u64, count, count);
+    assert_is(rt, dialogue.replies.read, dialogue.replies.len());
 }
 
 #[test]
@@ -81,25 +96,10 @@ fn receives_are_requested_in_a_window(rt: HostRuntime) {
     for (count, ahead, flushes) in table {
         let mut dialogue = dialogue_of(&rt, rt.alloc(), count);
         let outcome = receive(&mut dialogue, rt.alloc(), count, ahead);
-        if outcome == NO_MEMORY {
-            return;
+        if outcome != NO_MEMORY {
+            assert_at(&rt, outcome, Ok(()), count);
+            assert_received(&rt, rt.alloc(), &dialogue, count, flushes);
         }
-        assert!(rt; outcome.is_ok(), "{count}, {ahead}");
-        assert!(rt;
-            dialogue.requests.text() == requested(&rt, rt.alloc(), count).text(),
-            "{count}"
-        );
-        assert_eq!(rt;
-            dialogue.requests.flushed,
-            flushes.min(9) + 2,
-            "{count}, {ahead}"
-        );
-        assert!(rt;
-            dialogue.screen.text() == shown(&rt, rt.alloc(), count).text(),
-            "{count}"
-        );
-        assert_eq!(rt; dialogue.screen.flushed as u64, count, "{count}");
-        assert_is(&rt, dialogue.replies.read, dialogue.replies.len());
     }
 }
 
@@ -117,15 +117,11 @@ fn no_more_than_a_window_is_requested(rt: HostRuntime) {
         // (there is no reply to a receive)
         let mut dialogue = dialogue_of(&rt, rt.alloc(), 0);
         let outcome = receive(&mut dialogue, rt.alloc(), count, ahead);
-        if outcome == NO_MEMORY {
-            return;
+        if outcome != NO_MEMORY {
+            assert_at(&rt, outcome, Err(Stop::Fault(ClientFault::NoReply)), count);
+            let wanted = requested(&rt, rt.alloc(), requests);
+            dialogue.assert_requested(&rt, wanted.text(), ahead);
         }
-        assert_is(&rt, outcome, Err(Stop::Fault(ClientFault::NoReply)));
-        let wanted = requested(&rt, rt.alloc(), requests);
-        assert!(rt;
-            dialogue.requests.text() == wanted.text(),
-            "{count}, {ahead}"
-        );
     }
 }
 
@@ -151,6 +147,31 @@ fn a_receive_that_does_not_wait_is_alone(rt: HostRuntime) {
     assert_is(&rt, dialogue.replies.read, read);
 }
 
+/// Asserts that a client with these replies is refused with this error, and shows so many messages.
+fn assert_shown_after(
+    rt: &impl Abort,
+    alloc: Global,
+    replies: &[&[u8]],
+    error: Errno,
+    messages: u64,
+) {
+    let mut dialogue = dialogue_of(rt, alloc, 0);
+    for reply in replies {
+        dialogue.replies.put(reply);
+    }
+    let outcome = receive(&mut dialogue, alloc, 99, 4);
+    if outcome != NO_MEMORY {
+        assert_is(rt, outcome, Err(Stop::Fault(ClientFault::Refused(error))));
+        assert_is(rt, dialogue.requests.text(), requested(rt, alloc, 4).text());
+        assert_is(
+            rt,
+            dialogue.screen.text(),
+            shown(rt, alloc, messages).text(),
+        );
+        assert_is(rt, dialogue.replies.read, dialogue.replies.len());
+    }
+}
+
 #[test]
 fn messages_that_come_after_a_refusal_are_shown(rt: HostRuntime) {
     let table: [(&[&[u8]], Errno, u64); 4] = [
@@ -161,26 +182,20 @@ fn messages_that_come_after_a_refusal_are_shown(rt: HostRuntime) {
         (&[MESSAGE, TOO_BIG, MESSAGE], Errno::E2BIG, 2),
     ];
     for (replies, error, messages) in table {
-        let mut dialogue = dialogue_of(&rt, rt.alloc(), 0);
-        for reply in replies {
-            dialogue.replies.put(reply);
-        }
-        let outcome = receive(&mut dialogue, rt.alloc(), 99, 4);
-        if outcome == NO_MEMORY {
-            return;
-        }
-        assert_is(&rt, outcome, Err(Stop::Fault(ClientFault::Refused(error))));
-        assert_is(
-            &rt,
-            dialogue.requests.text(),
-            requested(&rt, rt.alloc(), 4).text(),
-        );
-        assert_is(
-            &rt,
-            dialogue.screen.text(),
-            shown(&rt, rt.alloc(), messages).text(),
-        );
-        assert_is(&rt, dialogue.replies.read, dialogue.replies.len());
+        assert_shown_after(&rt, rt.alloc(), replies, error, messages);
+    }
+}
+
+/// Receives with four requests ahead, by a writer that fails after `room` bytes.
+fn receive_within(dialogue: &mut Dialogue, alloc: Global, room: usize) -> Result<(), Stop> {
+    dialogue.requests.good = room;
+    receive(dialogue, alloc, 99, 4)
+}
+
+impl Dialogue {
+    /// Asserts that the first `room` bytes of `all` were requested.
+    fn assert_requested_within(&self, rt: &impl Abort, all: &[u8], room: usize) {
+        assert!(rt; Some(self.requests.text()) == all.get(..room), "{room}");
     }
 }
 
@@ -196,21 +211,12 @@ fn messages_on_their_way_are_shown_if_the_writer_fails(rt: HostRuntime) {
         for room in sent..sent + 2 * RECEIVE.len() {
             let mut dialogue = dialogue_of(&rt, rt.alloc(), 3);
             dialogue.replies.put(reply);
-            dialogue.requests.good = room;
-            let outcome = receive(&mut dialogue, rt.alloc(), 99, 4);
-            if outcome == NO_MEMORY {
-                return;
+            let outcome = receive_within(&mut dialogue, rt.alloc(), room);
+            if outcome != NO_MEMORY {
+                assert_at(&rt, outcome, Err(Stop::Fault(fault)), room);
+                dialogue.assert_requested_within(&rt, requested(&rt, rt.alloc(), 6).text(), room);
+                dialogue.assert_shown(&rt, shown(&rt, rt.alloc(), messages).text(), room);
             }
-            assert!(rt; outcome == Err(Stop::Fault(fault)), "{room}");
-            let all = requested(&rt, rt.alloc(), 6);
-            assert!(rt;
-                Some(dialogue.requests.text()) == all.text().get(..room),
-                "{room}"
-            );
-            assert!(rt;
-                dialogue.screen.text() == shown(&rt, rt.alloc(), messages).text(),
-                "{room}"
-            );
         }
     }
 }
@@ -220,18 +226,12 @@ fn the_writer_fails_before_a_receive_is_on_its_way(rt: HostRuntime) {
     let begun = HELLO.len() + GET.len();
     for room in begun..begun + 4 * RECEIVE.len() {
         let mut dialogue = dialogue_of(&rt, rt.alloc(), 4);
-        dialogue.requests.good = room;
-        let outcome = receive(&mut dialogue, rt.alloc(), 99, 4);
-        if outcome == NO_MEMORY {
-            return;
+        let outcome = receive_within(&mut dialogue, rt.alloc(), room);
+        if outcome != NO_MEMORY {
+            assert_at(&rt, outcome, Err(Stop::Fault(ClientFault::NoReply)), room);
+            dialogue.assert_requested_within(&rt, requested(&rt, rt.alloc(), 4).text(), room);
+            assert_at(&rt, dialogue.replies.read, WELCOME.len() + GOT.len(), room);
         }
-        assert!(rt; outcome == Err(Stop::Fault(ClientFault::NoReply)), "{room}");
-        let all = requested(&rt, rt.alloc(), 4);
-        assert!(rt;
-            Some(dialogue.requests.text()) == all.text().get(..room),
-            "{room}"
-        );
-        assert_eq!(rt; dialogue.replies.read, WELCOME.len() + GOT.len(), "{room}");
     }
 }
 
@@ -241,20 +241,20 @@ fn a_screen_that_fails_ends_the_receives_on_their_way(rt: HostRuntime) {
         let mut dialogue = dialogue_of(&rt, rt.alloc(), 9);
         dialogue.screen.good = room;
         let outcome = receive(&mut dialogue, rt.alloc(), 9, 4);
-        if outcome == NO_MEMORY {
-            return;
+        if outcome != NO_MEMORY {
+            assert_at(&rt, outcome, Err(Stop::Screen), room);
+            dialogue.assert_requested(&rt, requested(&rt, rt.alloc(), 4).text(), room);
+            dialogue.assert_shown(&rt, &b"abc\nabc\n"[..room], room);
         }
-        assert!(rt; outcome == Err(Stop::Screen), "{room}");
-        assert!(rt;
-            dialogue.requests.text() == requested(&rt, rt.alloc(), 4).text(),
-            "{room}"
-        );
-        assert!(rt; dialogue.screen.text() == &b"abc\nabc\n"[..room], "{room}");
     }
-    // (also at a message after a refusal)
-    let mut dialogue = Dialogue::new(&rt, rt.alloc(), &[WELCOME, GOT, TOO_BIG, MESSAGE, MESSAGE]);
+    assert_screen_fails_after_a_refusal(&rt, rt.alloc());
+}
+
+/// Asserts that a screen that fails at a message after a refusal ends the receives.
+fn assert_screen_fails_after_a_refusal(rt: &impl Abort, alloc: Global) {
+    let mut dialogue = Dialogue::new(rt, alloc, &[WELCOME, GOT, TOO_BIG, MESSAGE, MESSAGE]);
     dialogue.screen.good = 6;
-    let outcome = receive(&mut dialogue, rt.alloc(), 9, 4);
+    let outcome = receive(&mut dialogue, alloc, 9, 4);
     assert!(rt; outcome == NO_MEMORY || outcome == Err(Stop::Screen));
     assert!(rt; outcome == NO_MEMORY || dialogue.screen.text() == b"abc\nab".as_slice());
 }

@@ -1,4 +1,5 @@
 //! What the options and the further commands of clients request and show.
+use super::ahead::{requested, shown};
 use super::*;
 use sysv_clients::{ClientFault, Making, Receiving, Stop, receive_all, receive_instrumented};
 use sysv_model::{Errno, Instrumented, MESSAGE_BYTES};
@@ -34,19 +35,16 @@ fn a_message_is_shown_as_the_options_say(rt: HostRuntime) {
         (false, Form::Object, 0, b"{\"type\":-3,\"body\":\"\"}\n"),
     ];
     for (show_type, form, size, shown) in table {
-        let mut dialogue = Dialogue::new(&rt, rt.alloc(), &[WELCOME, GOT, ODD]);
         let receipt = Receipt {
             show_type,
             form,
             size,
             ..ANY
         };
-        assert_is(
-            &rt,
-            dialogue.run(&rt, rt.alloc(), Task::Receive(receipt)),
-            0,
-        );
-        assert!(rt; dialogue.screen.text() == shown, "{size}");
+        let mut dialogue = Dialogue::new(&rt, rt.alloc(), &[WELCOME, GOT, ODD]);
+        let status = dialogue.run(&rt, rt.alloc(), Task::Receive(receipt));
+        assert_is(&rt, status, 0);
+        dialogue.assert_shown(&rt, shown, size);
     }
 }
 
@@ -141,7 +139,6 @@ fn a_receive_may_except_a_type_and_create_the_queue(rt: HostRuntime) {
         (false, GET, false, true, b"\0\0\x10\0"),
     ];
     for (create, get, except, noerror, flags) in table {
-        let mut dialogue = Dialogue::new(&rt, rt.alloc(), &[WELCOME, GOT, MESSAGE]);
         let receipt = Receipt {
             create,
             mode: 0o640,
@@ -149,13 +146,10 @@ fn a_receive_may_except_a_type_and_create_the_queue(rt: HostRuntime) {
             noerror,
             ..ANY
         };
-        assert_is(
-            &rt,
-            dialogue.run(&rt, rt.alloc(), Task::Receive(receipt)),
-            0,
-        );
-        let wanted = joined(&rt, rt.alloc(), &[HELLO, get, WANTS, flags]);
-        assert_is(&rt, dialogue.requests.text(), wanted.text());
+        let mut dialogue = Dialogue::new(&rt, rt.alloc(), &[WELCOME, GOT, MESSAGE]);
+        let status = dialogue.run(&rt, rt.alloc(), Task::Receive(receipt));
+        assert_is(&rt, status, 0);
+        dialogue.assert_requests(&rt, rt.alloc(), &[HELLO, get, WANTS, flags]);
     }
 }
 
@@ -204,26 +198,32 @@ fn a_queue_is_made(rt: HostRuntime) {
         mode: 0o640,
         qbytes: None,
     };
-    let mut dialogue = Dialogue::new(&rt, rt.alloc(), &[WELCOME, GOT]);
-    assert_is(&rt, dialogue.run(&rt, rt.alloc(), Task::Make(making)), 0);
-    assert_is(
-        &rt,
-        dialogue.requests.text(),
-        joined(&rt, rt.alloc(), &[HELLO, get]).text(),
-    );
-    assert_is(&rt, dialogue.screen.text(), b"64\n".as_slice());
+    assert_makes(&rt, rt.alloc(), making, &[WELCOME, GOT], &[HELLO, get]);
     let limited = Making {
         qbytes: Some(99),
         ..making
     };
-    let mut dialogue = Dialogue::new(&rt, rt.alloc(), &[WELCOME, GOT, done]);
-    assert_is(&rt, dialogue.run(&rt, rt.alloc(), Task::Make(limited)), 0);
-    assert_is(
+    assert_makes(
         &rt,
-        dialogue.requests.text(),
-        joined(&rt, rt.alloc(), &[HELLO, get, set]).text(),
+        rt.alloc(),
+        limited,
+        &[WELCOME, GOT, done],
+        &[HELLO, get, set],
     );
-    assert_is(&rt, dialogue.screen.text(), b"64\n".as_slice());
+}
+
+/// Asserts what is requested to make a queue, whose identifier, 64, is shown.
+fn assert_makes(
+    rt: &impl Abort,
+    alloc: Global,
+    making: Making,
+    replies: &[&[u8]],
+    requests: &[&[u8]],
+) {
+    let mut dialogue = Dialogue::new(rt, alloc, replies);
+    assert_is(rt, dialogue.run(rt, alloc, Task::Make(making)), 0);
+    dialogue.assert_requests(rt, alloc, requests);
+    assert_is(rt, dialogue.screen.text(), b"64\n".as_slice());
 }
 
 impl Dialogue {
@@ -256,21 +256,20 @@ fn each_of_several_messages_is_shown_as_it_comes(rt: HostRuntime) {
         if dialogue.receive(rt.alloc(), count).is_err() {
             assert_is(
                 &rt,
-                (dialogue.requests.len(), dialogue.screen.len()),
-                (0, 0),
+                [dialogue.requests.len(), dialogue.screen.len()],
+                [0, 0],
             );
-            return;
+        } else {
+            assert_shows(&rt, rt.alloc(), &dialogue, count);
         }
-        let mut asked = joined(&rt, rt.alloc(), &[HELLO, GET]);
-        let mut shown = Tape::new(&rt, rt.alloc());
-        for _ in 0..count {
-            asked.put(RECEIVE);
-            shown.put(b"abc\n");
-        }
-        assert!(rt; dialogue.requests.text() == asked.text(), "{count}");
-        assert!(rt; dialogue.screen.text() == shown.text(), "{count}");
-        assert!(rt; dialogue.screen.flushed as u64 == count, "{count}");
     }
+}
+
+/// Asserts that a client requested and showed this number of messages.
+fn assert_shows(rt: &impl Abort, alloc: Global, dialogue: &Dialogue, count: u64) {
+    dialogue.assert_requested(rt, requested(rt, alloc, count).text(), count);
+    dialogue.assert_shown(rt, shown(rt, alloc, count).text(), count);
+    assert_at(rt, dialogue.screen.flushed as u64, count, count);
 }
 
 #[test]
@@ -283,12 +282,11 @@ fn only_the_messages_before_a_fault_are_shown(rt: HostRuntime) {
     for (last, fault) in table {
         let mut dialogue = Dialogue::new(&rt, rt.alloc(), &[WELCOME, GOT, MESSAGE, MESSAGE, last]);
         let outcome = dialogue.receive(rt.alloc(), u64::MAX);
-        if outcome == Err(Stop::Fault(ClientFault::NoMemory)) {
-            return;
+        if outcome != Err(Stop::Fault(ClientFault::NoMemory)) {
+            assert_is(&rt, outcome, Err(Stop::Fault(fault)));
+            assert_is(&rt, dialogue.screen.text(), b"abc\nabc\n".as_slice());
+            assert_is(&rt, Stop::Fault(fault).line(), fault.line());
         }
-        assert_is(&rt, outcome, Err(Stop::Fault(fault)));
-        assert_is(&rt, dialogue.screen.text(), b"abc\nabc\n".as_slice());
-        assert_is(&rt, Stop::Fault(fault).line(), fault.line());
     }
     assert!(rt; Stop::Screen.line().is_empty());
 }
@@ -302,19 +300,23 @@ fn a_screen_that_fails_ends_the_receives(rt: HostRuntime) {
             &[WELCOME, GOT, MESSAGE, MESSAGE, MESSAGE],
         );
         dialogue.screen.good = room;
-        assert!(rt; dialogue.receive(rt.alloc(), 3).is_err());
-        if dialogue.requests.len() == 0 {
-            return;
+        assert_is(&rt, dialogue.receive(rt.alloc(), 3).is_err(), true);
+        if dialogue.requests.len() != 0 {
+            dialogue.assert_requests(&rt, rt.alloc(), &[HELLO, GET, RECEIVE, RECEIVE]);
+            dialogue.assert_shown(&rt, &b"abc\nabc\n"[..room], room);
         }
-        let asked = joined(&rt, rt.alloc(), &[HELLO, GET, RECEIVE, RECEIVE]);
-        assert!(rt; dialogue.requests.text() == asked.text(), "{room}");
-        assert!(rt; dialogue.screen.text() == &b"abc\nabc\n"[..room], "{room}");
     }
-    let mut dialogue = Dialogue::new(&rt, rt.alloc(), &[WELCOME, GOT, MESSAGE, MESSAGE]);
+    assert_unflushed_screen_ends(&rt, rt.alloc());
+}
+
+/// Asserts that a screen that cannot be flushed ends the receives at its first message.
+fn assert_unflushed_screen_ends(rt: &impl Abort, alloc: Global) {
+    let mut dialogue = Dialogue::new(rt, alloc, &[WELCOME, GOT, MESSAGE, MESSAGE]);
     dialogue.screen.flushes = 0;
-    assert!(rt; dialogue.receive(rt.alloc(), 2).is_err());
-    let asked = joined(&rt, rt.alloc(), &[HELLO, GET, RECEIVE]);
-    assert!(rt; dialogue.requests.len() == 0 || dialogue.requests.text() == asked.text());
+    assert_is(rt, dialogue.receive(alloc, 2).is_err(), true);
+    if dialogue.requests.len() != 0 {
+        dialogue.assert_requests(rt, alloc, &[HELLO, GET, RECEIVE]);
+    }
 }
 
 #[test]

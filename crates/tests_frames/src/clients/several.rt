@@ -54,6 +54,15 @@ fn put_send(asked: &mut Tape, text: &[u8]) {
     asked.put(text);
 }
 
+/// Returns the requests of a session that sends these texts, which are short.
+fn sends_of(rt: &impl Abort, alloc: Global, texts: &[&[u8]]) -> Tape {
+    let mut asked = joined(rt, alloc, &[HELLO, MAKE]);
+    for text in texts {
+        put_send(&mut asked, text);
+    }
+    asked
+}
+
 #[test]
 fn each_line_is_a_message(rt: HostRuntime) {
     // (the two lines that end in one piece of the last input are flushed together)
@@ -66,21 +75,27 @@ fn each_line_is_a_message(rt: HostRuntime) {
         (b"\0\xff\n\nbc\n", &[b"\0\xff", b"", b"bc"], 2),
     ];
     for (lines, texts, flushes) in table {
-        let mut input = joined(&rt, rt.alloc(), &[lines]);
-        input.piece = 2;
-        let mut dialogue = Dialogue::new(&rt, rt.alloc(), &[WELCOME, GOT, SENT, SENT, SENT]);
-        let ended = send(&mut dialogue, rt.alloc(), &mut input);
-        if ended == NO_MEMORY {
-            return;
-        }
-        assert!(rt; ended.is_empty());
-        let mut asked = joined(&rt, rt.alloc(), &[HELLO, MAKE]);
-        for text in texts {
-            put_send(&mut asked, text);
-        }
-        assert!(rt; dialogue.requests.text() == asked.text(), "{lines:?}");
-        assert_is(&rt, dialogue.requests.flushed, flushes.min(9) + 2);
-        assert_is(&rt, input.read, lines.len());
+        assert_lines_are_sent(&rt, rt.alloc(), lines, texts, flushes);
+    }
+}
+
+/// Asserts that these lines are sent as these messages, which are flushed so often.
+fn assert_lines_are_sent(
+    rt: &impl Abort,
+    alloc: Global,
+    lines: &[u8],
+    texts: &[&[u8]],
+    flushes: usize,
+) {
+    let mut input = joined(rt, alloc, &[lines]);
+    input.piece = 2;
+    let mut dialogue = Dialogue::new(rt, alloc, &[WELCOME, GOT, SENT, SENT, SENT]);
+    let ended = send(&mut dialogue, alloc, &mut input);
+    if ended != NO_MEMORY {
+        assert_is(rt, ended, "");
+        dialogue.assert_requested(rt, sends_of(rt, alloc, texts).text(), lines);
+        assert_is(rt, dialogue.requests.flushed, flushes.min(9) + 2);
+        assert_is(rt, input.read, lines.len());
     }
 }
 
@@ -93,16 +108,14 @@ fn a_line_of_8192_bytes_is_sent(rt: HostRuntime) {
         let mut input = joined(&rt, rt.alloc(), &[b"a\n", text, end]);
         let mut dialogue = Dialogue::new(&rt, rt.alloc(), &[WELCOME, GOT, SENT, SENT]);
         let ended = send(&mut dialogue, rt.alloc(), &mut input);
-        if ended == NO_MEMORY {
-            return;
+        if ended != NO_MEMORY {
+            assert_is(&rt, ended, "");
+            let mut asked = sends_of(&rt, rt.alloc(), &[b"a"]);
+            asked.put(b"\0\0\x20\x12");
+            asked.put(SENDS);
+            asked.put(text);
+            assert_is(&rt, dialogue.requests.text(), asked.text());
         }
-        assert!(rt; ended.is_empty());
-        let mut asked = joined(&rt, rt.alloc(), &[HELLO, MAKE]);
-        put_send(&mut asked, b"a");
-        asked.put(b"\0\0\x20\x12");
-        asked.put(SENDS);
-        asked.put(text);
-        assert_is(&rt, dialogue.requests.text(), asked.text());
     }
 }
 
@@ -115,33 +128,31 @@ fn a_longer_line_is_not_sent(rt: HostRuntime) {
         let mut input = joined(&rt, rt.alloc(), &[b"a\n", text, end]);
         let mut dialogue = Dialogue::new(&rt, rt.alloc(), &[WELCOME, GOT, SENT, SENT]);
         let ended = send(&mut dialogue, rt.alloc(), &mut input);
-        if ended == NO_MEMORY {
-            return;
+        if ended != NO_MEMORY {
+            assert_is(&rt, ended, "sysvmsg: EINVAL\n");
+            let asked = sends_of(&rt, rt.alloc(), &[b"a"]);
+            assert_is(&rt, dialogue.requests.text(), asked.text());
         }
-        assert_is(&rt, ended, "sysvmsg: EINVAL\n");
-        let mut asked = joined(&rt, rt.alloc(), &[HELLO, MAKE]);
-        put_send(&mut asked, b"a");
-        assert_is(&rt, dialogue.requests.text(), asked.text());
     }
 }
 
 #[test]
 fn nothing_is_sent_after_a_fault(rt: HostRuntime) {
-    let table: [(&[u8], &str); 2] = [(UNSENT, "sysvmsg: EPERM\n"), (b"", "sysvmsg: no reply\n")];
-    for (reply, line) in table {
-        let mut input = joined(&rt, rt.alloc(), &[b"a\nb\nc\n"]);
-        // (each read returns one line)
-        input.piece = 2;
-        let mut dialogue = Dialogue::new(&rt, rt.alloc(), &[WELCOME, GOT, SENT, reply]);
-        let ended = send(&mut dialogue, rt.alloc(), &mut input);
-        if ended == NO_MEMORY {
-            return;
-        }
-        assert_is(&rt, ended, line);
-        let mut asked = joined(&rt, rt.alloc(), &[HELLO, MAKE]);
-        put_send(&mut asked, b"a");
-        put_send(&mut asked, b"b");
-        assert_is(&rt, dialogue.requests.text(), asked.text());
+    assert_send_ends(&rt, rt.alloc(), UNSENT, "sysvmsg: EPERM\n");
+    assert_send_ends(&rt, rt.alloc(), b"", "sysvmsg: no reply\n");
+}
+
+/// Asserts that this reply to the second of three sends ends the session with this line.
+fn assert_send_ends(rt: &impl Abort, alloc: Global, reply: &[u8], line: &'static str) {
+    let mut input = joined(rt, alloc, &[b"a\nb\nc\n"]);
+    // (each read returns one line)
+    input.piece = 2;
+    let mut dialogue = Dialogue::new(rt, alloc, &[WELCOME, GOT, SENT, reply]);
+    let ended = send(&mut dialogue, alloc, &mut input);
+    if ended != NO_MEMORY {
+        assert_is(rt, ended, line);
+        let asked = sends_of(rt, alloc, &[b"a", b"b"]);
+        assert_is(rt, dialogue.requests.text(), asked.text());
     }
 }
 
@@ -163,49 +174,61 @@ const LOST: Cut = Cut {
 
 #[test]
 fn lines_of_one_read_are_sent_before_a_fault(rt: HostRuntime) {
-    let table: [(&[u8], &[u8], Cut); 2] = [(UNSENT, SENT, REFUSED), (b"", b"", LOST)];
-    for (second, third, wanted) in table {
-        let mut input = joined(&rt, rt.alloc(), &[b"a\nb\nc\n"]);
-        let mut dialogue = Dialogue::new(&rt, rt.alloc(), &[WELCOME, GOT, SENT, second, third]);
-        let outcome = send_lines(
-            rt.alloc(),
-            &SENDING,
-            &mut input,
-            &mut dialogue.replies,
-            &mut dialogue.requests,
-        );
-        if line_of(&outcome) == NO_MEMORY {
-            return;
-        }
-        let cut = match outcome {
-            Err(Unsent::Cut(cut)) => Some(cut),
-            _ => None,
-        };
-        assert_is(&rt, cut, Some(wanted));
-        let mut asked = joined(&rt, rt.alloc(), &[HELLO, MAKE]);
-        for text in [b"a", b"b", b"c"] {
-            put_send(&mut asked, text);
-        }
-        assert_is(&rt, dialogue.requests.text(), asked.text());
+    assert_sends_end(
+        &rt,
+        rt.alloc(),
+        &[WELCOME, GOT, SENT, UNSENT, SENT],
+        REFUSED,
+    );
+    assert_sends_end(&rt, rt.alloc(), &[WELCOME, GOT, SENT], LOST);
+}
+
+/// Returns how a session of sends was cut off.
+fn cut_of(outcome: Result<(), Unsent>) -> Option<Cut> {
+    match outcome {
+        Err(Unsent::Cut(cut)) => Some(cut),
+        _ => None,
+    }
+}
+
+/// Asserts how a session that sends three lines of one read ends with these replies.
+fn assert_sends_end(rt: &impl Abort, alloc: Global, replies: &[&[u8]], wanted: Cut) {
+    let mut input = joined(rt, alloc, &[b"a\nb\nc\n"]);
+    let mut dialogue = Dialogue::new(rt, alloc, replies);
+    let outcome = send_lines(
+        alloc,
+        &SENDING,
+        &mut input,
+        &mut dialogue.replies,
+        &mut dialogue.requests,
+    );
+    if line_of(&outcome) != NO_MEMORY {
+        assert_is(rt, cut_of(outcome), Some(wanted));
+        let asked = sends_of(rt, alloc, &[b"a", b"b", b"c"]);
+        assert_is(rt, dialogue.requests.text(), asked.text());
     }
 }
 
 #[test]
 fn an_input_that_fails_ends_the_sends(rt: HostRuntime) {
     for good in 0..4 {
-        let mut input = joined(&rt, rt.alloc(), &[b"a\nb\n"]);
-        input.good = good;
-        let mut dialogue = Dialogue::new(&rt, rt.alloc(), &[WELCOME, GOT, SENT, SENT]);
-        let ended = send(&mut dialogue, rt.alloc(), &mut input);
-        if ended == NO_MEMORY {
-            return;
-        }
-        assert_is(&rt, ended, "sysvmsg: cannot read\n");
-        let mut asked = joined(&rt, rt.alloc(), &[HELLO, MAKE]);
+        assert_input_fails(&rt, rt.alloc(), good);
+    }
+}
+
+/// Asserts how a session ends whose input fails after so many bytes of two lines.
+fn assert_input_fails(rt: &impl Abort, alloc: Global, good: usize) {
+    let mut input = joined(rt, alloc, &[b"a\nb\n"]);
+    input.good = good;
+    let mut dialogue = Dialogue::new(rt, alloc, &[WELCOME, GOT, SENT, SENT]);
+    let ended = send(&mut dialogue, alloc, &mut input);
+    if ended != NO_MEMORY {
+        assert_is(rt, ended, "sysvmsg: cannot read\n");
+        let mut asked = sends_of(rt, alloc, &[]);
         if good >= 2 {
             put_send(&mut asked, b"a");
         }
-        assert!(rt; dialogue.requests.text() == asked.text(), "{good}");
+        dialogue.assert_requested(rt, asked.text(), good);
     }
 }
 
@@ -253,33 +276,30 @@ const REFUSAL: Refusal = Refusal {
 fn all_queues_are_removed(rt: HostRuntime) {
     let welcome: &[u8] = b"\0\0\0\x07\x02\0\0\0\0\0\x02";
     let gone: &[u8] = b"\0\0\0\x03\x02\x06\x16";
-    let table: [(&[u8], Option<Refusal>); 3] = [
-        (REMOVED, None),
-        (gone, None),
-        (DENIED, Some(REFUSAL)),
-    ];
-    for (reply, refusal) in table {
-        let mut dialogue = Dialogue::new(&rt, rt.alloc(), &[welcome, ROW, reply, WIDE, REMOVED]);
-        let mut refusals = Vec::new(rt.alloc());
-        let outcome = remove_all(
-            rt.alloc(),
-            WHO,
-            &mut dialogue.replies,
-            &mut dialogue.requests,
-            &mut refusals,
-        );
-        if outcome == Err(ClientFault::NoMemory) {
-            return;
-        }
-        assert_is(&rt, outcome, Ok(()));
-        assert_is(&rt, refusals.first().copied(), refusal);
-        assert!(rt; refusals.len() < 2);
+    let replies: &[&[u8]] = &[welcome, ROW, REMOVED, WIDE, REMOVED];
+    assert_removes(&rt, rt.alloc(), replies, None);
+    assert_removes(&rt, rt.alloc(), &[welcome, ROW, gone, WIDE, REMOVED], None);
+    let replies: &[&[u8]] = &[welcome, ROW, DENIED, WIDE, REMOVED];
+    assert_removes(&rt, rt.alloc(), replies, Some(REFUSAL));
+}
+
+/// Asserts that the removal of two queues with these replies is done, but for this refusal.
+fn assert_removes(rt: &impl Abort, alloc: Global, replies: &[&[u8]], refusal: Option<Refusal>) {
+    let mut dialogue = Dialogue::new(rt, alloc, replies);
+    let mut refusals = Vec::new(alloc);
+    let outcome = remove_all(
+        alloc,
+        WHO,
+        &mut dialogue.replies,
+        &mut dialogue.requests,
+        &mut refusals,
+    );
+    if outcome != Err(ClientFault::NoMemory) {
+        assert_is(rt, outcome, Ok(()));
+        assert_is(rt, refusals.first().copied(), refusal);
+        assert_is(rt, refusals.len() < 2, true);
         let asked: &[&[u8]] = &[HELLO, FIRST, REMOVE_FIRST, SECOND, REMOVE_SECOND];
-        assert_is(
-            &rt,
-            dialogue.requests.text(),
-            joined(&rt, rt.alloc(), asked).text(),
-        );
+        dialogue.assert_requests(rt, alloc, asked);
     }
 }
 
@@ -295,14 +315,9 @@ fn a_removal_without_a_reply_ends_it(rt: HostRuntime) {
         &mut dialogue.requests,
         &mut refusals,
     );
-    if outcome == Err(ClientFault::NoMemory) {
-        return;
+    if outcome != Err(ClientFault::NoMemory) {
+        assert_is(&rt, outcome, Err(ClientFault::NoReply));
+        let asked: &[&[u8]] = &[HELLO, FIRST, SECOND, REMOVE_SECOND];
+        dialogue.assert_requests(&rt, rt.alloc(), asked);
     }
-    assert_is(&rt, outcome, Err(ClientFault::NoReply));
-    let asked: &[&[u8]] = &[HELLO, FIRST, SECOND, REMOVE_SECOND];
-    assert_is(
-        &rt,
-        dialogue.requests.text(),
-        joined(&rt, rt.alloc(), asked).text(),
-    );
 }

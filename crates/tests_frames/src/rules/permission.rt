@@ -1,6 +1,7 @@
 //! The permissions of callers, worked out by hand from the standard's general description of
 //! interprocess communication.
 
+use crate::parts::assert_at;
 use std::process::Abort;
 use sysv_model::{Cred, Perm};
 use sysv_rules::{Want, may, may_control};
@@ -98,7 +99,7 @@ fn owner_and_creator_control(rt: HostRuntime) {
     ];
     for (who, cred, controls) in table {
         for mode in [0, 0o777] {
-            assert_eq!(rt; may_control(cred, queue(mode)), controls, "{who}");
+            assert_at(&rt, may_control(cred, queue(mode)), controls, who);
         }
     }
 }

@@ -1,5 +1,6 @@
 //! The message that a receive names, worked out by hand from the description of `msgrcv`.
 
+use crate::parts::assert_at;
 use std::process::Abort;
 use sysv_model::{Flags, Selector};
 use sysv_rules::{qualifies, select_plain};
@@ -13,7 +14,7 @@ const MIN: i64 = i64::MIN;
 fn assert_selects(rt: &impl Abort, types: &[i64], table: &[(i64, Option<usize>)]) {
     for (mtype, place) in table {
         let sel = Selector::of(*mtype, Flags::IPC_NOWAIT);
-        assert_eq!(rt; select_plain(sel, types), *place, "{mtype}");
+        assert_at(rt, select_plain(sel, types), *place, *mtype);
     }
 }
 
@@ -32,7 +33,7 @@ fn types_qualify_as_whole_numbers(rt: HostRuntime) {
     ];
     for (sel, wanted) in table {
         for mtype in all {
-            assert_eq!(rt; qualifies(sel, mtype), wanted.contains(&mtype), "{mtype}");
+            assert_at(&rt, qualifies(sel, mtype), wanted.contains(&mtype), mtype);
         }
     }
 }
@@ -72,9 +73,9 @@ fn the_first_of_another_type_is_named(rt: HostRuntime) {
     ];
     for (mtype, place) in table {
         let sel = Selector::of(mtype, Flags::MSG_EXCEPT);
-        assert_eq!(rt; select_plain(sel, &[5, 2, 5, 2, 9]), place, "{mtype}");
-        assert_eq!(rt; select_plain(sel, &[mtype, mtype]), None, "{mtype}");
-        assert_eq!(rt; select_plain(sel, &[]), None, "{mtype}");
+        assert_at(&rt, select_plain(sel, &[5, 2, 5, 2, 9]), place, mtype);
+        assert_at(&rt, select_plain(sel, &[mtype, mtype]), None, mtype);
+        assert_at(&rt, select_plain(sel, &[]), None, mtype);
     }
 }
 

@@ -1,7 +1,8 @@
 //! What bytes that have arrived hold of a request, worked out by hand.
 use super::faults::REQUESTS;
-use crate::parts::assert_is;
-use sysv_wire::{Fault, FrameIn, frame_in};
+use crate::parts::{assert_at, assert_is};
+use std::process::Abort;
+use sysv_wire::{Fault, FrameIn, Request, frame_in};
 use tests_kit::worked::{REQUEST_ENDS, SESSION};
 
 /// Returns what the first `count` bytes of a frame of `length` bytes hold.
@@ -26,31 +27,40 @@ fn a_session_that_arrives_byte_by_byte(rt: HostRuntime) {
             assert!(rt; start <= cut && cut <= SESSION.len());
             let found = frame_in(&SESSION[start..cut]);
             let length = end.saturating_sub(start);
-            assert_eq!(rt; found, first(cut.saturating_sub(start), length), "{cut}");
+            assert_at(&rt, found, first(cut.saturating_sub(start), length), cut);
         }
         start = end;
     }
     assert_is(&rt, start, SESSION.len());
 }
 
+/// Asserts that these bytes are the start of a frame.
+fn assert_more(rt: &impl Abort, bytes: &[u8]) {
+    let found = frame_in(bytes);
+    assert!(rt;
+        matches!(found, FrameIn::More { .. }),
+        "{bytes:?}: {found:?}"
+    );
+}
+
+/// Asserts that the last of these bytes decides what a reader of requests returns for them.
+fn assert_decided(rt: &impl Abort, bytes: &[u8], answer: Result<Option<Request>, Fault>) {
+    for cut in 0..bytes.len() {
+        assert_more(rt, &bytes[..cut]);
+    }
+    match answer {
+        Ok(None) | Err(Fault::Truncated) => assert_more(rt, bytes),
+        _ => {
+            let refused = answer.err().map(|fault| FrameIn::Refused { fault });
+            assert_at(rt, Some(frame_in(bytes)), refused, bytes);
+        }
+    }
+}
+
 #[test]
 fn faults_at_the_first_byte_that_decides_them(rt: HostRuntime) {
-    for (i, (bytes, answer)) in REQUESTS.iter().enumerate() {
-        for cut in 0..bytes.len() {
-            let found = frame_in(&bytes[..cut]);
-            assert!(rt;
-                matches!(found, FrameIn::More { .. }),
-                "{i}, {cut}: {found:?}"
-            );
-        }
-        let found = frame_in(bytes);
-        match answer {
-            Ok(None) | Err(Fault::Truncated) => {
-                assert!(rt; matches!(found, FrameIn::More { .. }), "{i}: {found:?}");
-            }
-            Err(fault) => assert_eq!(rt; found, FrameIn::Refused { fault: *fault }, "{i}"),
-            Ok(Some(_)) => assert!(rt; false, "{i}: {found:?}"),
-        }
+    for (bytes, answer) in REQUESTS {
+        assert_decided(&rt, bytes, *answer);
     }
 }
 
@@ -74,6 +84,6 @@ fn the_longest_request(rt: HostRuntime) {
     bytes[..6].copy_from_slice(&[0x00, 0x00, 0x20, 0x52, 0x02, 0x02]);
     for count in [6, 8277, 8278, 8279] {
         assert!(rt; count <= bytes.len());
-        assert_eq!(rt; frame_in(&bytes[..count]), first(count, 8278), "{count}");
+        assert_at(&rt, frame_in(&bytes[..count]), first(count, 8278), count);
     }
 }

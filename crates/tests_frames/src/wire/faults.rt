@@ -1,6 +1,6 @@
 //! Bytes that spell no frame, and frames that break off, each with its fault worked out by hand.
 use super::frames::{OTHERS, TOLD};
-use crate::parts::{assert_is, open_body};
+use crate::parts::{assert_at, assert_is, open_body};
 use sysv_model::Instrumented;
 use sysv_wire::{Fault, Reply, Request, read_reply, read_request};
 use tests_kit::Pieces;
@@ -194,7 +194,7 @@ fn requests(rt: HostRuntime) {
         for piece in [1, 200] {
             let mut reader = Pieces::new(bytes, piece);
             let read = read_request(&mut Instrumented::new(&mut reader), &mut text);
-            assert_eq!(rt; read, *answer, "at {i}");
+            assert_at(&rt, read, *answer, i);
         }
     }
 }
@@ -206,7 +206,7 @@ fn replies(rt: HostRuntime) {
         for piece in [1, 200] {
             let mut reader = Pieces::new(bytes, piece);
             let read = read_reply(&mut Instrumented::new(&mut reader), &mut text);
-            assert_eq!(rt; read, *answer, "at {i}");
+            assert_at(&rt, read, *answer, i);
         }
     }
 }
@@ -231,7 +231,7 @@ fn requests_that_break_off(rt: HostRuntime) {
                 assert!(rt; start <= cut && cut <= all.len());
                 let mut reader = Pieces::new(&all[start..cut], 200);
                 let answer = read_request(&mut Instrumented::new(&mut reader), &mut text);
-                assert_eq!(rt; answer, Err(Fault::Truncated), "{cut}");
+                assert_at(&rt, answer, Err(Fault::Truncated), cut);
             }
             start = end;
         }
@@ -250,7 +250,7 @@ fn replies_that_break_off(rt: HostRuntime) {
                 assert!(rt; start <= cut && cut <= all.len());
                 let mut reader = Pieces::new(&all[start..cut], 200);
                 let answer = read_reply(&mut Instrumented::new(&mut reader), &mut text);
-                assert_eq!(rt; answer, Err(Fault::Truncated), "{cut}");
+                assert_at(&rt, answer, Err(Fault::Truncated), cut);
             }
             start = end;
         }

@@ -1,5 +1,5 @@
 //! Each field of a frame with values that have no meaning there.
-use crate::parts::{assert_is, open_body};
+use crate::parts::{assert_at, assert_is, open_body};
 use std::process::Abort;
 use sysv_model::{Body, Instrumented};
 use sysv_wire::{Fault, Reply, ReplyContent, Request, read_reply, read_request};
@@ -53,7 +53,7 @@ fn versions_and_operations_of_requests(rt: HostRuntime) {
             } else {
                 Fault::BadField
             };
-            assert_eq!(rt; asked(&mut text, &bytes, 6), Err(fault), "{version} {op}");
+            assert_at(&rt, asked(&mut text, &bytes, 6), Err(fault), [version, op]);
         }
     }
 }
@@ -69,7 +69,7 @@ fn versions_and_operations_of_replies(rt: HostRuntime) {
             } else {
                 bad_field_unless(matches!(version, 1 | 2))
             };
-            assert_eq!(rt; told(&mut text, &bytes, 7).err(), fault, "{version} {op}");
+            assert_at(&rt, told(&mut text, &bytes, 7).err(), fault, [version, op]);
         }
     }
 }
@@ -77,31 +77,38 @@ fn versions_and_operations_of_replies(rt: HostRuntime) {
 #[test]
 fn lengths_of_requests(rt: HostRuntime) {
     let mut text = open_body(&rt, rt.alloc());
-    for (op, fields) in (0u8..8).zip(ASKED) {
-        let wanted = fields.saturating_add(2);
+    for op in 0..8u8 {
+        let wanted = ASKED[usize::from(op)].saturating_add(2);
         for length in 2..90u8 {
-            for version in [1, 2] {
-                let bytes = frame(length, version, op, 0);
-                let answer = asked(&mut text, &bytes, length.saturating_add(4));
-                let fault = bad_field_unless(length == wanted || (op == 2 && length > wanted));
-                assert_eq!(rt; answer.err(), fault, "{version} {op} {length}");
-            }
+            let fault = bad_field_unless(length == wanted || (op == 2 && length > wanted));
+            assert_asked(&rt, &mut text, &frame(length, 1, op, 0), fault);
+            assert_asked(&rt, &mut text, &frame(length, 2, op, 0), fault);
         }
     }
+}
+
+/// Asserts the fault that is found in a frame when it is read as a request.
+fn assert_asked(rt: &impl Abort, text: &mut Body, frame: &[u8; 96], fault: Option<Fault>) {
+    let answer = asked(text, frame, frame[3].saturating_add(4));
+    assert_at(rt, answer.err(), fault, [frame[3], frame[4], frame[5]]);
+}
+
+/// Asserts the fault that is found in a frame when it is read as a reply.
+fn assert_told(rt: &impl Abort, text: &mut Body, frame: &[u8; 96], fault: Option<Fault>) {
+    let answer = told(text, frame, frame[3].saturating_add(4));
+    assert_at(rt, answer.err(), fault, [frame[3], frame[4], frame[5]]);
 }
 
 #[test]
 fn lengths_of_replies(rt: HostRuntime) {
     let mut text = open_body(&rt, rt.alloc());
-    for (op, fields) in (0u8..8).zip(TOLD) {
+    for op in 0..8u8 {
+        let fields = TOLD[usize::from(op)].saturating_add(3);
+        let slots = if op == 0 { 4 } else { 0 };
         for length in 3..90u8 {
-            for version in [1, 2] {
-                let slots = if version == 2 && op == 0 { 4 } else { 0 };
-                let wanted = fields.saturating_add(3).saturating_add(slots);
-                let bytes = frame(length, version, op, 0);
-                let answer = told(&mut text, &bytes, length.saturating_add(4));
+            for (version, wanted) in [(1, fields), (2, fields.saturating_add(slots))] {
                 let fault = bad_field_unless(length == wanted || (op == 3 && length > wanted));
-                assert_eq!(rt; answer.err(), fault, "{version} {op} {length}");
+                assert_told(&rt, &mut text, &frame(length, version, op, 0), fault);
             }
         }
     }
@@ -114,7 +121,7 @@ fn lengths_of_refusals(rt: HostRuntime) {
         for length in 4..90u8 {
             let bytes = frame(length, 1, op, 22);
             let answer = told(&mut text, &bytes, length.saturating_add(4));
-            assert_eq!(rt; answer, Err(Fault::BadField), "{op} {length}");
+            assert_at(&rt, answer, Err(Fault::BadField), [op, length]);
         }
     }
 }
@@ -155,7 +162,7 @@ fn marks_of_rows(rt: HostRuntime) {
             bytes[7] = mark;
             let answer = told(&mut text, &bytes, length.saturating_add(4));
             let fault = bad_field_unless(mark == wanted);
-            assert_eq!(rt; answer.err(), fault, "{mark} {length}");
+            assert_at(&rt, answer.err(), fault, [mark, length]);
         }
     }
 }
@@ -175,7 +182,8 @@ fn modes_of_replies(rt: HostRuntime) {
             let one = told(&mut text, &attributes, 73);
             let two = told(&mut text, &row, 30);
             let fault = bad_field_unless(high < 2);
-            assert_eq!(rt; (one.err(), two.err()), (fault, fault), "{high} {low}");
+            assert_at(&rt, one.err(), fault, [high, low]);
+            assert_at(&rt, two.err(), fault, [high, low]);
         }
     }
 }
@@ -184,10 +192,10 @@ fn modes_of_replies(rt: HostRuntime) {
 fn lengths_are(rt: &impl Abort, text: &mut Body, bytes: [u8; 4], request: Fault, reply: Fault) {
     let mut reader = Pieces::new(&bytes, 1);
     let answer = read_request(&mut Instrumented::new(&mut reader), text);
-    assert_eq!(rt; answer, Err(request), "{bytes:?}");
+    assert_at(rt, answer, Err(request), bytes);
     let mut reader = Pieces::new(&bytes, 1);
     let answer = read_reply(&mut Instrumented::new(&mut reader), text);
-    assert_eq!(rt; answer, Err(reply), "{bytes:?}");
+    assert_at(rt, answer, Err(reply), bytes);
 }
 
 #[test]

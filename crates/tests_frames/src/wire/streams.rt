@@ -1,5 +1,5 @@
 //! Readers and writers that fail within a frame, and bodies of the maximum length.
-use crate::parts::{assert_is, open_body};
+use crate::parts::{assert_at, assert_is, open_body};
 use bitflags::Flags as Set;
 use std::process::Abort;
 use sysv_model::{Body, Flags, Instrumented};
@@ -46,11 +46,11 @@ fn the_reader_fails(rt: HostRuntime) {
     let mut text = open_body(&rt, rt.alloc());
     for good in 0..SESSION.len() {
         let end = end_of_requests(&mut text, good);
-        assert_eq!(rt; end, (Err(Fault::Read), true), "{good}");
+        assert_at(&rt, end, (Err(Fault::Read), true), good);
     }
     for good in 0..ANSWERS.len() {
         let end = end_of_replies(&mut text, good);
-        assert_eq!(rt; end, (Err(Fault::Read), true), "{good}");
+        assert_at(&rt, end, (Err(Fault::Read), true), good);
     }
 }
 
@@ -59,9 +59,8 @@ type End = (Result<(), WriteFault>, bool);
 
 /// Asserts that a write failed after these bytes were taken.
 fn assert_fails_after(rt: &impl Abort, end: End, page: &Page, taken: &[u8]) {
-    let room = taken.len();
-    assert_eq!(rt; end, (Err(WriteFault), true), "{room}");
-    assert_eq!(rt; page.written(), taken);
+    assert_at(rt, end, (Err(WriteFault), true), taken.len());
+    assert_is(rt, page.written(), taken);
 }
 
 /// Returns how the write of a request ends.

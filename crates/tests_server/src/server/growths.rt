@@ -7,8 +7,8 @@ use tests_kit::mark;
 /// A client that has written a hello, and nothing more.
 fn greeting<R: Net + Abort>(rt: &R, path: &str) -> UnixStream {
     let mut stream = UnixStream::connect(rt, path).expect(rt, "a connection");
-    assert!(rt; stream.write_all(HELLO).is_ok());
-    assert!(rt; stream.shutdown(Shutdown::Write).is_ok());
+    assert_that(rt, stream.write_all(HELLO).is_ok());
+    assert_that(rt, stream.shutdown(Shutdown::Write).is_ok());
     stream
 }
 
@@ -45,9 +45,9 @@ fn run_of_server(rt: HostRuntime) {
             }
             first = greeting(&rt, path);
         }
-        Err(why) => assert!(rt; matches!(&why, ServeFault::NoMemory | ServeFault::Thread)),
+        Err(why) => assert_that(&rt, is_for_want(&why)),
     }
     let second = serve_on(&rt, rt.alloc(), &listener, 128, 1, 1);
     assert_is(&rt, second, Ok(sums(1, 0, 0)));
-    assert!(rt; is_answered(&rt, &mut first));
+    assert_that(&rt, is_answered(&rt, &mut first));
 }

@@ -90,9 +90,9 @@ fn readable<R: Net + Abort>(rt: &R) -> UnixStream {
 fn client<R: Net + Abort>(rt: &R, listener: &mut Connected, requests: &[&[u8]]) -> UnixStream {
     let (mut stream, other) = UnixStream::pair(rt).expect(rt, "two sockets");
     for request in requests {
-        assert!(rt; stream.write_all(request).is_ok());
+        assert_that(rt, stream.write_all(request).is_ok());
     }
-    assert!(rt; stream.shutdown(Shutdown::Write).is_ok());
+    assert_that(rt, stream.shutdown(Shutdown::Write).is_ok());
     listener.waiting.insert(0, other).expect(rt, "memory");
     stream
 }
@@ -122,6 +122,26 @@ fn terms(sessions: u64) -> Terms
     }
 }
 
+/// Asserts that the server ended with these sums, if it was not for want of memory or of a thread.
+fn assert_sums(rt: &impl Abort, end: Result<Ended, ServeFault>, sums: Sums) {
+    match end {
+        Ok(end) => assert_is(rt, end.sums, sums),
+        Err(fault) => assert_that(rt, is_for_want(&fault)),
+    }
+}
+
+/// Asserts that the server has closed the listener, and left one client waiting.
+fn assert_closed(rt: &impl Abort, listener: &Connected) {
+    assert_that(rt, listener.is_closed);
+    assert_is(rt, listener.waiting.len(), 1);
+}
+
+/// Asserts that the client had these replies, and nothing more.
+fn assert_had(rt: &impl Abort, client: &mut UnixStream, replies: &[&[u8]]) {
+    assert_that(rt, asks(client, &[], replies));
+    assert_that(rt, ends(client));
+}
+
 // The first client sends a message, the second receives it, and the third is not accepted: its
 // connection is closed with the listener.
 #[test]
@@ -140,18 +160,17 @@ fn each_connection_that_was_accepted_is_served(rt: HostRuntime) {
         terms(2),
         &mut reason,
     );
-    let Ok(end) = end else {
-        assert!(&rt; matches!(end, Err(ServeFault::NoMemory | ServeFault::Thread)));
-        return;
-    };
-    assert_eq!(&rt; end.sums, sums(2, 1, 0));
-    assert!(&rt; matches!(reason, Some(Reason::Full)));
-    assert!(&rt; listener.is_closed && listener.waiting.len() == 1);
-    assert_eq!(&rt; listener.accepted.len(), 2);
-    assert!(&rt; asks(&mut first, &[], &[KNOWN, FOUND, SENT]) && ends(&mut first));
-    assert!(&rt; asks(&mut second, &[], &[KNOWN, RECEIVED]) && ends(&mut second));
+    let is_served = end.is_ok();
+    assert_sums(&rt, end, sums(2, 1, 0));
+    if is_served {
+        assert_that(&rt, matches!(reason, Some(Reason::Full)));
+        assert_closed(&rt, &listener);
+        assert_is(&rt, listener.accepted.len(), 2);
+        assert_had(&rt, &mut first, &[KNOWN, FOUND, SENT]);
+        assert_had(&rt, &mut second, &[KNOWN, RECEIVED]);
+    }
     drop(listener);
-    assert!(&rt; ends(&mut third));
+    assert_that(&rt, !is_served || ends(&mut third));
 }
 
 // The input has one byte, which is read before the first client is accepted. It is over before the
@@ -175,12 +194,11 @@ fn a_server_ends_at_the_end_of_its_input(rt: HostRuntime) {
         terms(0),
         &mut reason,
     );
-    let Ok(end) = end else {
-        assert!(&rt; matches!(end, Err(ServeFault::NoMemory | ServeFault::Thread)));
-        return;
-    };
-    assert_eq!(&rt; end.sums, sums(1, 0, 0));
-    assert!(&rt; matches!(reason, Some(Reason::InputOver)));
-    assert!(&rt; listener.is_closed && listener.waiting.len() == 1);
-    assert!(&rt; asks(&mut first, &[], &[KNOWN]) && ends(&mut first));
+    let is_served = end.is_ok();
+    assert_sums(&rt, end, sums(1, 0, 0));
+    if is_served {
+        assert_that(&rt, matches!(reason, Some(Reason::InputOver)));
+        assert_closed(&rt, &listener);
+        assert_had(&rt, &mut first, &[KNOWN]);
+    }
 }

@@ -3,7 +3,7 @@ ghost use Rattle.std.specs.Prelude.{◌≡◌};
 ghost use Rattle.sysv_service.specs.Seats.{AreOf};
 
 use super::serving::ended;
-use crate::parts::{assert_is, opened};
+use crate::parts::{assert_is, assert_that, opened};
 use std::alloc::Global;
 use std::process::Abort;
 use std::sync::Wait;
@@ -125,17 +125,17 @@ fn assert_counts(
     is_within: bool,
     has_more: bool,
 ) {
-    assert_eq!(rt; (client.requests(), client.sent_bytes()), counts);
-    assert_eq!(rt; client.is_within_request(), is_within);
-    assert_eq!(rt; client.has_more(), has_more);
+    assert_is(rt, (client.requests(), client.sent_bytes()), counts);
+    assert_is(rt, client.is_within_request(), is_within);
+    assert_is(rt, client.has_more(), has_more);
 }
 
 /// Asserts that these are the notifications, the last one first, and removes them.
 fn assert_notifications(rt: &impl Abort, tools: &mut Tools, expected: &[Notification]) {
     for notification in expected {
-        assert_eq!(rt; tools.take_notification(), Some(*notification));
+        assert_is(rt, tools.take_notification(), Some(*notification));
     }
-    assert_eq!(rt; tools.take_notification(), None);
+    assert_is(rt, tools.take_notification(), None);
 }
 
 /// Reports that there may be something to read, has the client take a turn, and gives its
@@ -166,7 +166,7 @@ fn assert_closed(
     let served = client.close(&mut book);
     assert_served(rt, &served, end, counts);
     for kept in book.kept() {
-        assert_eq!(rt; kept.as_slice(), replies);
+        assert_is(rt, kept.as_slice(), replies);
     }
 }
 
@@ -193,8 +193,8 @@ fn append(rt: &impl Abort, bytes: &mut Vec<u8>, more: &[u8]) {
 /// Asserts that a session ended for this reason, with these counts.
 fn assert_served(rt: &impl Abort, served: &Served, end: End, counts: (u32, u64, u64)) {
     let tally = &served.tally;
-    assert_eq!(rt; (served.requests, tally.written(), tally.lost()), counts);
-    assert_eq!(rt; served.end, end);
+    assert_is(rt, (served.requests, tally.written(), tally.lost()), counts);
+    assert_is(rt, served.end, end);
 }
 
 #[test]
@@ -206,7 +206,7 @@ fn the_session_of_one_client(rt: HostRuntime) {
     let mut client = client(&rt, alloc, SESSION, &[]);
     turn(&mut handler, &mut tools, &mut client);
     turn(&mut handler, &mut tools, &mut client);
-    assert!(rt; client.is_over());
+    assert_that(&rt, client.is_over());
     assert_closed(&rt, alloc, client, End::Ended, (5, 1, 0), ANSWERS);
     let pass = handler.into_pass();
     ended(&rt, service, pass, 0);
@@ -236,12 +236,13 @@ fn the_counts_of_a_client_in_pieces(rt: HostRuntime) {
     turn(&mut handler, &mut tools, &mut client);
     assert_counts(&rt, &client, (3, 25), true, false);
     client.note_readable();
-    assert!(rt; client.has_more() && !client.is_over());
+    assert_that(&rt, client.has_more());
+    assert_that(&rt, !client.is_over());
     turn(&mut handler, &mut tools, &mut client);
     assert_counts(&rt, &client, (5, 49), false, false);
     turn(&mut handler, &mut tools, &mut client);
     assert_counts(&rt, &client, (5, 49), false, false);
-    assert!(rt; client.is_over());
+    assert_that(&rt, client.is_over());
     assert_closed(&rt, alloc, client, End::Ended, (5, 1, 0), ANSWERS);
     let pass = handler.into_pass();
     ended(&rt, service, pass, 0);
@@ -264,10 +265,11 @@ fn a_client_with_more_than_a_share(rt: HostRuntime) {
     assert_counts(&rt, &client, (64, 7 + 63 * 11), true, true);
     client.take_turn(&mut handler, &mut tools);
     assert_counts(&rt, &client, (71, 7 + 63 * 11), false, false);
-    assert!(rt; client.has_unsent() && !client.is_over());
+    assert_that(&rt, client.has_unsent());
+    assert_that(&rt, !client.is_over());
     turn(&mut handler, &mut tools, &mut client);
     assert_counts(&rt, &client, (71, 7 + 70 * 11), false, false);
-    assert!(rt; client.is_over());
+    assert_that(&rt, client.is_over());
     let served = closed_early(&rt, alloc, client);
     assert_served(&rt, &served, End::Ended, (71, 0, 0));
     assert_notifications(&rt, &mut tools, &[]);
@@ -283,14 +285,15 @@ fn the_notifications_of_a_send_and_a_receive(rt: HostRuntime) {
     let mut tools = tools(&rt, alloc);
     let mut client = paced(&rt, alloc, SESSION, &[Step::AtMost(56)], &[]);
     turn(&mut handler, &mut tools, &mut client);
-    assert!(rt; !tools.has_taken(5));
+    assert_that(&rt, !tools.has_taken(5));
     assert_notifications(&rt, &mut tools, &[ARRIVED]);
     turn(&mut handler, &mut tools, &mut client);
-    assert!(rt; tools.has_taken(5) && !tools.has_taken(4));
+    assert_that(&rt, tools.has_taken(5));
+    assert_that(&rt, !tools.has_taken(4));
     assert_is(&rt, tools.take_notification(), Some(Notification::Released));
-    assert!(rt; tools.has_taken(5));
+    assert_that(&rt, tools.has_taken(5));
     assert_notifications(&rt, &mut tools, &[FREED]);
-    assert!(rt; !tools.has_taken(5));
+    assert_that(&rt, !tools.has_taken(5));
     turn(&mut handler, &mut tools, &mut client);
     assert_notifications(&rt, &mut tools, &[]);
     assert_closed(&rt, alloc, client, End::Ended, (5, 1, 0), ANSWERS);
@@ -335,13 +338,14 @@ fn the_notifications_of_calls_that_wait(rt: HostRuntime) {
     let mut tools = tools(&rt, alloc);
     let mut receives = client(&rt, alloc, WAITING, &[]);
     turn(&mut handler, &mut tools, &mut receives);
-    assert!(rt; receives.waiting().is_some() && receives.is_within_request());
+    assert_that(&rt, receives.waiting().is_some());
+    assert_that(&rt, receives.is_within_request());
     assert_notifications(&rt, &mut tools, &[]);
     let mut sends = paced(&rt, alloc, CROWDED, &[Step::AtMost(58)], &[]);
     turn(&mut handler, &mut tools, &mut sends);
     assert_notifications(&rt, &mut tools, &[Notification::Released, CHANGED]);
     turn(&mut handler, &mut tools, &mut sends);
-    assert!(rt; sends.waiting().is_some());
+    assert_that(&rt, sends.waiting().is_some());
     assert_notifications(&rt, &mut tools, &[Notification::Released]);
     let sent = closed_early(&rt, alloc, sends);
     assert_served(&rt, &sent, End::Left, (4, 0, 0));
@@ -362,9 +366,10 @@ fn a_parked_receive_goes_on(rt: HostRuntime) {
     let mut tools = tools(&rt, alloc);
     let mut waits = client(&rt, alloc, WAITING, &[]);
     turn(&mut handler, &mut tools, &mut waits);
-    assert!(rt; waits.waiting().is_some() && !waits.has_more());
+    assert_that(&rt, waits.waiting().is_some());
+    assert_that(&rt, !waits.has_more());
     waits.go_on(&mut handler, &mut tools);
-    assert!(rt; waits.waiting().is_some());
+    assert_that(&rt, waits.waiting().is_some());
     let mut sends = client(&rt, alloc, &SESSION[..56], &[]);
     turn(&mut theirs, &mut tools, &mut sends);
     assert_closed(
@@ -377,10 +382,11 @@ fn a_parked_receive_goes_on(rt: HostRuntime) {
     );
     waits.go_on(&mut handler, &mut tools);
     waits.drain();
-    assert!(rt; waits.waiting().is_none() && !waits.has_more());
+    assert_that(&rt, waits.waiting().is_none());
+    assert_that(&rt, !waits.has_more());
     waits.note_readable();
     turn(&mut handler, &mut tools, &mut waits);
-    assert!(rt; waits.is_over());
+    assert_that(&rt, waits.is_over());
     assert_closed(&rt, alloc, waits, End::Ended, (3, 1, 0), RECEIVED);
     let mut pass = handler.into_pass();
     service.join_pass(&mut pass, theirs.into_pass());
@@ -396,7 +402,8 @@ fn a_parked_receive_is_left(rt: HostRuntime) {
     let mut client = loose(&rt, alloc, WAITING, &[]);
     turn(&mut handler, &mut tools, &mut client);
     client.leave();
-    assert!(rt; client.waiting().is_none() && client.is_over());
+    assert_that(&rt, client.waiting().is_none());
+    assert_that(&rt, client.is_over());
     assert_closed(&rt, alloc, client, End::Left, (3, 0, 0), GREETED);
     let pass = handler.into_pass();
     ended(&rt, service, pass, 0);
@@ -411,12 +418,15 @@ fn a_client_that_stays(rt: HostRuntime) {
     let mut tools = tools(&rt, alloc);
     let mut stays = client(&rt, alloc, WAITING, &[]);
     turn(&mut handler, &mut tools, &mut stays);
-    assert!(rt; !stays.may_be_cut() && !stays.may_close());
+    assert_that(&rt, !stays.may_be_cut());
+    assert_that(&rt, !stays.may_close());
     stays.leave();
     stays.cut();
-    assert!(rt; stays.waiting().is_some() && !stays.is_over());
+    assert_that(&rt, stays.waiting().is_some());
+    assert_that(&rt, !stays.is_over());
     let loose = loose(&rt, alloc, WAITING, &[]);
-    assert!(rt; loose.may_be_cut() && loose.may_close());
+    assert_that(&rt, loose.may_be_cut());
+    assert_that(&rt, loose.may_close());
     assert_closed(&rt, alloc, stays, End::Left, (3, 0, 0), GREETED);
     assert_closed(
         &rt,
@@ -442,10 +452,11 @@ fn a_client_that_is_cut(rt: HostRuntime) {
     let mut client = loose(&rt, alloc, SESSION, &steps);
     turn(&mut handler, &mut tools, &mut client);
     turn(&mut handler, &mut tools, &mut client);
-    assert!(rt; client.has_unsent() && !client.is_over());
+    assert_that(&rt, client.has_unsent());
+    assert_that(&rt, !client.is_over());
     assert_is(&rt, client.sent_bytes(), 20);
     client.cut();
-    assert!(rt; client.is_over());
+    assert_that(&rt, client.is_over());
     assert_closed(&rt, alloc, client, End::Write, (5, 0, 1), &ANSWERS[..20]);
     let pass = handler.into_pass();
     ended(&rt, service, pass, 0);

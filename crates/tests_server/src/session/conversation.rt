@@ -4,7 +4,7 @@ ghost use Rattle.sysv_queue.specs.Tally.{taken_in};
 
 use super::served::counts_of;
 use super::test_handler::TestHandler;
-use crate::parts::assert_is;
+use crate::parts::{assert_at, assert_is, assert_that};
 use std::alloc::Global;
 use std::process::Abort;
 use sysv_model::{Body, Instrumented};
@@ -86,7 +86,7 @@ fn gathered(rt: &impl Abort, alloc: Global, handler: &mut TestHandler) -> Option
         + length conversation.unsent.marks ≤ 6) }
 {
     let mut conversing = Conversing::open(rt, alloc);
-    assert!(rt; conversing.conversation.is_empty());
+    assert_that(rt, conversing.conversation.is_empty());
     let end = conversing.dialogue(handler);
     let Conversing {
         conversation,
@@ -95,7 +95,7 @@ fn gathered(rt: &impl Abort, alloc: Global, handler: &mut TestHandler) -> Option
     } = conversing;
     if end == Err(End::NoMemory) {
         let served = conversation.end(End::NoMemory);
-        assert!(rt; served.end == End::NoMemory || served.end == End::Write);
+        assert_that(rt, served.end == End::NoMemory || served.end == End::Write);
         assert_is(rt, served.tally.taken(), served.tally.lost());
         return None;
     }
@@ -131,7 +131,7 @@ fn the_replies_of_a_session_are_gathered(rt: HostRuntime) {
     if let Some(mut conversation) = gathered(&rt, rt.alloc(), &mut handler) {
         assert_is(&rt, conversation.waiting_bytes(), 49);
         take(&rt, &mut conversation, ANSWERS, 49);
-        assert!(rt; conversation.is_empty());
+        assert_that(&rt, conversation.is_empty());
         let served = conversation.end(End::Ended);
         assert_is(
             &rt,
@@ -152,11 +152,8 @@ fn the_connection_takes_one_byte_after_another(rt: HostRuntime) {
             let served = conversation.end(End::Ended);
             let end = if count < 49 { End::Write } else { End::Ended };
             let (written, lost) = if count < 42 { (0, 1) } else { (1, 0) };
-            assert_eq!(rt;
-                (served.end, counts_of(&served)),
-                (end, (5, 1, written, lost)),
-                "{count}"
-            );
+            assert_at(&rt, served.end, end, count);
+            assert_at(&rt, counts_of(&served), (5, 1, written, lost), count);
         }
         assert_is(&rt, handler.end(), 128);
     }
@@ -173,11 +170,8 @@ fn the_connection_is_reset_after_each_byte(rt: HostRuntime) {
             let served = conversation.end(End::Reset);
             let end = if count < 49 { End::Write } else { End::Reset };
             let (written, lost) = if count < 43 { (0, 1) } else { (1, 0) };
-            assert_eq!(rt;
-                (served.end, counts_of(&served)),
-                (end, (5, 1, written, lost)),
-                "{count}"
-            );
+            assert_at(&rt, served.end, end, count);
+            assert_at(&rt, counts_of(&served), (5, 1, written, lost), count);
         }
         assert_is(&rt, handler.end(), 128);
     }

@@ -1,5 +1,6 @@
 //! Readers and writers that fail after each byte, and writers that cannot be flushed.
 use super::served::{assert_served, served};
+use crate::parts::assert_at;
 use sysv_session::End;
 use sysv_wire::Fault;
 use tests_kit::worked::{ANSWER_ENDS, ANSWERS, REQUEST_ENDS, SESSION};
@@ -14,13 +15,13 @@ fn the_reader_fails(rt: HostRuntime) {
         let told = served(&rt, rt.alloc(), &mut reader, &mut page);
         let whole = REQUEST_ENDS.iter().filter(|end| **end <= good).count();
         let end = End::Fault(Fault::Read);
-        assert_eq!(rt; (told.end, told.requests as usize), (end, whole), "{good}");
+        assert_at(&rt, (told.end, told.requests as usize), (end, whole), good);
         let answered = if whole == 0 {
             0
         } else {
             ANSWER_ENDS[whole.min(5) - 1]
         };
-        assert!(rt; page.written() == &ANSWERS[..answered.min(49)], "{good}");
+        assert_at(&rt, page.written(), &ANSWERS[..answered.min(49)], good);
     }
 }
 

@@ -8,7 +8,7 @@ ghost use Rattle.sysv_wire.specs.Requests.{op_of};
 
 use super::served::counts_of;
 use super::test_handler::TestHandler;
-use crate::parts::assert_is;
+use crate::parts::{assert_at, assert_is};
 use std::alloc::{AllocFailed, Global};
 use std::process::Abort;
 use sysv_model::{Body, Instrumented};
@@ -168,12 +168,8 @@ fn assert_written(rt: &impl Abort, alloc: Global, taken: usize, is_reset: bool, 
     let count = taken.min(outbox.unsent().len());
     outbox.sent(count, &mut tally);
     outbox.end(is_reset, &mut tally);
-    assert_eq!(rt;
-        (tally.written(), tally.taken()),
-        (written, 2),
-        "{taken} {is_reset}"
-    );
-    assert_eq!(rt; handler.end(), 128);
+    assert_at(rt, (tally.written(), tally.taken()), (written, 2), taken);
+    assert_is(rt, handler.end(), 128);
 }
 
 // The frames of the messages end with bytes 24 and 41.

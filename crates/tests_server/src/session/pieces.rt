@@ -7,7 +7,7 @@ ghost use Rattle.sysv_steps.specs.declared.receive.ReceiveWait.{ReceiveWait};
 ghost use Rattle.sysv_steps.specs.declared.send.SendWait.{SendWait};
 ghost use Rattle.sysv_wire.specs.Requests.{op_of};
 
-use crate::parts::{CLOCK, Still, assert_is, closed, opened};
+use crate::parts::{CLOCK, Still, assert_is, assert_that, closed, opened};
 use bitflags::Flags as _;
 use std::alloc::Global;
 use std::process::Abort;
@@ -64,7 +64,7 @@ fn body_of(rt: &impl Abort, alloc: Global, bytes: &[u8]) -> Body
     ensures { length result ≤ MESSAGE_BYTES }
 {
     let mut body = empty_body(rt, alloc);
-    assert!(rt; body.push_piece(bytes));
+    assert_that(rt, body.push_piece(bytes));
     assert!(rt; body.len() <= MESSAGE_BYTES);
     body
 }
@@ -108,7 +108,7 @@ fn assert_replied(
         op: op.number(),
         result: content,
     };
-    assert_eq!(rt; told(rt, outcome), (Some(reply), None));
+    assert_is(rt, told(rt, outcome), (Some(reply), None));
 }
 
 /// Asserts that a receive is over with a message of this type and length.
@@ -121,7 +121,7 @@ fn assert_got(
     let Progress::Over(outcome) = progress else {
         panic!(rt; "the receive waits")
     };
-    assert_eq!(rt; told(rt, outcome), (None, Some((mtype, length))));
+    assert_is(rt, told(rt, outcome), (None, Some((mtype, length))));
 }
 
 /// Begins a request without a body, and asserts that it is over with this reply.
@@ -138,7 +138,7 @@ fn make<R: Abort + Wait>(
     let (empty, mut given) = (empty_body(rt, alloc), empty_body(rt, alloc));
     let begun = handler.begin(USER, &request(ask), &empty, &mut given);
     assert_replied(rt, begun, ask.op(), content);
-    assert_eq!(rt; given.len(), 0);
+    assert_is(rt, given.len(), 0);
 }
 
 /// Sends this body, and asserts that it is sent at once.
@@ -176,7 +176,7 @@ fn take<R: Abort + Wait>(
     });
     let begun = handler.begin(USER, &receive, &empty, &mut given);
     assert_got(rt, begun, 5, length);
-    assert_eq!(rt; given.len(), length);
+    assert_is(rt, given.len(), length);
 }
 
 /// Makes the queue of a key, which has this identifier.
@@ -209,7 +209,7 @@ fn receive_on<R: Abort + Wait>(
 ) -> Progress<Waiting, RequestOutcome>
     ensures { handler.new.service ≡ handler.old.service }
 {
-    assert_eq!(rt; given.len(), 0);
+    assert_is(rt, given.len(), 0);
     given.clear();
     let Waiting::Receive(wait) = waiting else {
         panic!(rt; "a send waits")
@@ -271,12 +271,12 @@ fn a_parked_receive_goes_on_after_a_send(rt: HostRuntime) {
     assert_is(&rt, first.awaits(), Awaited::Arrived { slot: 0 });
     assert_is(&rt, first.selector(), Some(Selector::Exactly(5)));
     let again = receive_on(&rt, alloc, &mut receiver, &mut given, first);
-    assert!(rt; parked(&rt, again) == first);
+    assert_that(&rt, parked(&rt, again) == first);
     send(&rt, alloc, &mut sender, &sending(0, 6), b"x");
     let again = receive_on(&rt, alloc, &mut receiver, &mut given, first);
     let second = parked(&rt, again);
-    assert!(rt; second != first);
-    assert_eq!(rt; given.len(), 0);
+    assert_that(&rt, second != first);
+    assert_is(&rt, given.len(), 0);
     send(&rt, alloc, &mut sender, &sending(0, 5), b"ping");
     let over = receive_on(&rt, alloc, &mut receiver, &mut given, second);
     assert_got(&rt, over, 5, 4);
@@ -312,7 +312,7 @@ fn a_parked_send_goes_on_after_a_receive(rt: HostRuntime) {
     assert_is(&rt, waiting.awaits(), Awaited::Freed { slot: 0 });
     assert_is(&rt, waiting.selector(), None);
     let again = send_on(&rt, alloc, &mut sender, &text, waiting);
-    assert!(rt; parked(&rt, again) == waiting);
+    assert_that(&rt, parked(&rt, again) == waiting);
     take(&rt, alloc, &mut receiver, 0, 4);
     let over = send_on(&rt, alloc, &mut sender, &text, waiting);
     assert_replied(&rt, over, Op::Snd, ReplyContent::Snd);
@@ -361,7 +361,7 @@ fn a_parked_receive_ends_with_its_queue(rt: HostRuntime) {
     );
     let over = receive_on(&rt, alloc, &mut receiver, &mut given, waiting);
     assert_replied(&rt, over, Op::Rcv, ReplyContent::Refused(Errno::EIDRM));
-    assert_eq!(rt; given.len(), 0);
+    assert_is(&rt, given.len(), 0);
     let (pass, other) = (receiver.into_pass(), remover.into_pass());
     close(&rt, service, pass, other, 0);
 }
@@ -424,6 +424,6 @@ fn the_body_of_a_send_is_copied_from_its_frame(rt: HostRuntime) {
         ],
         &mut copied,
     );
-    assert_eq!(rt; copied.len(), 2);
+    assert_is(&rt, copied.len(), 2);
     assert_is(&rt, copied.block(0), b"hi".as_slice());
 }

@@ -1,6 +1,6 @@
 //! Sessions over readers and writers, and their results.
 use super::test_handler::TestHandler;
-use crate::parts::assert_is;
+use crate::parts::{assert_is, assert_that};
 use std::alloc::Global;
 use std::process::Abort;
 use sysv_session::{End, Served, serve};
@@ -26,8 +26,8 @@ pub(super) fn assert_served(
     counts: (u32, u64, u64, u64),
     answers: &[u8],
 ) {
-    assert_eq!(rt; (served.end, counts_of(served)), (end, counts));
-    assert_eq!(rt; page.written(), answers);
+    assert_is(rt, (served.end, counts_of(served)), (end, counts));
+    assert_is(rt, page.written(), answers);
 }
 
 /// Serves one session on this handler. Tolerates one refusal of memory, after which nothing was
@@ -45,11 +45,11 @@ pub(super) fn served_on(
         return served;
     }
     assert_is(rt, counts_of(&served), (0, 0, 0, 0));
-    assert_eq!(rt; (reader.front.len(), reader.rest.len()), all);
-    assert_eq!(rt; (writer.written().len(), writer.flushed().len()), (0, 0));
+    assert_is(rt, (reader.front.len(), reader.rest.len()), all);
+    assert_is(rt, (writer.written().len(), writer.flushed().len()), (0, 0));
     assert_is(rt, handler.asked, 0);
     let again = serve(alloc, reader, writer, handler);
-    assert!(rt; again.end != End::NoMemory);
+    assert_that(rt, again.end != End::NoMemory);
     again
 }
 

@@ -66,7 +66,7 @@ fn answers<R: Abort + Wait>(rt: &R, alloc: Global, bytes: &[u8], replies: &[u8],
     let written = page.written();
     assert!(rt; written.len() >= 18);
     assert_is(rt, &written[..18], &ANSWERS[..18]);
-    assert!(rt; &written[18..] == replies, "{:?}", &written[18..]);
+    assert_is(rt, &written[18..], replies);
 }
 
 #[test]

@@ -55,13 +55,13 @@ fn a_handler_may_wait(rt: HostRuntime) {
     let told = serve(rt.alloc(), &mut reader, &mut page, &mut handler);
     if told.end == End::NoMemory {
         assert_is(&rt, counts_of(&told), (0, 0, 0, 0));
-        assert_eq!(rt; reader.front.len(), 108);
-        assert_eq!(rt; page.written().len(), 0);
+        assert_is(&rt, reader.front.len(), 108);
+        assert_is(&rt, page.written().len(), 0);
         assert_is(&rt, *asked.lock(&rt), 0);
         return;
     }
     assert_is(&rt, told.end, End::Ended);
     assert_is(&rt, counts_of(&told), (5, 0, 0, 0));
     assert_is(&rt, *asked.lock(&rt), 4);
-    assert_eq!(rt; page.written().len(), 35);
+    assert_is(&rt, page.written().len(), 35);
 }

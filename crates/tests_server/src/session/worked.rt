@@ -1,6 +1,6 @@
 //! A session whose bytes were worked out by hand, whole and cut short, and sessions that end early.
 use super::served::{assert_served, served};
-use crate::parts::assert_is;
+use crate::parts::{assert_at, assert_is};
 use std::alloc::Global;
 use std::process::Abort;
 use sysv_session::End;
@@ -52,13 +52,13 @@ fn the_session_ended_after_each_byte(rt: HostRuntime) {
         } else {
             End::Fault(Fault::Truncated)
         };
-        assert_eq!(rt; (told.end, told.requests as usize), (end, whole), "{cut}");
+        assert_at(&rt, (told.end, told.requests as usize), (end, whole), cut);
         let answered = if whole == 0 {
             0
         } else {
             ANSWER_ENDS[whole.min(5) - 1]
         };
-        assert!(rt; page.written() == &ANSWERS[..answered.min(49)], "{cut}");
+        assert_at(&rt, page.written(), &ANSWERS[..answered.min(49)], cut);
     }
 }
 
@@ -68,7 +68,7 @@ fn ends_unanswered(rt: &impl Abort, alloc: Global, bytes: &[u8], end: End) {
     let mut page = Page::new();
     let told = served(rt, alloc, &mut reader, &mut page);
     assert_served(rt, &told, &page, end, (0, 0, 0, 0), b"");
-    assert_eq!(rt; page.flushed().len(), 0);
+    assert_is(rt, page.flushed().len(), 0);
 }
 
 #[test]
@@ -108,7 +108,7 @@ fn ends_after_hello(rt: &impl Abort, alloc: Global, bytes: &[u8], end: End) {
     let mut page = Page::new();
     let told = served(rt, alloc, &mut reader, &mut page);
     assert_served(rt, &told, &page, end, (1, 0, 0, 0), &ANSWERS[..7]);
-    assert_eq!(rt; page.flushed().len(), 1);
+    assert_is(rt, page.flushed().len(), 1);
 }
 
 #[test]
@@ -161,7 +161,7 @@ fn ends_after_second_hello(rt: &impl Abort, alloc: Global, bytes: &[u8], fault: 
     let told = served(rt, alloc, &mut reader, &mut page);
     let end = End::Fault(fault);
     assert_served(rt, &told, &page, end, (1, 0, 0, 0), &SECOND_ANSWERS[..11]);
-    assert_eq!(rt; page.flushed().len(), 1);
+    assert_is(rt, page.flushed().len(), 1);
 }
 
 #[test]
