@@ -37,6 +37,7 @@ use Rattle.sysv_engine.specs.contracts.moment.Moment as moment
 use Rattle.sysv_engine.specs.contracts.place.Place as place
 use Rattle.sysv_engine.specs.contracts.place.Place.TheInside as place_inside
 use Rattle.sysv_engine.specs.contracts.rounds.Serving as serving
+use Rattle.sysv_engine.specs.contracts.spinning.Spinning as spinning
 use Rattle.sysv_engine.specs.contracts.times.Times as times
 use Rattle.sysv_engine.specs.contracts.watch.Ready as ready
 use Rattle.sysv_engine.specs.contracts.worker.Worker as worker
@@ -164,6 +165,9 @@ envelope_send = search crossing depth 60
 moment_send : IsSend moment.the_row
 moment_send = search crossing depth 30
 
+spinning_send : IsSend spinning.the_row
+spinning_send = search crossing depth 30
+
 pub worker_send : (l : NamedLft) (R T W B : RattleType) (ghosts : Ghosts T.Denot B.Denot) → IsSync R → IsSend T →
     IsSend W → IsSend B → IsSend (worker.the_row l R T W B ghosts)
 worker_send l R T W B ghosts r t w b =
@@ -190,7 +194,10 @@ worker_send l R T W B ghosts r t w b =
                         search crossing depth 10,
                         (
                           options.the_send _ moment_send,
-                          (search crossing depth 10, (search crossing depth 10, tt)),
+                          (
+                            search (crossing, spinning_send) depth 30,
+                            (search crossing depth 10, (search crossing depth 10, tt)),
+                          ),
                         ),
                       ),
                     ),

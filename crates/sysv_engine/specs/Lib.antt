@@ -1,5 +1,6 @@
 -- The definitions of the server.
 pub mod Counting
+pub mod Spinning
 pub mod Looking
 pub mod Looks
 pub mod Made

@@ -33,10 +33,10 @@ pub(crate) fn shares(alloc: Global, workers: usize, places: usize) -> Option<Vec
 
 /// A source that tells a worker about each connection that another source returns.
 ///
-/// A worker takes a connection only if it is told to, just before the connection is returned. The
-/// second of two clients goes to the worker of the first one: they often use the same queue, whose
-/// data then stay at one processor. Each other client goes to the worker with the most vacant
-/// places.
+/// A worker takes a connection only if it is told to, just before the connection is returned. If
+/// there is one client and its call waits, the next client goes to its worker: that client often
+/// ends the wait, and the data of their queue then stay at one processor. Each other client goes to
+/// the worker with the most vacant places.
 pub(crate) struct Dealing<'s, 'c, S> {
     source: &'s mut S,
     server: &'c ServerState,
@@ -82,12 +82,29 @@ impl<'s, 'c, S> Dealing<'s, 'c, S> {
     fn tell(&mut self)
         ensures { self.new.source ≡ self.old.source }
     {
-        let worker = self.only_one().unwrap_or(self.emptiest());
+        let worker = self.waiting_one().unwrap_or(self.emptiest());
         self.next = self.after(worker);
         if let Some(share) = self.shares.get_mut(worker) {
             share.told = share.told.saturating_add(1);
         }
         self.server.call(worker);
+    }
+
+    /// Returns the worker of the only client, if there is exactly one, its call waits, and its
+    /// worker has a vacant place.
+    fn waiting_one(&self) -> Option<usize> {
+        let worker = self.only_one()?;
+        if self.has_waiting() {
+            Some(worker)
+        } else {
+            None
+        }
+    }
+
+    /// Returns whether the call of a client waits.
+    fn has_waiting(&self) -> bool {
+        let counted = self.server.counted();
+        counted.slots.receives > 0 || counted.slots.sends > 0 || counted.for_blocks > 0
     }
 
     /// Returns the worker of the only client, if there is exactly one and its worker has a vacant

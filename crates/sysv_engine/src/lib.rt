@@ -24,6 +24,7 @@ mod rounds;
 mod rows;
 mod seeing;
 mod server_state;
+mod spinning;
 mod staff;
 mod sums;
 mod team;

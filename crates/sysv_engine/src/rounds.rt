@@ -1,10 +1,12 @@
 //! The event loop of a worker.
+ghost use Rattle.std.specs.Prelude.{◌≡◌};
 ghost use Rattle.sysv_engine.specs.Places.{IsVacantAt, KeepsAll};
 
 use crate::counts::Moved;
 use crate::moment::Moment;
 use crate::parked_calls::Key;
 use crate::server_state::{BLOCKS_WORD, Envelope, ServerState, bit, room_word};
+use crate::spinning::look;
 use crate::watch::{Ready, Watch};
 use crate::worker::{Worker, sooner};
 use std::alloc::Global;
@@ -120,17 +122,45 @@ impl<'a, 'c, R: Wait> Serving<'a, 'c, R> {
         ensures { KeepsAll T.incoming T.outgoing T.closes worker.old.places.items
             worker.new.places.items }
     {
-        let number = worker.number;
-        let may_sleep = self.server.fall_asleep(number);
+        if !self.spin(worker) {
+            self.sleep(worker);
+        }
+        if self.server.wake_up(worker.number) {
+            self.read_envelopes(worker);
+        }
+    }
+
+    /// Looks for events for some microseconds, if there are few clients and such looks were of use
+    /// lately. Returns whether a client has an event, or something came for the worker.
+    fn spin<T: NonBlocking, W: Watch<T>>(&self, worker: &mut Worker<'_, R, T, W>) -> bool
+        ensures { worker.new.places ≡ worker.old.places }
+    {
+        let is_idle = worker.turns.is_empty() && !worker.is_empty();
+        if !is_idle || !self.server.has_few_clients() || !worker.spinning.is_due() {
+            return false;
+        }
+        let found = look(
+            self.server,
+            worker.number,
+            &mut worker.watch,
+            &mut worker.ready,
+        );
+        worker.spinning.learn(found);
+        found.is_some()
+    }
+
+    /// Sleeps until a client has an event, or something came for the worker. It does not sleep if
+    /// a client has more to do.
+    fn sleep<T: NonBlocking, W: Watch<T>>(&self, worker: &mut Worker<'_, R, T, W>)
+        ensures { worker.new.places ≡ worker.old.places }
+    {
+        let may_sleep = self.server.fall_asleep(worker.number);
         let limit = if may_sleep && worker.turns.is_empty() {
             worker.check.map(Moment::left)
         } else {
             Some(0)
         };
         worker.watch.wait(limit, &mut worker.ready);
-        if self.server.wake_up(number) {
-            self.read_envelopes(worker);
-        }
     }
 
     /// Serves a client of which the watch reports an event.

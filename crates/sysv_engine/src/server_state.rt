@@ -29,6 +29,10 @@ const BITS: usize = 64;
 /// The number of envelopes that a worker's mailbox holds.
 const ENVELOPES: usize = 512;
 
+/// The number of clients with which each of them, and the worker that serves it, may well have a
+/// processor of its own.
+const FEW_CLIENTS: u64 = 2;
+
 /// A notification for other workers.
 #[derive(Clone, Copy)]
 pub(crate) struct Envelope {
@@ -172,6 +176,14 @@ impl ServerState {
     pub(crate) fn wake_up(&self, worker: usize) -> bool {
         match self.posts.get(worker) {
             Some(post) => post.wake_up(),
+            None => false,
+        }
+    }
+
+    /// Returns whether something came for a worker since it was last awake.
+    pub(crate) fn has_come(&self, worker: usize) -> bool {
+        match self.posts.get(worker) {
+            Some(post) => post.rung.load(Ordering::SeqCst),
             None => false,
         }
     }
@@ -388,6 +400,12 @@ impl ServerState {
     /// Ends the ringing of that doorbell.
     pub fn hush(&self) {
         self.turn.hush();
+    }
+
+    /// Returns whether few clients are served, of those that were returned to the workers.
+    pub(crate) fn has_few_clients(&self) -> bool {
+        let dealt = self.dealt.load(Ordering::SeqCst);
+        dealt.saturating_sub(self.over.load(Ordering::SeqCst)) <= FEW_CLIENTS
     }
 
     /// Returns whether one more client may be accepted, of which this many were.

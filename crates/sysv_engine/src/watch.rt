@@ -62,6 +62,12 @@ pub trait Watch<T> {
     /// Waits until a place has an event or the doorbell is rung, for at most `limit` milliseconds,
     /// and puts what is reported into `ready`. It may return early.
     fn wait(&mut self, limit: Option<u64>, ready: &mut Vec<Ready>);
+
+    /// Puts into `ready` which places have events now. By default that is not known, and it is left
+    /// empty.
+    fn look(&mut self, ready: &mut Vec<Ready>) {
+        ready.clear();
+    }
 }
 
 /// A `Watch` over the system's poll.
@@ -110,6 +116,10 @@ impl<T: AsRawFd> Watch<T> for Polled {
 
     fn has_left(&self, connection: &T) -> bool {
         poll(&mut [asking(connection.as_raw_fd(), POLLRDHUP)], 0) > 0
+    }
+
+    fn look(&mut self, ready: &mut Vec<Ready>) {
+        Watch::<T>::wait(self, Some(0), ready);
     }
 
     fn wait(&mut self, limit: Option<u64>, ready: &mut Vec<Ready>) {

@@ -6,6 +6,7 @@ use crate::moment::Moment;
 use crate::parked_calls::{Key, Lines};
 use crate::place::Place;
 use crate::server_state::Envelope;
+use crate::spinning::Spinning;
 use crate::terms::Patience;
 use crate::watch::{Ready, Watch};
 use std::alloc::Global;
@@ -42,6 +43,7 @@ pub(crate) struct Worker<'a, R: Wait, T: NonBlocking, W> {
     pub(crate) answered: u64,
     /// When to look for clients whose time is over.
     pub(crate) check: Option<Moment>,
+    pub(crate) spinning: Spinning,
     /// The numbers of its envelopes about room and about messages, modulo 2^64.
     rooms: usize,
     messages: usize,
@@ -131,6 +133,7 @@ impl<'a, R: Wait, T: NonBlocking, W: Watch<T>> Worker<'a, R, T, W> {
             tools,
             answered: 1,
             check: None,
+            spinning: Spinning::new(),
             rooms: 0,
             messages: 0,
         }
@@ -154,6 +157,7 @@ impl<'a, R: Wait, T: NonBlocking, W: Watch<T>> Worker<'a, R, T, W> {
             tools,
             answered: _,
             check: _,
+            spinning: _,
             rooms: _,
             messages: _,
         } = self;
