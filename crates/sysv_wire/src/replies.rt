@@ -263,12 +263,12 @@ pub fn write_reply<W: Write>(
     // The writer stays the same, and fails in this call if and only if the result is an error.
     ensures stream { KeepsStream writer.old writer.new (is_err result) }
 {
-    let fields = fields_of(&reply.result);
+    let mut head = Fields::new();
     if takes_text(&reply.result) {
-        let head = head_of(reply, &fields, text.len());
+        put_head(&mut head, reply, text.len());
         write_both(writer, head.bytes(), text)
     } else {
-        let head = head_of(reply, &fields, 0);
+        put_head(&mut head, reply, 0);
         writer.write_out(head.bytes())
     }
 }
@@ -298,30 +298,48 @@ fn error_of(content: &ReplyContent) -> u8
     }
 }
 
-/// Returns the length, version, operation, error and fields of a reply whose body has `text_len`
-/// bytes.
-fn head_of(reply: &Reply, fields: &Fields, text_len: usize) -> Fields
-    requires fields { length fields.now ≤ MAX_FIELDS }
-    requires text { text_len ≤ MESSAGE_BYTES }
-    ensures { result ≡ u32_bytes (3 + length fields.now + text_len)
-        ++ (version_number reply.now.version ∷ reply.now.op ∷ error_number
-        reply.now.result ∷ fields.now) }
+/// Returns the number of bytes in the fields of a result, without its body.
+#[tactic(auto, unfolding(crate::specs::Numbers::u16_bytes, crate::specs::Numbers::u32_bytes, crate::specs::Numbers::u64_bytes, crate::specs::Numbers::i32_bytes, crate::specs::Numbers::i64_bytes, crate::specs::Replies::perm_fields, crate::specs::Replies::count_fields, crate::specs::Replies::time_fields, crate::specs::Replies::stat_fields, crate::specs::Replies::row_fields))]
+fn len_of(content: &ReplyContent) -> usize
+    ensures fields { result ≡ length (content_fields content.now) }
+    ensures most { result ≤ MAX_FIELDS }
 {
-    let mut frame = Fields::new();
-    frame.put_u32((3 + fields.bytes().len() + text_len) as u32);
+    match content {
+        ReplyContent::Refused(_) => 0,
+        ReplyContent::Hello => 0,
+        ReplyContent::HelloSlots { .. } => 4,
+        ReplyContent::Get { .. } => 4,
+        ReplyContent::Snd => 0,
+        ReplyContent::Rcv { .. } => 8,
+        ReplyContent::Stat(_) => 66,
+        ReplyContent::Set => 0,
+        ReplyContent::Rm => 0,
+        ReplyContent::Row(None) => 1,
+        ReplyContent::Row(Some(_)) => 23,
+    }
+}
+
+/// Writes the length, version, operation, error and fields of a reply into an empty frame. The body
+/// of the reply has `text_len` bytes.
+fn put_head(frame: &mut Fields, reply: &Reply, text_len: usize)
+    requires empty { frame.old ≡ [] }
+    requires text { text_len ≤ MESSAGE_BYTES }
+    ensures { frame.new ≡ u32_bytes (3 + length (content_fields reply.now.result) + text_len)
+        ++ (version_number reply.now.version ∷ reply.now.op ∷ error_number reply.now.result
+        ∷ content_fields reply.now.result) }
+{
+    frame.put_u32((3 + len_of(&reply.result) + text_len) as u32);
     frame.put_u8(reply.version.number());
     frame.put_u8(reply.op);
     frame.put_u8(error_of(&reply.result));
-    frame.put(fields.bytes());
-    frame
+    put_fields(frame, &reply.result);
 }
 
-/// Returns the fields of a result.
-fn fields_of(content: &ReplyContent) -> Fields
-    ensures fields { result ≡ content_fields content.now }
-    ensures most { length result ≤ MAX_FIELDS }
+/// Appends the fields of a result.
+fn put_fields(fields: &mut Fields, content: &ReplyContent)
+    requires { length fields.old ≤ 7 }
+    ensures { fields.new ≡ fields.old ++ content_fields content.now }
 {
-    let mut fields = Fields::new();
     match *content {
         ReplyContent::Refused(_) => {}
         ReplyContent::Hello => {}
@@ -329,22 +347,21 @@ fn fields_of(content: &ReplyContent) -> Fields
         ReplyContent::Get { id } => fields.put_i32(id),
         ReplyContent::Snd => {}
         ReplyContent::Rcv { mtype } => fields.put_i64(mtype),
-        ReplyContent::Stat(stat) => put_stat(&mut fields, stat),
+        ReplyContent::Stat(stat) => put_stat(fields, stat),
         ReplyContent::Set => {}
         ReplyContent::Rm => {}
         ReplyContent::Row(None) => fields.put_u8(0),
         ReplyContent::Row(Some(row)) => {
             fields.put_u8(1);
-            put_row(&mut fields, row);
+            put_row(fields, row);
         }
     }
-    fields
 }
 
 /// Appends a row.
 #[tactic(auto, using(std::proofs::Common::append_assoc), unfolding(crate::specs::Replies::row_fields))]
 fn put_row(fields: &mut Fields, row: Row)
-    requires { length fields.old ≤ 1 }
+    requires { length fields.old ≤ 8 }
     ensures after { fields.new ≡ fields.old ++ row_fields row }
     ensures len { length fields.new ≡ length fields.old + 22 }
 {
@@ -356,12 +373,12 @@ fn put_row(fields: &mut Fields, row: Row)
     fields.put_u32(row.qnum);
 }
 
-/// Writes a queue's attributes into empty fields.
+/// Appends a queue's attributes.
 #[tactic(auto, using(std::proofs::Common::append_assoc), unfolding(crate::specs::Replies::stat_fields))]
 fn put_stat(fields: &mut Fields, stat: Stat)
-    requires { length fields.old ≡ 0 }
+    requires { length fields.old ≤ 7 }
     ensures after { fields.new ≡ fields.old ++ stat_fields stat }
-    ensures len { length fields.new ≡ 66 }
+    ensures len { length fields.new ≡ length fields.old + 66 }
 {
     fields.put_i32(stat.key);
     put_perm(fields, stat.perm);
@@ -372,7 +389,7 @@ fn put_stat(fields: &mut Fields, stat: Stat)
 /// Appends the owner, creator and mode.
 #[tactic(auto, using(std::proofs::Common::append_assoc), unfolding(crate::specs::Replies::perm_fields))]
 fn put_perm(fields: &mut Fields, perm: Perm)
-    requires { length fields.old ≤ 4 }
+    requires { length fields.old ≤ 11 }
     ensures after { fields.new ≡ fields.old ++ perm_fields perm }
     ensures len { length fields.new ≡ length fields.old + 18 }
 {
@@ -387,7 +404,7 @@ fn put_perm(fields: &mut Fields, perm: Perm)
 /// that sent and received last.
 #[tactic(auto, using(std::proofs::Common::append_assoc), unfolding(crate::specs::Replies::count_fields))]
 fn put_counts(fields: &mut Fields, stat: Stat)
-    requires { length fields.old ≤ 22 }
+    requires { length fields.old ≤ 29 }
     ensures after { fields.new ≡ fields.old ++ count_fields stat }
     ensures len { length fields.new ≡ length fields.old + 20 }
 {
@@ -401,7 +418,7 @@ fn put_counts(fields: &mut Fields, stat: Stat)
 /// Appends the timestamps.
 #[tactic(auto, using(std::proofs::Common::append_assoc), unfolding(crate::specs::Replies::time_fields))]
 fn put_times(fields: &mut Fields, stat: Stat)
-    requires { length fields.old ≤ 42 }
+    requires { length fields.old ≤ 49 }
     ensures after { fields.new ≡ fields.old ++ time_fields stat }
     ensures len { length fields.new ≡ length fields.old + 24 }
 {
