@@ -1,146 +1,141 @@
--- What is known of each identifier after a legal history: it was made and has a row, or was made
--- and is of an earlier generation, or was never made.
-use Rattle.std.proofs.Common.{◌≡◌, ℕ, ℤ, Bool, true, false, [], ◌∷◌, ◌++◌, refl, sym, ap, subst, ◌∙◌, ◌⊎◌}
-use Rattle.std.proofs.Common.{inl, inr}
-use Rattle.sysv_model.specs.Registry.{RegistryCall, RegistryReply, RegistryEntry, RegistryHistory, Begin, Settle}
-use Rattle.sysv_model.specs.Registry.{Forget, Made, Changed}
+-- What a legal history tells of each identifier.
+use Rattle.std.proofs.Common.{◌≡◌, ◌≢◌, ℕ, ℤ, ◌+◌, ◌*◌, ◌<◌, true, false, [], ◌∷◌, ◌++◌, inl, inr, refl, arith}
+use Rattle.std.proofs.lemmas.Bool.{cases_Bool}
+use Rattle.std.proofs.lemmas.Bool.Decides.{nat_tests, Decides-int_eq}
+use Rattle.std.proofs.lemmas.Grind.{common_steps}
+use Rattle.std.specs.List.{count_by}
+use Rattle.sysv_model.specs.declared.limits.TheConstants.{IPC_PRIVATE}
+use Rattle.sysv_model.specs.Registry.{RegistryEntry, RegistryHistory, settled}
+use Rattle.sysv_keys.specs.declared.identifier.TheConstants.{SLOTS}
+use Rattle.sysv_keys.specs.Identifier.{slot_of_id}
 use Rattle.sysv_keys.specs.State.{State, state_after, state_of}
-use Rattle.sysv_keys.specs.Rows.{Row, HasRow, makes, settles, forgets, is_made, is_settled, is_forgotten}
+use Rattle.sysv_keys.specs.Rows.{Row, HasRow, makes, settles, frees, is_made, is_settled, is_forgotten}
 use Rattle.sysv_keys.specs.LegalReply.{Legal, IsLegalHistory}
-use Rattle.sysv_keys.specs.RegistryLaw.{LeavesRow}
-use Rattle.sysv_keys.proofs.Logic.{one_id, and_both, any_left, any_here, any_last, true_or_false, never_both, not_true}
+use Rattle.sysv_keys.specs.RegistryLaw.{LeavesRow, IsIdentifier, is_settle, is_forget}
 use Rattle.sysv_keys.proofs.States.{over_legal}
-use Rattle.sysv_keys.proofs.Rows.{a_row, IsPast, one_in_slot, present, past_stays, made_row, settled_row}
-use Rattle.sysv_keys.proofs.Rows.{forgotten_past, row_stays, row_comes, none_opened}
+use Rattle.sysv_keys.proofs.Rows.{a_row, IsNew, next_new, was_new, row_comes, row_made, row_settled, row_stays}
+use Rattle.sysv_keys.proofs.Rows.{none_opened}
 
-pub record Known (h : RegistryHistory) (r : State) : Type 0 where
-  pub made : (id key : ℤ) → is_made id key h ≡ true →
-      ((live : Bool) × HasRow r (a_row id key live)) ⊎ (is_forgotten id h ≡ true)
-  pub settled : (id : ℤ) → is_settled id h ≡ true → ((key : ℤ) × HasRow r (a_row id key true)) ⊎ IsPast r id
-  pub forgotten : (id : ℤ) → is_forgotten id h ≡ true → IsPast r id
-  pub row : (row : Row) → HasRow r row →
-      (is_made row.id row.key h ≡ true) × (row.live ≡ true → is_settled row.id h ≡ true)
+-- The history has no turn that made, settled or forgot the identifier.
+pub record IsUntold (h : RegistryHistory) (id : ℤ) : Type 0 where
+  pub unmade : (key : ℤ) → is_made id key h ≡ false
+  pub unsettled : is_settled id h ≡ false
+  pub kept : is_forgotten id h ≡ false
 
--- The row that a turn makes or settles, and the identifier that it forgets.
-module _ (r : State) (id : ℤ) where
-  new_row : (key : ℤ) (call : RegistryCall) (reply : RegistryReply) → Legal r call reply →
-      makes id key call reply ≡ true → HasRow (state_after r call reply) (a_row id key false)
-  new_row key (Begin asked flags) (Made made) l e =
-      let both = and_both _ _ e in
-      subst (λ i. HasRow (state_after r (Begin asked flags) (Made made)) (a_row i key false)) (one_id made id both.0)
-      (subst (λ k. HasRow (state_after r (Begin asked flags) (Made made)) (a_row made k false))
-      (one_id asked key both.1)
-      (made_row r asked flags made l))
-  new_row key call reply l e = absurd cc
+-- A key that is not private has at most one row.
+abbrev pub OneOfKey : State → Type 0
+OneOfKey r =
+    (row twin : Row) → HasRow r row → HasRow r twin → row.key ≢ IPC_PRIVATE → row.key ≡ twin.key → row.id ≡ twin.id
 
-  new_live : (call : RegistryCall) (reply : RegistryReply) → Legal r call reply → settles id call reply ≡ true →
-      (key : ℤ) × HasRow (state_after r call reply) (a_row id key true)
-  new_live (Settle at) (Changed true) l e = (
-    l.0,
-    subst (λ i. HasRow (state_after r (Settle at) (Changed true)) (a_row i l.0 true)) (one_id at id e)
-        (settled_row r at l.0 false l.1),
-  )
-  new_live call reply l e = absurd cc
+-- What a legal history tells of the state that it leaves.
+pub record Known (opening : ℕ) (h : RegistryHistory) (r : State) : Type 0 where
+  -- an identifier is not named before its slot comes to its generation
+  pub untold : (id : ℤ) → IsNew r id → IsUntold h id
+  -- the rows are those of the identifiers that were made and not forgotten
+  pub leaves : (row : Row) → HasRow r row → LeavesRow h row
+  pub is_left : (row : Row) → LeavesRow h row → HasRow r row
+  pub single : OneOfKey r
+  pub whole : (id key : ℤ) → is_made id key h ≡ true → IsIdentifier id
+  -- a slot's generation counts the forgets in it
+  pub aged : (slot : ℕ) → slot < SLOTS →
+      (r.places slot).generation ≡ opening + count_by (λ (e : RegistryEntry). frees slot e.call e.reply) h
+  pub counted : settled h
+      ≡ count_by (λ (e : RegistryEntry). is_settle e.call e.reply) h
+      + count_by (λ (e : RegistryEntry). is_forget e.call e.reply) h
 
-  pub new_past : (call : RegistryCall) (reply : RegistryReply) → Legal r call reply → forgets id call reply ≡ true →
-      IsPast (state_after r call reply) id
-  new_past (Forget at) (Changed true) l e =
-      subst (IsPast (state_after r (Forget at) (Changed true))) (one_id at id e) (forgotten_past r at l)
-  new_past call reply l e = absurd cc
-
-module _ (h : RegistryHistory) (r : State) (e : RegistryEntry) (l : Legal r e.call e.reply) (k : Known h r) where
+module _ (opening : ℕ) (h : RegistryHistory) (r : State) (e : RegistryEntry) (l : Legal r e.call e.reply)
+    (k : Known opening h r) where
   abbrev more : RegistryHistory
   more = h ++ e ∷ []
 
   abbrev after : State
   after = state_after r e.call e.reply
 
-  abbrev made_by : ℤ → ℤ → RegistryEntry → Bool
-  made_by id key x = makes id key x.call x.reply
+  untold_more : (id : ℤ) → IsNew after id → IsUntold more id
+  untold_more id new =
+      let was = was_new r e.call e.reply l id new in
+      let old = k.untold id was.0 in
+      record {
+        unmade = λ key. grind (arith, common_steps, was.1 key, old.unmade key);
+        unsettled = grind (arith, common_steps);
+        kept = grind (arith, common_steps);
+      }
 
-  abbrev settled_by : ℤ → RegistryEntry → Bool
-  settled_by id x = settles id x.call x.reply
-
-  abbrev forgotten_by : ℤ → RegistryEntry → Bool
-  forgotten_by id x = forgets id x.call x.reply
-
-  made_more : (id key : ℤ) → is_made id key more ≡ true →
-      ((live : Bool) × HasRow after (a_row id key live)) ⊎ (is_forgotten id more ≡ true)
-  made_more id key t = elim (any_last (made_by id key) h e t) [
-    | inr new ↦ inl (false, new_row r id key e.call e.reply l new)
-    | inl old ↦ elim (k.made id key old) [
-      | inr gone ↦ inr (any_left (forgotten_by id) h (e ∷ []) gone)
-      | inl row ↦ elim (row_stays r e.call e.reply l (a_row id key row.0) row.1) [
-        | inl stays ↦ inl (stays.0, stays.1)
-        | inr gone ↦ inr (any_here (forgotten_by id) h e [] gone)
-      ]
+  leaves_more : (row : Row) → HasRow after row → LeavesRow more row
+  leaves_more row here = elim (row_comes r e.call e.reply l row here) [
+    | inl new ↦
+        let made = row_made r e.call e.reply l row.id row.key new.0 in
+        let old = k.untold row.id (next_new r row.id made.0) in
+        grind (arith, common_steps)
+    | inr was ↦ elim was [
+      | inl settled ↦ let old = k.leaves (a_row row.id row.key false) settled.1 in grind (arith, common_steps)
+      | inr stays ↦ let old = k.leaves row stays.2 in grind (arith, common_steps)
     ]
   ]
 
-  settled_more : (id : ℤ) → is_settled id more ≡ true → ((key : ℤ) × HasRow after (a_row id key true)) ⊎ IsPast after id
-  settled_more id t = elim (any_last (settled_by id) h e t) [
-    | inr new ↦ inl (new_live r id e.call e.reply l new)
-    | inl old ↦ elim (k.settled id old) [
-      | inr past ↦ inr (past_stays r e.call e.reply id past)
-      | inl row ↦ elim (row_stays r e.call e.reply l (a_row id row.0 true) row.1) [
-        | inl stays ↦ inl (row.0, subst (λ t. HasRow after (a_row id row.0 t)) (stays.2 refl) stays.1)
-        | inr gone ↦ inr (new_past r id e.call e.reply l gone)
-      ]
-    ]
+  left_more : (row : Row) → LeavesRow more row → HasRow after row
+  left_more row w = elim (cases_Bool (makes row.id row.key e.call e.reply)) [
+    | inl new ↦
+        let made = row_made r e.call e.reply l row.id row.key new in
+        let old = k.untold row.id (next_new r row.id made.0) in
+        let making : row.live ≡ false = grind (arith, common_steps) in
+        grind (arith, common_steps)
+    | inr unmade ↦
+        let was : Row = a_row row.id row.key (is_settled row.id h) in
+        let old = k.is_left was (grind (arith, common_steps)) in
+        elim (cases_Bool (settles row.id e.call e.reply)) [
+          | inl settled ↦
+              let now = row_settled r e.call e.reply l row.id row.key was.live old settled in
+              let live : row.live ≡ true = grind (arith, common_steps) in
+              grind (arith, common_steps)
+          | inr unsettled ↦
+              let same : is_settled row.id h ≡ row.live = grind (arith, common_steps) in
+              row_stays r e.call e.reply l row (rw (← same) old) unsettled (grind (arith, common_steps))
+        ]
   ]
 
-  forgotten_more : (id : ℤ) → is_forgotten id more ≡ true → IsPast after id
-  forgotten_more id t = elim (any_last (forgotten_by id) h e t) [
-    | inl old ↦ past_stays r e.call e.reply id (k.forgotten id old)
-    | inr new ↦ new_past r id e.call e.reply l new
+  single_more : OneOfKey after
+  single_more row twin here there public same = grind (
+    arith,
+    Decides-int_eq,
+    row_comes r e.call e.reply l row here,
+    row_comes r e.call e.reply l twin there,
+    k.single row twin,
+    k.single (a_row row.id row.key false) twin,
+    k.single row (a_row twin.id twin.key false),
+  )
+
+  whole_more : (id key : ℤ) → is_made id key more ≡ true → IsIdentifier id
+  whole_more id key made = elim (cases_Bool (is_made id key h)) [
+    | inl old ↦ k.whole id key old
+    | inr not ↦
+        let new : makes id key e.call e.reply ≡ true = grind (arith, common_steps) in
+        let next = (row_made r e.call e.reply l id key new).0 in
+        record {
+          number = slot_of_id id + SLOTS * (r.places (slot_of_id id)).generation;
+          whole = next.1;
+          most = omega (arith, next.0.0.there, next.0.0.usable);
+        }
   ]
 
-  row_more : (row : Row) → HasRow after row →
-      (is_made row.id row.key more ≡ true) × (row.live ≡ true → is_settled row.id more ≡ true)
-  row_more row here = elim (row_comes r e.call e.reply l row here) [
-    | inl old ↦
-        let was = k.row (a_row row.id row.key old.0) old.1 in (
-          any_left (made_by row.id row.key) h (e ∷ []) was.0,
-          λ t. elim (old.2 t) [
-            | inl live ↦ any_left (settled_by row.id) h (e ∷ []) (was.1 live)
-            | inr new ↦ any_here (settled_by row.id) h e [] new
-          ],
-        )
-    | inr new ↦ (any_here (made_by row.id row.key) h e [] new.0, λ t. absurd (never_both row.live t new.1))
-  ]
-
-  known_more : Known more after
-  known_more = record { made = made_more; settled = settled_more; forgotten = forgotten_more; row = row_more }
-
-pub known : (opening : ℕ) (h : RegistryHistory) → IsLegalHistory opening h → Known h (state_of opening h)
-known opening = over_legal opening Known (record {
-  made = λ id key t. absurd cc;
-  settled = λ id t. absurd cc;
-  forgotten = λ id t. absurd cc;
-  row = λ row here. absurd (none_opened opening row here);
-}) known_more
-
--- The rows are those of the identifiers that were made and not forgotten.
-module _ (h : RegistryHistory) (r : State) (k : Known h r) where
-  pub leaves : (row : Row) → HasRow r row → LeavesRow h row
-  leaves row here = record {
-    made = (k.row row here).0;
-    kept = not_true _ (λ t. present r row here (k.forgotten row.id t));
-    stage = elim (true_or_false row.live) [
-      | inl live ↦ (k.row row here).1 live ∙ sym live
-      | inr making ↦ not_true _ (λ t. elim (k.settled row.id t) [
-        | inl other ↦ never_both row.live
-            (ap (λ (x : Row). x.live) (one_in_slot r row (a_row row.id other.0 true) here other.1 refl)) making
-        | inr past ↦ present r row here past
-      ]) ∙ sym making
-    ];
+  known_more : Known opening more after
+  known_more = record {
+    untold = untold_more;
+    leaves = leaves_more;
+    is_left = left_more;
+    single = single_more;
+    whole = whole_more;
+    aged = λ slot within. let was = k.aged slot within in grind (arith, common_steps, nat_tests);
+    counted = let was = k.counted in grind (arith, common_steps);
   }
 
-  pub is_left : (row : Row) → LeavesRow h row → HasRow r row
-  is_left row w = elim (k.made row.id row.key w.made) [
-    | inl here ↦
-        subst (λ t. HasRow r (a_row row.id row.key t))
-        (sym (leaves (a_row row.id row.key here.0) here.1).stage ∙ w.stage)
-        here.1
-    | inr gone ↦ absurd (never_both _ gone w.kept)
-  ]
+pub known : (opening : ℕ) (h : RegistryHistory) → IsLegalHistory opening h → Known opening h (state_of opening h)
+known opening = over_legal opening (Known opening) (record {
+  untold = λ id new. record { unmade = λ key. refl; unsettled = refl; kept = refl };
+  leaves = λ row here. absurd (none_opened opening row here);
+  is_left = λ row w. let made = w.made in absurd cc;
+  single = λ row twin here there public same. absurd (none_opened opening row here);
+  whole = λ id key made. absurd cc;
+  aged = λ slot within. grind (arith, nat_tests);
+  counted = refl;
+}) (known_more opening)

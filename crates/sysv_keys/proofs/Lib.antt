@@ -1,4 +1,3 @@
-pub mod Logic
 pub mod Legality
 pub mod States
 pub mod Rows
@@ -6,5 +5,4 @@ pub mod Known
 pub mod Law
 pub mod OneLegalReply
 pub mod Unused
-pub mod Kept
 pub mod Turns

@@ -1,17 +1,17 @@
 //! The registry: one place for each slot, and an index from keys to slots.
 
-ghost use Rattle.std.specs.Prelude.{◌≡◌, ◌≢◌, ℕ, ℤ, ◌+◌, ◌<◌, ◌≤◌, ◌↔◌, false, [], IsTrue, IsSome, None, Some, MatchOption, IfErr, IfOk, OnOk, MatchResult, length};
-ghost use Rattle.std.specs.Ordering.{int_eq};
-ghost use Rattle.indexmap.specs.IndexMap.{get, index_map_len, spare};
+ghost use Rattle.std.specs.Prelude.{◌≡◌, ◌≢◌, ℕ, ℤ, ◌+◌, ◌<◌, ◌≤◌, ◌↔◌, false, [], IsTrue, IsSome, None, Some, MatchOption, IfErr, IfOk, OnOk, MatchResult, length, set};
+ghost use Rattle.indexmap.specs.IndexMap.{index_map_len, spare};
 ghost use Rattle.sysv_model.specs.declared.limits.TheConstants.{IPC_PRIVATE};
 ghost use Rattle.sysv_model.specs.Registry.{RegistryHistory, Begin, Settle, Forget, Changed};
 ghost use Rattle.sysv_keys.specs.declared.identifier.TheConstants.{SLOTS, GENERATION_LAST};
-ghost use Rattle.sysv_keys.specs.State.{state_in};
+ghost use Rattle.sysv_keys.specs.declared.registry.KeyRow.{KeyRow};
+ghost use Rattle.sysv_keys.specs.State.{made_in, settled_in, forgotten_in, write, places_in, state_in};
 ghost use Rattle.sysv_keys.specs.Rows.{IsUnused, IsVacant, IsLeastVacant};
 ghost use Rattle.sysv_keys.specs.LegalReply.{IsBound};
 ghost use Rattle.sysv_keys.specs.Represents.{Represents, MakesTurn};
 ghost use Rattle.sysv_keys.specs.Replies.{begun_reply, ChangesOnlyIfMade};
-ghost use Rattle.sysv_keys.specs.Kept.{IsOpen, Finds, HasNoRow, HasRowOf, Makes, IsIndex, IsEntered, KeysDiffer};
+ghost use Rattle.sysv_keys.specs.Kept.{IsOpen, age, is_live, IsIndex, IsEntered, IsOnlyAt, MayPut, IsPlaceOf, HasNoRow, Finds, Creating};
 
 use crate::identifier::{GENERATION_LAST, SLOTS, id_of, slot_of_id};
 use bitflags::Flags as Set;
@@ -81,6 +81,40 @@ impl Place {
     {
         self.row.is_none() && self.generation <= GENERATION_LAST
     }
+
+    /// Returns whether the place has a row that is Live.
+    fn is_live(&self) -> bool
+        ensures { result ≡ is_live self.now.row }
+    {
+        matches!(self.row, Some(row) if row.live)
+    }
+
+    /// Returns the place once an identifier was made in it for a key.
+    fn made(self, key: i32) -> Place
+        ensures { result ≡ made_in key self }
+    {
+        let row = Some(KeyRow { key, live: false });
+        Place { row, ..self }
+    }
+
+    /// Returns the place once its row was settled.
+    fn settled(self) -> Place
+        ensures { result ≡ settled_in self }
+    {
+        let row = self.row.map(|row| KeyRow { live: true, ..row });
+        Place { row, ..self }
+    }
+
+    /// Returns the place once its row was forgotten.
+    fn forgotten(self) -> Place
+        requires { self.generation ≤ GENERATION_LAST }
+        ensures { result ≡ forgotten_in self }
+    {
+        Place {
+            generation: self.generation + 1,
+            row: None,
+        }
+    }
 }
 
 /// The rows of the keys, and the generation of each slot.
@@ -89,14 +123,14 @@ impl Place {
 #[derive(Drop)]
 pub struct Registry {
     places: Vec<Place>,
-    /// The slot of the row of each key that is not private.
+    /// The slot of each key that has a row. A key whose row was forgotten stays here until the
+    /// index is full, so its slot may have the row of another key by then. Private keys are entered
+    /// too, but never looked up.
     by_key: IndexMap<i32, usize>,
     settled: u64,
 }
 
 impl Model for Registry {
-    ghost use Rattle.std.specs.Ordering.{int_eq};
-    ghost use Rattle.indexmap.specs.IndexMap.{get, index_map_len, spare};
     ghost use Rattle.sysv_keys.specs.State.{Registry as Seen};
     ghost use Rattle.sysv_keys.specs.Kept.{IsKept};
 
@@ -104,8 +138,7 @@ impl Model for Registry {
 
     ghost view = { λ r. record { places = r.places.items; settled = r.settled } };
 
-    ghost invariant = { λ r. IsKept r.places.items (λ key. get int_eq r.by_key key)
-        (index_map_len r.by_key) (spare r.by_key) r.settled };
+    ghost invariant = { λ r. IsKept r.places.items r.by_key r.settled };
 }
 
 impl Registry {
@@ -143,7 +176,7 @@ impl Registry {
             row: None,
         };
         let places = vec![in alloc; vacant; SLOTS]?;
-        let by_key = IndexMap::with_capacity(alloc, SLOTS)?;
+        let by_key = IndexMap::with_capacity(alloc, SLOTS + 1)?;
         Ok(Registry {
             places,
             by_key,
@@ -175,12 +208,7 @@ impl Registry {
                 return Begun::Refused(Errno::ENOENT);
             }
         }
-        match self.least_vacant() {
-            Some(slot) => Begun::Made {
-                id: self.make(slot, key),
-            },
-            None => Begun::Refused(Errno::ENOSPC),
-        }
+        self.create(key)
     }
 
     /// Returns the result of a `begin` of this key, if the key has a row.
@@ -189,8 +217,11 @@ impl Registry {
         ensures { MatchOption result (¬ IsBound (state_in self.now) key) (Finds self.now key) }
     {
         let slot = *self.by_key.get(&key)?;
-        let place = self.places[slot];
+        let place = *self.places.get(slot)?;
         let row = place.row?;
+        if row.key != key {
+            return None;
+        }
         let settled = self.settled;
         if row.live {
             let id = id_of(slot, place.generation);
@@ -198,6 +229,21 @@ impl Registry {
         } else {
             Some(Begun::Busy { settled })
         }
+    }
+
+    /// Makes the identifier of the least vacant slot, if there is one, for a key without a row.
+    fn create(&mut self, key: i32) -> Begun
+        requires { key ≢ IPC_PRIVATE → ¬ IsBound (state_in self.old) key }
+        ensures turn { Creating self.old key result self.new }
+        ensures unless_made { ChangesOnlyIfMade result self.old self.new }
+    {
+        let Some(slot) = self.least_vacant() else {
+            return Begun::Refused(Errno::ENOSPC);
+        };
+        let place = self.place(slot);
+        self.put(slot, place.made(key), 0);
+        let id = id_of(slot, place.generation);
+        Begun::Made { id }
     }
 
     /// Returns the least slot in which an identifier can be made, if there is one.
@@ -208,31 +254,42 @@ impl Registry {
         self.places.iter().position(|place| place.is_open())
     }
 
-    /// Makes the identifier of the least vacant slot for a key.
-    fn make(&mut self, slot: usize, key: i32) -> i32
-        requires vacant { IsLeastVacant (state_in self.old) slot }
-        requires new { key ≢ IPC_PRIVATE → ¬ IsBound (state_in self.old) key }
-        ensures { Makes self.old key result self.new }
+    /// Returns the place of a slot.
+    fn place(&self, slot: usize) -> Place
+        requires { slot < SLOTS }
+        ensures there { slot < length self.now.places }
+        ensures is { places_in self.now.places slot ≡ result }
+        ensures young { age result ≤ GENERATION_LAST + 1 }
     {
-        let generation = self.places[slot].generation;
-        let row = Some(KeyRow { key, live: false });
-        self.places[slot] = Place { generation, row };
-        bind(&mut self.by_key, key, slot);
-        id_of(slot, generation)
+        self.places[slot]
     }
 
-    /// Returns the row of an identifier, if it has one.
-    fn row(&self, id: i32) -> Option<KeyRow>
-        ensures { MatchOption result (HasNoRow self.now id) (HasRowOf self.now id) }
+    /// Returns the place of an identifier, if the identifier has a row.
+    fn place_of(&self, id: i32) -> Option<Place>
+        ensures { MatchOption result (HasNoRow self.now id) (IsPlaceOf self.now id) }
     {
         let slot = slot_of_id(id);
-        let place = self.places[slot];
-        let row = place.row?;
+        let place = self.place(slot);
+        place.row?;
         if id_of(slot, place.generation) == id {
-            Some(row)
+            Some(place)
         } else {
             None
         }
+    }
+
+    /// Puts a place into a slot, enters the key of its row into the index, and adds to the settled
+    /// count.
+    fn put(&mut self, slot: usize, place: Place, changes: u64)
+        requires { MayPut self.old slot place changes }
+        ensures { self.new ≡ record {
+          places = set self.old.places slot place;
+          settled = self.old.settled + changes;
+        } }
+    {
+        index_place(&mut self.by_key, &self.places, slot, place);
+        self.places[slot] = place;
+        self.settled += changes;
     }
 
     /// Records that the queue of a new identifier was installed.
@@ -243,13 +300,9 @@ impl Registry {
         ensures turn { MakesTurn self.old (Settle id) (Changed result) self.new }
         ensures refused { result ≡ false → self.new ≡ self.old }
     {
-        match self.row(id) {
-            Some(row) if !row.live => {
-                let slot = slot_of_id(id);
-                let generation = self.places[slot].generation;
-                let row = Some(KeyRow { live: true, ..row });
-                self.places[slot] = Place { generation, row };
-                self.settled += 1;
+        match self.place_of(id) {
+            Some(place) if !place.is_live() => {
+                self.put(slot_of_id(id), place.settled(), 1);
                 true
             }
             _ => false,
@@ -264,19 +317,10 @@ impl Registry {
         ensures turn { MakesTurn self.old (Forget id) (Changed result) self.new }
         ensures refused { result ≡ false → self.new ≡ self.old }
     {
-        let Some(row) = self.row(id) else {
+        let Some(place) = self.place_of(id) else {
             return false;
         };
-        let slot = slot_of_id(id);
-        let generation = self.places[slot].generation + 1;
-        self.places[slot] = Place {
-            generation,
-            row: None,
-        };
-        self.settled += 1;
-        if row.key != IPC_PRIVATE {
-            index_keys(&self.places, &mut self.by_key);
-        }
+        self.put(slot_of_id(id), place.forgotten(), 1);
         true
     }
 
@@ -306,14 +350,31 @@ impl Registry {
     }
 }
 
+/// Enters the key of the row of a place that is to be put into a slot. If the index is full, it is
+/// built again first, without the keys that have no row.
+fn index_place(by_key: &mut IndexMap<i32, usize>, places: &[Place], slot: usize, place: Place)
+    requires wide { length places.now ≡ SLOTS }
+    requires right { IsIndex (places_in places.now) SLOTS by_key.old }
+    requires only { (row : KeyRow) → place.row ≡ Some row → row.key ≢ IPC_PRIVATE →
+        IsOnlyAt (places_in places.now) slot row.key }
+    ensures { IsIndex (write (places_in places.now) slot place) SLOTS by_key.new }
+{
+    let Some(row) = place.row else {
+        return;
+    };
+    if by_key.len() > SLOTS {
+        index_keys(by_key, places);
+    }
+    bind(by_key, row.key, slot);
+}
+
 /// Builds the index again. An index that was cleared keeps its memory; an index from which a key
 /// was removed may not.
-fn index_keys(places: &[Place], by_key: &mut IndexMap<i32, usize>)
+fn index_keys(by_key: &mut IndexMap<i32, usize>, places: &[Place])
     requires wide { length places.now ≡ SLOTS }
-    requires differ { KeysDiffer places.now }
-    requires roomy { SLOTS ≤ index_map_len by_key.old + spare by_key.old }
-    ensures { IsIndex places.now (λ key. get int_eq by_key.new key)
-        (index_map_len by_key.new) (spare by_key.new) }
+    requires right { IsIndex (places_in places.now) SLOTS by_key.old }
+    ensures right { IsIndex (places_in places.now) SLOTS by_key.new }
+    ensures few { index_map_len by_key.new ≤ SLOTS }
 {
     by_key.clear();
     for (slot, place) in places.iter().enumerate() {
@@ -323,15 +384,15 @@ fn index_keys(places: &[Place], by_key: &mut IndexMap<i32, usize>)
     }
 }
 
-/// Enters a key with its slot into the index, unless the key is private.
+/// Enters a key with its slot into the index. A key that is there already takes no further room.
 fn bind(by_key: &mut IndexMap<i32, usize>, key: i32, slot: usize)
     requires { 0 < spare by_key.old }
-    ensures private { key ≡ IPC_PRIVATE → by_key.new ≡ by_key.old }
-    ensures entered { key ≢ IPC_PRIVATE → IsEntered key slot (λ asked. get int_eq by_key.old asked)
-        (index_map_len by_key.old) (spare by_key.old) (λ asked. get int_eq by_key.new asked)
-        (index_map_len by_key.new) (spare by_key.new) }
+    ensures { IsEntered key slot by_key.old by_key.new }
 {
-    if key != IPC_PRIVATE {
-        by_key.insert(key, slot).unwrap();
+    match by_key.get_mut(&key) {
+        Some(entered) => *entered = slot,
+        None => {
+            by_key.insert(key, slot).unwrap();
+        }
     }
 }

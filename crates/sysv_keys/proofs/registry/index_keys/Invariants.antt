@@ -1,9 +1,9 @@
-use Rattle.std.specs.Ordering.{int_eq}
-use Rattle.indexmap.specs.IndexMap.{get, index_map_len, spare}
-use Rattle.sysv_keys.proofs.Kept.{IsFilled}
+use Rattle.std.proofs.Common.{◌≤◌}
+use Rattle.indexmap.specs.IndexMap.{index_map_len}
+use Rattle.sysv_keys.specs.State.{places_in}
+use Rattle.sysv_keys.specs.Kept.{IsIndex}
 use Rattle.sysv_keys.proofs.registry.index_keys.Given as goal
 
 -- The index has the keys of the places so far.
 abbrev pub invariant-loop-slot : goal.invariant-loop-slot
-invariant-loop-slot l =
-    IsFilled l.places l.slot (λ key. get int_eq l.by_key key) (index_map_len l.by_key) (spare l.by_key)
+invariant-loop-slot l = IsIndex (places_in l.places) l.slot l.by_key × (index_map_len l.by_key ≤ l.slot)
