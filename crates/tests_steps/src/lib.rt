@@ -9,6 +9,8 @@ mod parts;
 #[cfg(test)]
 mod rows;
 #[cfg(test)]
+mod shown;
+#[cfg(test)]
 mod steps;
 #[cfg(test)]
 mod worn_gates;
