@@ -43,6 +43,7 @@ pub(crate) struct Worker<'a, R: Wait, T: NonBlocking, W> {
     pub(crate) answered: u64,
     /// When to look for clients whose time is over.
     pub(crate) check: Option<Moment>,
+    /// Whether the worker looks for events before it sleeps.
     pub(crate) spinning: Spinning,
     /// The numbers of its envelopes about room and about messages, modulo 2^64.
     rooms: usize,
