@@ -1,29 +1,21 @@
 //! Measures each layer of `sysvmsg`: one word of the command line for each measurement.
 //!
 //! Each measurement is a module whose `measure` prints figures, and whose `once` is the same with
-//! the smallest sizes. A time is taken by a function that returns the nanoseconds, or `None` if a
-//! step failed: it opens what it measures, starts a `Watch`, and passes what it opened by reference
-//! to a function that takes the steps. Several threads are one `for_each_mut` over what each of
-//! them does. The check of this crate stays short by that: its cost grows with the ways out of each
-//! function and with what each of them has to drop, and with the closures. Only `figures` formats
-//! numbers.
+//! the smallest sizes. Those of eventcounts, buffers and gates are in `bench_threads`, which also
+//! describes how times are taken.
 #![tactic(auto)]
 
 mod bodies;
-mod buffer;
 mod caller;
-mod eventcount;
-mod figures;
-mod gate;
 mod keys;
 mod once;
 mod pool;
 mod service;
 mod session;
-mod watch;
 mod wire;
 mod words;
 
+use bench_threads::{buffer, eventcount, gate};
 use std::alloc::Global;
 use std::env::Env;
 use std::process::ExitCode;

@@ -1,6 +1,7 @@
 //! Each measurement once, with the smallest sizes. This takes a second at most, and prints nothing
 //! that depends on time.
-use crate::{buffer, eventcount, gate, keys, pool, service, session, wire};
+use crate::{keys, pool, service, session, wire};
+use bench_threads::{buffer, eventcount, gate};
 use std::alloc::Global;
 use std::io;
 use std::sync::Wait;

@@ -2,7 +2,7 @@
 mod rounds;
 
 use crate::bodies::Bodies;
-use crate::figures::{show, show_ratio};
+use bench_threads::figures::{show, show_ratio};
 use rounds::{time_of_chains, time_of_copies, time_of_vecs};
 use std::alloc::Global;
 use std::io;

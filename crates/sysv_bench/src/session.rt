@@ -5,9 +5,9 @@ ghost use Rattle.sysv_seats.specs.HandlesKept.{KeepsHandles};
 mod frames;
 
 use crate::caller::Still;
-use crate::figures::{show, show_ratio};
 use crate::service::time_of_pairs;
-use crate::watch::{Time, Watch, nanos_if};
+use bench_threads::figures::{show, show_ratio};
+use bench_threads::watch::{Time, Watch, nanos_if};
 use frames::{Replies, Requests};
 use std::alloc::Global;
 use std::io;

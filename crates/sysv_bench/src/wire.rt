@@ -3,8 +3,8 @@
 mod answers;
 mod turns;
 
-use crate::figures::show;
 pub(crate) use answers::tell_answers;
+use bench_threads::figures::show;
 use std::alloc::Global;
 use std::io;
 use std::time::{Clock, CpuClock};

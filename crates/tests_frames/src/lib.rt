@@ -1,9 +1,6 @@
-//! Tests of the words of all calls, of the rules, of instrumented streams, of frames and of
-//! clients.
+//! Tests of the words of all calls, of the rules, of instrumented streams and of frames.
 #![tactic(auto)]
 
-#[cfg(test)]
-mod clients;
 #[cfg(test)]
 mod examples;
 #[cfg(test)]

@@ -1,5 +1,4 @@
-//! Tests of sessions, of connections that never wait, and of a server on a real socket, with frames
-//! worked out by hand and with clients.
+//! Tests of a server on a real socket and in memory, with frames worked out by hand and with clients.
 #![tactic(auto)]
 
 #[cfg(test)]
@@ -8,7 +7,3 @@ mod commands;
 mod parts;
 #[cfg(test)]
 mod server;
-#[cfg(test)]
-mod session;
-#[cfg(test)]
-mod streams;

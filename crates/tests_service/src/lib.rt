@@ -1,9 +1,10 @@
-//! Tests of the objects of a service behind their gates, and of the service with one pass and with
-//! several threads.
+//! Tests of the objects of a service behind their gates, and of the service with one pass.
 #![tactic(auto)]
 
 #[cfg(test)]
 mod asking;
+#[cfg(test)]
+mod example;
 #[cfg(test)]
 mod gated;
 #[cfg(test)]
@@ -11,6 +12,8 @@ mod growths;
 #[cfg(test)]
 mod no_growths;
 #[cfg(test)]
+mod one_pass;
+#[cfg(test)]
 mod parts;
 #[cfg(test)]
-mod service;
+mod pieces;

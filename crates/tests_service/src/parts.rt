@@ -5,8 +5,9 @@ ghost use Rattle.sysv_service.specs.Seats.{AreOf};
 use std::alloc::Global;
 use std::fmt::Debug;
 use std::process::Abort;
-use sysv_model::Body;
+use sysv_model::{Body, Flags};
 use sysv_service::{Clock, Closed, OpenRefused, Pass, Service};
+use tests_kit::flags;
 
 /// Asserts that the found value is the wanted value.
 pub(crate) fn assert_is<T: PartialEq + Debug + Drop>(rt: &impl Abort, found: T, wanted: T) {
@@ -64,6 +65,11 @@ pub(crate) const fn closed(waiting: u64, free: u32) -> Closed {
         free,
         held: 0,
     }
+}
+
+/// No flags: a send and a receive wait.
+pub(crate) fn waiting() -> Flags {
+    flags(0)
 }
 
 /// Returns an empty body. Tolerates one refusal of memory.

@@ -1,10 +1,8 @@
-//! Tests of eventcounts, buffers and workers, by one thread and by several.
+//! Tests of buffers and workers, by one thread and by several.
 #![tactic(auto)]
 
 #[cfg(test)]
 mod buffer;
-#[cfg(test)]
-mod eventcount;
 #[cfg(test)]
 mod examples;
 #[cfg(test)]

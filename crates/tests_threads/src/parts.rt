@@ -6,6 +6,3 @@ use std::process::Abort;
 pub(crate) fn assert_is<T: PartialEq + Debug + Drop>(rt: &impl Abort, found: T, wanted: T) {
     assert_eq!(rt; found, wanted);
 }
-
-/// The number of advances or of tickets at which an object is worn out.
-pub(crate) const LIMIT: u64 = 1 << 62;

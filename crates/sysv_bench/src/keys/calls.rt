@@ -1,7 +1,7 @@
 //! Queues that are made, settled and forgotten repeatedly.
-use crate::figures::{show, show_ratio};
 use crate::keys::{Act, time_of};
-use crate::watch::{Time, Watch};
+use bench_threads::figures::{show, show_ratio};
+use bench_threads::watch::{Time, Watch};
 use std::alloc::Global;
 use std::io;
 use std::time::{Clock, CpuClock};

@@ -1,8 +1,8 @@
 //! Look-ups of a key among one key and among 64 keys.
-use crate::figures::{show, show_ratio};
 use crate::keys::calls::CREATING;
 use crate::keys::{Act, time_of};
-use crate::watch::{Time, Watch, nanos_if};
+use bench_threads::figures::{show, show_ratio};
+use bench_threads::watch::{Time, Watch, nanos_if};
 use std::alloc::Global;
 use std::io;
 use std::time::{Clock, CpuClock};

@@ -1,5 +1,5 @@
 //! The rounds that are measured, and the time that a number of them takes.
-use crate::watch::{Time, Watch};
+use bench_threads::watch::{Time, Watch};
 use std::alloc::Global;
 use std::time::{Clock, CpuClock};
 use sysv_model::{Body, MESSAGE_BYTES, WORN};

@@ -1,10 +1,10 @@
 //! The figures.
 use crate::bodies::Bodies;
-use crate::figures::{show, show_ratio};
 use crate::service::pairs::Pairs;
 use crate::service::part::Part;
 use crate::service::rounds::Player;
 use crate::service::team::run;
+use bench_threads::figures::{show, show_ratio};
 use std::alloc::Global;
 use std::io;
 use std::sync::Wait;

@@ -6,7 +6,7 @@ ghost use Rattle.sysv_service.specs.Seats.{AreOf};
 
 use crate::service::calls::id_of;
 use crate::service::part::Part;
-use crate::watch::{Time, Watch};
+use bench_threads::watch::{Time, Watch};
 use std::alloc::Global;
 use std::sync::Wait;
 use std::thread::{Threads, for_each_mut};

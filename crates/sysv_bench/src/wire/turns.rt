@@ -1,5 +1,5 @@
 //! Reading a send of 64 bytes and writing its reply, over memory.
-use crate::watch::{Time, Watch, nanos_if};
+use bench_threads::watch::{Time, Watch, nanos_if};
 use std::alloc::Global;
 use std::io;
 use std::io::Write;

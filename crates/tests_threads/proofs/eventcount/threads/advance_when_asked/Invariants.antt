@@ -1,5 +1,0 @@
-use Rattle.std.proofs.Common.{◌≡◌}
-use Rattle.tests_threads.proofs.eventcount.threads.advance_when_asked.Given as goal
-
-abbrev pub invariant-loop-tries : goal.invariant-loop-tries
-invariant-loop-tries g l = (l.seats.one.counter ≡ l.asked) × (l.seats.two.counter ≡ l.count)
