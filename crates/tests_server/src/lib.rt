@@ -5,6 +5,8 @@
 #[cfg(test)]
 mod commands;
 #[cfg(test)]
+mod options;
+#[cfg(test)]
 mod parts;
 #[cfg(test)]
 mod server;
