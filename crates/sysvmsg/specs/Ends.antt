@@ -1,9 +1,7 @@
--- How the program ends: its exit status, and how a server ends (this project's programs).
-use Rattle.std.specs.Prelude.{◌≡◌, ◌↔◌, ⊤, ℕ, Bool, List, [], ◌∷◌, ◌++◌, codes, Option, None, Some}
+-- How a server ends (this project's programs).
+use Rattle.std.specs.Prelude.{◌≡◌, ⊤, ℕ, Bool, List, [], ◌∷◌, ◌++◌, codes, Option, None, Some}
 use Rattle.std.specs.Fmt.{decimal}
 use Rattle.std.specs.Io.KnownBytes.{Appends}
-use Rattle.std.specs.Process.{exit_status}
-use Rattle.std.specs.declared.process.ExitCode.{ExitCode}
 use Rattle.sysv_server.specs.Serving.{EndsOn, HasReason}
 use Rattle.sysv_engine.specs.declared.terms.Ended.{Ended}
 use Rattle.sysv_server.specs.declared.host.Reason.{Reason}
@@ -11,18 +9,6 @@ use Rattle.sysv_server.specs.declared.host.Reason.TheVariants.{Full, InputOver, 
 use Rattle.sysv_engine.specs.declared.sums.Sums.{Sums}
 use Rattle.sysv_server.specs.declared.terms.Terms.{Terms}
 use Rattle.sysvmsg.specs.Room.{places_within}
-
--- The program succeeds.
-abbrev pub Succeeds : ExitCode → Type 0
-Succeeds exit = exit_status exit ≡ 0
-
--- The program succeeds exactly if this holds.
-abbrev pub SucceedsIf : Type 0 → ExitCode → Type 0
-SucceedsIf Done exit = Succeeds exit ↔ Done
-
--- The program succeeds only if this holds.
-abbrev pub SucceedsOnlyIf : Type 0 → ExitCode → Type 0
-SucceedsOnlyIf Done exit = Succeeds exit → Done
 
 -- The line with the sums of a server.
 abbrev pub sums_line : Sums → List ℕ

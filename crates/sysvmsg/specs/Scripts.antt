@@ -4,7 +4,7 @@ use Rattle.std.specs.declared.process.ExitCode.{ExitCode}
 use Rattle.sysv_script.specs.declared.fault.ScriptFault.{ScriptFault}
 use Rattle.sysv_script.specs.ObeyingRun.{WritesRun}
 use Rattle.sysv_script.specs.Written.{WritesScript}
-use Rattle.sysvmsg.specs.Ends.{SucceedsIf}
+use Rattle.sysv_connect.specs.Ends.{SucceedsIf}
 
 -- A script of this text was run to an end. The writer of its results had taken `old` before and has
 -- taken `new` now, and the reader has `left`. They are what the text prints and the results of a run

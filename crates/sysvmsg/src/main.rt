@@ -2,49 +2,27 @@
 #![tactic(auto)]
 
 ghost use Rattle.sysv_clients.specs.Run.{HasShortText};
-ghost use Rattle.sysvmsg.specs.Ends.{Succeeds};
 
-mod asked;
-mod batches;
-mod commands;
-mod connection;
-mod input;
-mod leaver;
-mod link;
-mod place;
-mod plain;
 mod room;
 mod scripts;
 mod serving;
 mod socket;
-mod stats;
-mod teller;
-mod who;
 
-use asked::{Asked, How, Looking, no_text, read_words};
 use clap::Error;
 use clap::error::ErrorKind;
-use connection::run_as;
-use place::Socket;
 use scripts::answer_script;
 use serving::serve_at;
-use stats::look_at;
 use std::fs::File;
 use std::io::Eprint;
 use std::os::fd::{AsRawFd, RawFd};
 use std::process::ExitCode;
 use std::{env, io};
 use sysv_clients::Command;
-use who::{credentials, own, wants_me, wants_stderr};
-
-/// The exit status if a request was refused or a fault occurred.
-const FAULT: u8 = 1;
+use sysv_connect::{How, Looking, Socket, look_at, run_as, say};
+use sysv_options::{Asked, credentials, no_text, own, read_words, wants_me, wants_stderr};
 
 /// The exit status if the command line is not valid.
 const NOT_UNDERSTOOD: u8 = 2;
-
-/// The exit status if a call was left because the time of `--wait` was over.
-const TIMED_OUT: u8 = 3;
 
 /// The descriptor of the last of the three standard streams.
 const STANDARD_ERROR: RawFd = 2;
@@ -94,7 +72,11 @@ fn run_client(rt: &HostRuntime, path: &str, command: &Command<'_>, how: How) -> 
         ..how
     };
     let mut stream = None;
-    let place = Socket::new(rt, path, &mut stream);
+    let place = Socket {
+        rt,
+        path,
+        stream: &mut stream,
+    };
     let mut screen = io::writer(rt);
     run_as(rt, &mut rt.stdin(), place, path, command, &how, &mut screen)
 }
@@ -106,7 +88,11 @@ fn look(rt: &HostRuntime, looking: Looking<'_>) -> ExitCode {
         ..looking
     };
     let mut stream = None;
-    let place = Socket::new(rt, looking.path, &mut stream);
+    let place = Socket {
+        rt,
+        path: looking.path,
+        stream: &mut stream,
+    };
     look_at(rt, place, &looking, &mut io::writer(rt))
 }
 
@@ -148,12 +134,4 @@ fn tell(rt: &(impl Print + Eprint), error: &Error, is_aside: bool) -> ExitCode {
             ExitCode::from(NOT_UNDERSTOOD)
         }
     }
-}
-
-/// Prints the one line of a fault.
-fn say(rt: &impl Print, fault: &str) -> ExitCode
-    ensures { Succeeds result → ⊥ }
-{
-    let _ = println!(rt; "sysvmsg: {fault}");
-    ExitCode::from(FAULT)
 }

@@ -2,9 +2,9 @@
 ghost use Rattle.std.specs.Prelude.{◌≡◌, ℕ, List, Some};
 ghost use Rattle.sysvmsg.specs.Scripts.{AnswersScript};
 
-use crate::FAULT;
 use std::io::{Eprint, Read, Write};
 use std::process::ExitCode;
+use sysv_connect::FAULT;
 use sysv_model::Instrumented;
 use sysv_script::run_script;
 

@@ -1,15 +1,13 @@
 //! The server.
 ghost use Rattle.std.specs.Prelude.{IfOk};
 ghost use Rattle.std.specs.Io.KnownBytes.{Appends};
+ghost use Rattle.sysv_connect.specs.Ends.{SucceedsOnlyIf};
+ghost use Rattle.sysv_options.specs.Asked.{HasLimits};
 ghost use Rattle.sysv_server.specs.Serving.{HasReason};
-ghost use Rattle.sysvmsg.specs.Asked.{HasLimits};
-ghost use Rattle.sysvmsg.specs.Ends.{EndsWithin, HasServed, HasServedAll, SucceedsOnlyIf, sums_line};
+ghost use Rattle.sysvmsg.specs.Ends.{EndsWithin, HasServed, HasServedAll, sums_line};
 
-use crate::asked::Serving;
-use crate::plain::complain;
 use crate::room::{open_files, room};
 use crate::socket::listen_at;
-use crate::{FAULT, say};
 use libc::net::{POLLOUT, poll};
 use libc::types::pollfd;
 use std::io::{Eprint, ErrorKind, Read, Write};
@@ -21,6 +19,8 @@ use std::rt::Files;
 use std::sync::Wait;
 use std::thread::Threads;
 use std::{fs, io};
+use sysv_connect::{FAULT, complain, say};
+use sysv_options::Serving;
 use sysv_server::{
     Ended, Host, MAX_CLIENTS, Notice, Reason, ServeFault, Sums, Terms, serve_listener,
 };

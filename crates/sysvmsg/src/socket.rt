@@ -1,7 +1,5 @@
 //! The file of a server's socket.
 
-use crate::asked::SocketFile;
-use crate::plain::complain;
 use std::alloc::Global;
 use std::fs::{DirBuilder, Permissions};
 use std::io::{Eprint, ErrorKind};
@@ -10,6 +8,8 @@ use std::os::unix::fs::{DirBuilderExt, FileTypeExt, PermissionsExt};
 use std::os::unix::net::{UnixListener, UnixStream};
 use std::rt::Files;
 use std::{fs, io};
+use sysv_connect::complain;
+use sysv_options::SocketFile;
 
 /// The mode of a folder that only its owner may use.
 const PRIVATE: u32 = 0o700;

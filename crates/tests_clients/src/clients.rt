@@ -1,5 +1,6 @@
 //! Clients over bytes that were worked out by hand.
 mod ahead;
+mod connecting;
 mod growths;
 mod options;
 mod several;

@@ -1,4 +1,4 @@
-//! Tests of clients.
+//! Tests of clients, over bytes and at a place in memory.
 #![tactic(auto)]
 
 #[cfg(test)]

@@ -1,0 +1,2 @@
+-- The lemmas of clients at a place.
+pub mod EndLemmas

@@ -1,0 +1,7 @@
+-- The definitions of clients at a place.
+pub mod Bodies
+pub mod Several
+pub mod Stats
+pub mod Ends
+pub mod Links
+pub mod Clients

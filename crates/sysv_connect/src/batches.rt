@@ -1,0 +1,313 @@
+//! Clients that make several calls over one connection.
+ghost use Rattle.std.specs.Prelude.{◌≡◌, ⊤, [], is_ok, List, Ok, Result};
+ghost use Rattle.sysv_clients.specs.declared.clearing.Refusal.{Refusal as ARefusal};
+ghost use Rattle.sysv_clients.specs.declared.fault.ClientFault.{ClientFault as AFault};
+ghost use Rattle.sysv_clients.specs.declared.sending.Unsent.{Unsent as AnUnsent};
+ghost use Rattle.sysv_clients.specs.declared.stream.Stop.{Stop as AStop};
+ghost use Rattle.sysv_connect.specs.Clients.{HasCleared, HasReceived, HasSent};
+ghost use Rattle.sysv_connect.specs.Ends.{SucceedsIf, SucceedsOnlyIf};
+ghost use Rattle.sysv_connect.specs.Links.{left_by, taken_by};
+ghost use Rattle.sysv_connect.specs.Several.{is_of_options, is_of_stream, receiving_of, way_by};
+
+use crate::connection::{failed, no_memory};
+use crate::ending::FAULT;
+use crate::how::How;
+use crate::link::{Link, Unlinked, linked};
+use crate::place::{Leave, Place};
+use crate::teller::Teller;
+use std::io::{Eprint, Read, Write};
+use std::process::ExitCode;
+use sysv_clients::{
+    ClientFault, Cut, Form, Receipt, Receiving, Refusal, Sending, Stop, Target, Task, Unsent,
+    receive_all, remove_all, send_lines,
+};
+use sysv_model::{Cred, Errno};
+
+/// No memory for what a connection needs.
+const NO_MEMORY: ClientFault = ClientFault::NoMemory;
+
+/// No message came in time.
+const NO_MESSAGE: ClientFault = ClientFault::Refused(Errno::ENOMSG);
+
+/// No room came in time.
+const NO_ROOM: ClientFault = ClientFault::Refused(Errno::EAGAIN);
+
+/// How a command is done.
+#[derive(Clone, Copy, PartialEq, Eq, Debug)]
+pub(crate) enum Way {
+    /// By a client that receives messages and shows them as a stream.
+    Stream(Receiving),
+    /// By a client that sends each line of an input as a message.
+    Lines(Sending),
+    /// By a client that removes all queues.
+    Clear,
+    /// By a client that runs this one command.
+    Once,
+}
+
+/// Returns how a task with these options is done.
+pub(crate) fn way_of(cred: Cred, task: &Task<'_>, how: &How) -> Way
+    ensures { result ≡ way_by cred task.now how.now }
+{
+    match *task {
+        Task::Receive(receipt) if is_stream(&receipt, how) => {
+            Way::Stream(receiving(cred, receipt, how))
+        }
+        Task::Send {
+            key,
+            mtype,
+            nowait,
+            ..
+        } if how.lines => Way::Lines(Sending {
+            cred,
+            key,
+            mtype,
+            nowait,
+        }),
+        Task::Remove(Target::All) => Way::Clear,
+        _ => Way::Once,
+    }
+}
+
+/// Returns whether a `rcv` shows its messages as a stream. Standard output then has only messages,
+/// and faults are reported on standard error.
+fn is_stream(receipt: &Receipt, how: &How) -> bool
+    ensures { result ≡ is_of_stream receipt.now how.now }
+{
+    how.follow || how.count.is_some() || is_of_options(receipt.form) || receipt.show_type
+}
+
+/// Returns whether a message in this form is not its body and an LF.
+fn is_of_options(form: Form) -> bool
+    ensures { result ≡ is_of_options form }
+{
+    match form {
+        Form::Line => false,
+        Form::Raw | Form::Zero | Form::Object => true,
+    }
+}
+
+/// Returns the receives of a `rcv` with these options: as many as `--count` states, or all with
+/// `--follow`, or one.
+fn receiving(cred: Cred, receipt: Receipt, how: &How) -> Receiving
+    ensures { result ≡ receiving_of cred receipt how.now }
+{
+    let count = match how.count {
+        Some(count) => u64::from(count),
+        None if how.follow => u64::MAX,
+        None => 1,
+    };
+    Receiving {
+        cred,
+        receipt,
+        count,
+        ahead: how.ahead.unwrap_or(1),
+    }
+}
+
+/// Connects to the server at `place` and receives messages there, each of which is waited for no
+/// longer than this number of milliseconds, if there is one. A receive that is left then fails with
+/// ENOMSG. Faults are reported on standard error.
+pub(crate) fn receive_at<P: Place, S: Write>(
+    rt: &(impl Eprint + AllocGlobal),
+    place: P,
+    teller: &Teller<'_>,
+    receiving: &Receiving,
+    wait: Option<u64>,
+    screen: &mut S,
+) -> ExitCode
+    ensures { SucceedsOnlyIf (HasReceived receiving.now (Ok tt) (P.incoming place)
+        (P.outgoing place) (S.contents screen.old) (S.contents screen.new)) result }
+{
+    match linked(rt.alloc(), place, wait, true) {
+        Ok(mut link) => receive_on(rt, &mut link, teller, receiving, screen),
+        Err(Unlinked::NoServer(why)) => teller.no_server_of_stream(rt, &why),
+        Err(Unlinked::NoMemory) => {
+            teller.fault_of_stream(rt, NO_MEMORY.line());
+            failed(false)
+        }
+    }
+}
+
+/// Receives messages over a connection like `receive_at`.
+fn receive_on<R: Leave, W: Write + Drop, S: Write>(
+    rt: &(impl Eprint + AllocGlobal),
+    link: &mut Link<R, W>,
+    teller: &Teller<'_>,
+    receiving: &Receiving,
+    screen: &mut S,
+) -> ExitCode
+    ensures { (ended : Result ⊤ AStop) × HasReceived receiving.now ended
+        (left_by R.remaining link.old) (taken_by W.contents link.old) (S.contents screen.old)
+        (S.contents screen.new) × SucceedsIf (ended ≡ Ok tt) result }
+{
+    let Err(stop) = receive_all(
+        rt.alloc(),
+        receiving,
+        &mut link.reader,
+        &mut link.writer,
+        screen,
+    ) else {
+        return ExitCode::SUCCESS;
+    };
+    let is_late = matches!(stop, Stop::Fault(ClientFault::NoReply))
+        && (link.has_ended() || link.is_over());
+    let line = if is_late {
+        NO_MESSAGE.line()
+    } else {
+        stop.line()
+    };
+    teller.fault_of_stream(rt, line);
+    failed(is_late)
+}
+
+/// Connects to the server at `place` and sends each line of `input` there. Each send waits no
+/// longer than this number of milliseconds, if there is one. A send that is left then fails with
+/// EAGAIN. If the input cannot be read, the reason is reported on standard error.
+pub(crate) fn send_at<I: Read, P: Place>(
+    rt: &(impl Print + Eprint + AllocGlobal),
+    input: &mut I,
+    place: P,
+    teller: &Teller<'_>,
+    sending: &Sending,
+    wait: Option<u64>,
+) -> ExitCode
+    ensures { SucceedsOnlyIf (HasSent sending.now (Ok tt) (P.incoming place)
+        (P.outgoing place) (I.remaining input.old)) result }
+{
+    match linked(rt.alloc(), place, wait, true) {
+        Ok(mut link) => send_on(rt, input, &mut link, teller, sending),
+        Err(Unlinked::NoServer(why)) => teller.no_server(rt, &why),
+        Err(Unlinked::NoMemory) => no_memory(rt, teller),
+    }
+}
+
+/// Sends lines over a connection like `send_at`.
+fn send_on<I: Read, R: Leave, W: Write + Drop>(
+    rt: &(impl Print + Eprint + AllocGlobal),
+    input: &mut I,
+    link: &mut Link<R, W>,
+    teller: &Teller<'_>,
+    sending: &Sending,
+) -> ExitCode
+    ensures { (ended : Result ⊤ AnUnsent) × HasSent sending.now ended
+        (left_by R.remaining link.old) (taken_by W.contents link.old) (I.remaining input.old)
+        × SucceedsIf (ended ≡ Ok tt) result }
+{
+    let Err(unsent) = send_lines(
+        rt.alloc(),
+        sending,
+        input,
+        &mut link.reader,
+        &mut link.writer,
+    ) else {
+        return ExitCode::SUCCESS;
+    };
+    let (unsent, is_late) = in_time(unsent, link);
+    match &unsent {
+        Unsent::Input(why) => return teller.no_input(rt, why),
+        Unsent::Cut(cut) => explain(rt, cut),
+        Unsent::Long { before } => explain_line(rt, *before, Errno::EINVAL, 0),
+        _ => {}
+    }
+    teller.fault(rt, unsent.line());
+    failed(is_late)
+}
+
+/// Reports on standard error which lines were sent: the first that was refused and why, and how
+/// many later ones were sent, or how many were sent if the connection was lost.
+fn explain(rt: &impl Eprint, cut: &Cut) {
+    let Cut {
+        before,
+        fault,
+        after,
+        unknown,
+    } = *cut;
+    if let ClientFault::Refused(error) = fault {
+        explain_line(rt, before, error, after);
+    } else {
+        let _ = eprintln!(rt; "sysvmsg: lines that were sent: {before}");
+    }
+    if unknown > 0 {
+        let _ = eprintln!(rt; "sysvmsg: lines that may have been sent: {unknown}");
+    }
+}
+
+/// Reports on standard error that the line after `before` lines was refused, and why, and how many
+/// later ones were sent.
+fn explain_line(rt: &impl Eprint, before: u64, error: Errno, after: u32) {
+    let line = before.saturating_add(1);
+    let _ = eprintln!(rt; "sysvmsg: line {line}: {error}; later lines that were sent: {after}");
+}
+
+/// Returns the error of sends as it is told, and whether the time was over. Then it is EAGAIN.
+fn in_time<R: Leave, W: Write + Drop>(unsent: Unsent, link: &Link<R, W>) -> (Unsent, bool) {
+    match unsent {
+        Unsent::Fault(ClientFault::NoReply) if link.is_over() => (Unsent::Fault(NO_ROOM), true),
+        Unsent::Cut(cut) if is_late(&cut, link) => {
+            let cut = Cut {
+                fault: NO_ROOM,
+                unknown: 0,
+                ..cut
+            };
+            (Unsent::Cut(cut), true)
+        }
+        other => (other, false),
+    }
+}
+
+/// Returns whether sends were cut off because the time was over, so that no line from that one on
+/// was sent: its send was left, or is the only one without a reply and could not be written.
+fn is_late<R: Leave, W: Write + Drop>(cut: &Cut, link: &Link<R, W>) -> bool {
+    cut.fault == ClientFault::NoReply && (link.has_left() || (cut.unknown == 1 && link.is_over()))
+}
+
+/// Connects to the server at `place` and removes all queues there that the caller may remove. Each
+/// other queue is named on standard error, and the status is that of a fault then. Each reply is
+/// waited for no longer than this number of milliseconds, if there is one.
+pub(crate) fn remove_at<P: Place>(
+    rt: &(impl Print + Eprint + AllocGlobal),
+    place: P,
+    teller: &Teller<'_>,
+    cred: Cred,
+    wait: Option<u64>,
+) -> ExitCode
+    ensures { SucceedsOnlyIf (HasCleared cred (Ok tt) (P.incoming place)
+        (P.outgoing place) [] []) result }
+{
+    match linked(rt.alloc(), place, wait, false) {
+        Ok(mut link) => remove_on(rt, &mut link, teller, cred),
+        Err(Unlinked::NoServer(why)) => teller.no_server(rt, &why),
+        Err(Unlinked::NoMemory) => no_memory(rt, teller),
+    }
+}
+
+/// Removes queues over a connection like `remove_at`.
+fn remove_on<R: Leave, W: Write + Drop>(
+    rt: &(impl Print + Eprint + AllocGlobal),
+    link: &mut Link<R, W>,
+    teller: &Teller<'_>,
+    cred: Cred,
+) -> ExitCode
+    ensures { (ended : Result ⊤ AFault) × (refusals : List ARefusal)
+        × HasCleared cred ended (left_by R.remaining link.old) (taken_by W.contents link.old) []
+        refusals × SucceedsIf ((ended ≡ Ok tt) × (refusals ≡ [])) result }
+{
+    let mut refusals = Vec::new(rt.alloc());
+    let outcome = remove_all(
+        rt.alloc(),
+        cred,
+        &mut link.reader,
+        &mut link.writer,
+        &mut refusals,
+    );
+    for refusal in &refusals {
+        teller.refusal(rt, refusal);
+    }
+    match outcome {
+        Ok(()) if refusals.is_empty() => return ExitCode::SUCCESS,
+        Ok(()) => {}
+        Err(fault) => teller.fault(rt, fault.line()),
+    }
+    ExitCode::from(FAULT)
+}

@@ -1,0 +1,22 @@
+//! Clients of a server at a place: they connect through buffers, wait for a limited time, and
+//! report faults. `specs/` defines what a client did that succeeds.
+#![tactic(auto)]
+
+mod batches;
+mod connection;
+mod ending;
+mod how;
+mod input;
+mod leaver;
+mod link;
+mod place;
+mod plain;
+mod stats;
+mod teller;
+
+pub use connection::run_as;
+pub use ending::{FAULT, say};
+pub use how::How;
+pub use place::{Leave, Place, Socket};
+pub use plain::complain;
+pub use stats::{Looking, look_at};

@@ -1,0 +1,116 @@
+//! The client that shows the state of a server.
+ghost use Rattle.std.specs.Prelude.{◌≡◌, IfOk};
+ghost use Rattle.std.specs.Io.KnownBytes.{Appends, Consumes, IsAtEnd};
+ghost use Rattle.sysv_connect.specs.Ends.{Succeeds, SucceedsOnlyIf};
+ghost use Rattle.sysv_connect.specs.Stats.{HasLooked, asked_with};
+
+use crate::ending::FAULT;
+use crate::input::{Unread, read_some};
+use crate::leaver::bound;
+use crate::place::Place;
+use crate::teller::Teller;
+use std::alloc::Global;
+use std::io::{Eprint, Read, Write};
+use std::process::ExitCode;
+use sysv_clients::ClientFault;
+
+/// The socket of a state, and how it is shown.
+#[derive(Clone, Copy, PartialEq, Eq, Debug)]
+pub struct Looking<'a> {
+    /// The path of the socket.
+    pub path: &'a str,
+    /// Whether it is shown as a JSON object.
+    pub json: bool,
+    /// The number of milliseconds that each read waits at most.
+    pub wait: Option<u64>,
+    /// Whether errors are told on standard error.
+    pub is_aside: bool,
+}
+
+/// The number of bytes of a state that are read at once at most.
+const PIECE: usize = 4_096;
+
+/// Prints the state of the server that shows it at this place, as the options say. If no connection
+/// can be made, the reason is reported on standard error.
+pub fn look_at<P: Place, S: Write>(
+    rt: &(impl Print + Eprint + AllocGlobal),
+    place: P,
+    looking: &Looking<'_>,
+    screen: &mut S,
+) -> ExitCode
+    ensures { SucceedsOnlyIf (HasLooked (P.incoming place) (S.contents screen.old)
+        (S.contents screen.new)) result }
+{
+    let teller = Teller {
+        path: looking.path,
+        task: None,
+        is_aside: looking.is_aside,
+    };
+    let (mut reader, mut writer) = match place.connect() {
+        Ok(ends) => ends,
+        Err(why) => return teller.no_server(rt, &why),
+    };
+    bound(&reader, looking.wait);
+    if writer.write_all(question(looking.json)).is_err() || writer.flush().is_err() {
+        return failed(rt, &teller, ClientFault::NoReply);
+    }
+    match read_state(rt.alloc(), &mut reader) {
+        Ok(state) if state.is_empty() => failed(rt, &teller, ClientFault::NoReply),
+        Ok(state) => show(&state, screen),
+        Err(Unread::NoMemory) => failed(rt, &teller, ClientFault::NoMemory),
+        Err(Unread::Failed(_)) => failed(rt, &teller, ClientFault::NoReply),
+    }
+}
+
+/// Tells a fault.
+fn failed(
+    rt: &(impl Print + Eprint + AllocGlobal),
+    teller: &Teller<'_>,
+    fault: ClientFault,
+) -> ExitCode
+    ensures { Succeeds result → ⊥ }
+{
+    teller.fault(rt, fault.line());
+    ExitCode::from(FAULT)
+}
+
+/// Returns what is asked for the state, as a JSON object if `json` is true.
+fn question(json: bool) -> &'static [u8]
+    ensures { result.now ≡ asked_with json }
+{
+    if json { b"json\n" } else { b"\n" }
+}
+
+/// Reads a state: all bytes that the reader has left.
+fn read_state<R: Read>(alloc: Global, reader: &mut R) -> Result<Vec<u8>, Unread>
+    ensures bytes { IfOk result (λ state.
+        Consumes (R.remaining reader.old) (R.remaining reader.new) state.items) }
+    ensures whole { IfOk result (λ _. IsAtEnd (R.remaining reader.new)) }
+{
+    let mut state = Vec::new(alloc);
+    let mut piece = [0; PIECE];
+    for _ in 0..u64::MAX {
+        let count = match read_some(reader, &mut piece) {
+            Ok(count) => count,
+            Err(why) => return Err(Unread::Failed(why)),
+        };
+        if count == 0 {
+            return Ok(state);
+        }
+        if state.extend_from_slice(&piece[..count]).is_err() {
+            return Err(Unread::NoMemory);
+        }
+    }
+    Err(Unread::NoMemory)
+}
+
+/// Writes the state to the screen and flushes it.
+fn show<S: Write>(state: &[u8], screen: &mut S) -> ExitCode
+    ensures { SucceedsOnlyIf (Appends (S.contents screen.old) (S.contents screen.new) state.now)
+        result }
+{
+    if screen.write_all(state).is_err() || screen.flush().is_err() {
+        return ExitCode::from(FAULT);
+    }
+    ExitCode::SUCCESS
+}

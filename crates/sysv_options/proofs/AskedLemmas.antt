@@ -1,0 +1,51 @@
+-- What a client's command asks for, a command line with it asks for.
+use Rattle.std.proofs.Common.{◌≡◌, ℕ, List, Option, Some, Result, Ok, Err, codes, sym, subst}
+use Rattle.std.specs.Prelude.{IfOk}
+use Rattle.clap.specs.Words.{App, Row}
+use Rattle.sysv_clients.specs.declared.command.Task.{Task}
+use Rattle.sysv_options.specs.declared.asked.Asked.{Asked}
+use Rattle.sysv_options.specs.declared.asked.Asked.TheVariants.{Script, Serve, Look, Client}
+use Rattle.sysv_options.specs.Requests.{AsksFor, ClientAsks, CommandAsks, IsAskedBy, IsMeant}
+use Rattle.sysv_options.specs.Tasks.{HasTask}
+use Rattle.sysv_options.specs.Words.{IsRead}
+
+-- Without a task a client's command asks for nothing.
+pub no_client : (name : List ℕ) (words : List Row) → ((task : Task) → ¬ HasTask name words task) → (asked : Asked) →
+    ¬ ClientAsks name words asked
+no_client name words none Script = λ h. h
+no_client name words none (Serve serving) = λ h. h
+no_client name words none (Look looking) = λ h. h
+no_client name words none (Client path who task how) = λ h. none task h.2
+
+to_command : (name : List ℕ) (words : List Row) (asked : Asked) → ClientAsks name words asked →
+    CommandAsks name words asked
+to_command name words Script h = absurd h
+to_command name words (Serve serving) h = absurd h
+to_command name words (Look looking) h = absurd h
+to_command name words (Client path who task how) h = h
+
+to_client : (name : List ℕ) (words : List Row) → ¬ (name ≡ codes "script") → ¬ (name ≡ codes "serve") →
+    ¬ (name ≡ codes "stats") → (asked : Asked) → CommandAsks name words asked → ClientAsks name words asked
+to_client name words not_script not_serve not_stats Script h = not_script h
+to_client name words not_script not_serve not_stats (Serve serving) h = not_serve h.0
+to_client name words not_script not_serve not_stats (Look looking) h = not_stats h.0
+to_client name words not_script not_serve not_stats (Client path who task how) h = h
+
+-- A command that is none of `script`, `serve` and `stats` asks for what a client's command asks for.
+pub as_command : {E : Type 0} (name : List ℕ) (words : List Row) (found : Option (List ℕ × List Row))
+    (r : Result Asked E) → found ≡ Some (name, words)
+    → ¬ (name ≡ codes "script") → ¬ (name ≡ codes "serve") → ¬ (name ≡ codes "stats") → IsRead r (ClientAsks name words)
+    → IsRead r (AsksFor found)
+as_command name words found (Ok asked) is not_script not_serve not_stats h =
+    subst (λ (o : Option (List ℕ × List Row)). AsksFor o asked) (sym is) (to_command name words asked h)
+as_command name words found (Err bad) is not_script not_serve not_stats none =
+    λ asked h.
+    none asked
+    (to_client name words not_script not_serve not_stats asked
+    (subst (λ (o : Option (List ℕ × List Row)). AsksFor o asked) is h))
+
+-- What a command line with these words asks for, the words mean.
+pub is_meant : {E : Type 0} (r : Result Asked E) (line : App) (words : List (List ℕ)) →
+    IfOk r (IsAskedBy line words) → IfOk r (IsMeant words)
+is_meant (Ok asked) line words h = (line, h)
+is_meant (Err error) line words h = h

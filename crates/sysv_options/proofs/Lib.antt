@@ -1,0 +1,4 @@
+-- The lemmas of the command line.
+pub mod WordLemmas
+pub mod AskedLemmas
+pub mod TimeLemmas

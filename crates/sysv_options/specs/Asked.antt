@@ -1,0 +1,38 @@
+-- The requests that a command line may make (this project's programs).
+use Rattle.std.specs.Prelude.{ℕ, ◌≤◌, ⊤}
+use Rattle.sysv_options.specs.declared.asked.Asked.{Asked}
+use Rattle.sysv_options.specs.declared.asked.Asked.TheVariants.{Script, Serve, Look, Client}
+use Rattle.sysv_options.specs.declared.asked.Serving.{Serving}
+use Rattle.sysv_server.specs.declared.serving.TheConstants.{MAX_CLIENTS}
+use Rattle.sysv_server.specs.declared.terms.Terms.{Terms}
+use Rattle.sysv_clients.specs.Run.{HasShortText}
+use Rattle.sysv_model.specs.declared.limits.TheConstants.{MIN_BLOCKS, MAX_BLOCKS}
+
+-- A pool may have this number of blocks.
+abbrev pub AreBlocks : ℕ → Type 0
+AreBlocks n = (MIN_BLOCKS ≤ n) × (n ≤ MAX_BLOCKS)
+
+-- `--workers` may ask for this number of workers.
+abbrev pub AreWorkers : ℕ → Type 0
+AreWorkers n = (1 ≤ n) × (n ≤ 16)
+
+-- A server may have this number of sessions at once.
+abbrev pub AreAtOnce : ℕ → Type 0
+AreAtOnce n = (1 ≤ n) × (n ≤ MAX_CLIENTS)
+
+-- The terms have a number of blocks that a pool may have, and numbers of workers and of sessions at
+-- once that a server may have.
+abbrev pub AreTerms : Terms → Type 0
+AreTerms terms = AreBlocks terms.blocks × AreWorkers terms.workers × AreAtOnce terms.at_once
+
+-- The terms of the server are within the limits.
+abbrev pub HasLimits : Serving → Type 0
+HasLimits serving = AreTerms serving.terms
+
+-- The request is within the limits of the server or the client: the terms of a server, and the body
+-- of a `snd`.
+abbrev pub IsWithinLimits : Asked → Type 0
+IsWithinLimits Script = ⊤
+IsWithinLimits (Serve serving) = HasLimits serving
+IsWithinLimits (Look looking) = ⊤
+IsWithinLimits (Client path who task how) = HasShortText task

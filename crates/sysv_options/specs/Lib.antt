@@ -1,0 +1,7 @@
+-- The definitions of the command line.
+pub mod Asked
+pub mod Words
+pub mod Who
+pub mod Tasks
+pub mod Servers
+pub mod Requests

@@ -1,0 +1,38 @@
+-- The request that a parsed command line makes (this project's programs).
+use Rattle.std.specs.Prelude.{◌≡◌, ℕ, List, codes, Option, Some, None}
+use Rattle.clap.specs.Words.{App, HasMatchesOf, Row, subcommand_rows_of}
+use Rattle.clap.specs.declared.parser.matches.ArgMatches.{ArgMatches}
+use Rattle.sysv_options.specs.declared.asked.Asked.{Asked}
+use Rattle.sysv_options.specs.declared.asked.Asked.TheVariants.{Script, Serve, Look, Client}
+use Rattle.sysv_options.specs.Servers.{AsksToLook, AsksToServe, HasPath}
+use Rattle.sysv_options.specs.Tasks.{HasHow, HasTask, StatesWho}
+
+-- A client's command of this name with these words makes this request.
+abbrev pub ClientAsks : List ℕ → List Row → Asked → Type 0
+ClientAsks name words Script = ⊥
+ClientAsks name words (Serve serving) = ⊥
+ClientAsks name words (Look looking) = ⊥
+ClientAsks name words (Client path who task how) =
+    HasPath words path.now × StatesWho words who × HasTask name words task × HasHow words how
+
+-- A command of this name with these words makes this request.
+abbrev pub CommandAsks : List ℕ → List Row → Asked → Type 0
+CommandAsks name words Script = name ≡ codes "script"
+CommandAsks name words (Serve serving) = (name ≡ codes "serve") × AsksToServe words serving
+CommandAsks name words (Look looking) = (name ≡ codes "stats") × AsksToLook words looking
+CommandAsks name words (Client path who task how) = ClientAsks name words (Client path who task how)
+
+-- A command line with this command makes this request. Without a command it makes none.
+abbrev pub AsksFor : Option (List ℕ × List Row) → Asked → Type 0
+AsksFor (Some found) asked = CommandAsks found.0 found.1 asked
+AsksFor None asked = ⊥
+
+-- These words, on this command line, have matches that make this request. They are the matches that
+-- clap defines, if it defines any: it does so for a command line without groups of options.
+abbrev pub IsAskedBy : App → List (List ℕ) → Asked → Type 0
+IsAskedBy line words asked =
+    (matches : ArgMatches) × HasMatchesOf line words matches × AsksFor (subcommand_rows_of matches) asked
+
+-- These words, on the command line of some table of commands, make this request.
+abbrev pub IsMeant : List (List ℕ) → Asked → Type 0
+IsMeant words asked = (line : App) × IsAskedBy line words asked

@@ -1,0 +1,91 @@
+-- What a `serve` asks for (this project's programs): its socket file and its terms.
+use Rattle.std.specs.Prelude.{◌≡◌, ◌≢◌, ◌≤◌, ⊤, ℕ, List, codes, length, is_some, Option, Some, None}
+use Rattle.clap.specs.Words.{Row}
+use Rattle.sysv_server.specs.declared.terms.Terms.{Terms}
+use Rattle.sysv_words.specs.Words.{IsNat32, IsNat64}
+use Rattle.sysv_connect.specs.declared.stats.Looking.{Looking}
+use Rattle.sysv_options.specs.declared.asked.Serving.{Serving}
+use Rattle.sysv_options.specs.declared.asked.SocketFile.{SocketFile}
+use Rattle.sysv_options.specs.declared.asked.TheConstants.{WORKERS, MAX_PATH, MAX_PATH_WITH_MODE}
+use Rattle.sysv_server.specs.declared.serving.TheConstants.{MAX_CLIENTS}
+use Rattle.sysv_options.specs.Asked.{AreAtOnce, AreBlocks, AreWorkers}
+use Rattle.sysv_options.specs.Words.{HasFlag, HasMaybe, HasOr, IsMode, IsTime, word_of}
+
+-- A command with these words asks for this number of blocks.
+abbrev pub AsksForBlocks : List Row → ℕ → Type 0
+AsksForBlocks words blocks = HasOr IsNat32 1024 (word_of words (codes "blocks")) blocks × AreBlocks blocks
+
+-- The word after `--workers` is this number of workers, or there is no such word and there are four.
+abbrev pub CountsWorkers : Option (List ℕ) → ℕ → Type 0
+CountsWorkers (Some word) workers = IsNat32 word workers × AreWorkers workers
+CountsWorkers None workers = workers ≡ WORKERS
+
+-- A command with these words asks for this number of workers.
+abbrev pub AsksForWorkers : List Row → ℕ → Type 0
+AsksForWorkers words workers = CountsWorkers (word_of words (codes "workers")) workers
+
+-- The word after `--at-once` is this number of sessions at once, or there is no such word and the
+-- number is as large as it may be.
+abbrev pub CountsAtOnce : Option (List ℕ) → ℕ → Type 0
+CountsAtOnce (Some word) at_once = IsNat32 word at_once × AreAtOnce at_once
+CountsAtOnce None at_once = at_once ≡ MAX_CLIENTS
+
+-- A command with these words asks for this number of sessions at once.
+abbrev pub AsksForAtOnce : List Row → ℕ → Type 0
+AsksForAtOnce words at_once = CountsAtOnce (word_of words (codes "at-once")) at_once
+
+-- A `serve` with these words has these terms.
+pub record AsksForTerms (words : List Row) (terms : Terms) : Type 0 where
+  pub blocks : AsksForBlocks words terms.blocks
+  pub workers : AsksForWorkers words terms.workers
+  pub at_once : AsksForAtOnce words terms.at_once
+  pub sessions : HasOr IsNat64 0 (word_of words (codes "sessions")) terms.sessions
+  pub idle : HasOr IsNat32 0 (word_of words (codes "idle")) terms.patience.idle
+  pub stall : HasOr IsNat32 0 (word_of words (codes "stall")) terms.patience.stall
+  pub drain : HasOr IsNat32 0 (word_of words (codes "drain")) terms.drain
+  pub stats : terms.stats ≡ is_some (word_of words (codes "stats"))
+
+-- A command with these words has this path.
+abbrev pub HasPath : List Row → List ℕ → Type 0
+HasPath words path = (word_of words (codes "path") ≡ Some path) × (1 ≤ length path) × (length path ≤ MAX_PATH)
+
+-- A path with this mode is not too long.
+abbrev pub HasRoom : List ℕ → Option ℕ → Type 0
+HasRoom path (Some mode) = length path ≤ MAX_PATH_WITH_MODE
+HasRoom path None = ⊤
+
+-- A `serve` with these words has a socket file at this path with this mode, and removes a stale one
+-- or does not.
+pub record AsksForFileAt (words : List Row) (at : List ℕ) (file : SocketFile) : Type 0 where
+  pub path : file.path.now ≡ at
+  pub mode : IsMode (word_of words (codes "mode")) file.mode
+  pub room : HasRoom at file.mode
+  pub replace : HasFlag words (codes "replace") file.replace
+
+-- A `serve` with these words has this socket file.
+pub record AsksForFile (words : List Row) (served : SocketFile) : Type 0 where
+  pub path : HasPath words served.path.now
+  pub file : AsksForFileAt words served.path.now served
+
+-- A `serve` with these words shows its state at this socket file, which is not at its own path, or
+-- shows it nowhere.
+abbrev pub MayAskForStats : List Row → Option SocketFile → Type 0
+MayAskForStats words (Some file) =
+    (word_of words (codes "stats") ≡ Some file.path.now) × (1 ≤ length file.path.now)
+    × (length file.path.now ≤ MAX_PATH) × (word_of words (codes "path") ≢ Some file.path.now)
+    × AsksForFileAt words file.path.now file
+MayAskForStats words None = word_of words (codes "stats") ≡ None
+
+-- A `stats` with these words shows this.
+pub record AsksToLook (words : List Row) (looking : Looking) : Type 0 where
+  pub path : HasPath words looking.path.now
+  pub json : HasFlag words (codes "json") looking.json
+  pub wait : HasMaybe IsTime (word_of words (codes "wait")) looking.wait
+  pub is_aside : HasFlag words (codes "stderr") looking.is_aside
+
+-- A `serve` with these words is this one.
+pub record AsksToServe (words : List Row) (serving : Serving) : Type 0 where
+  pub file : AsksForFile words serving.file
+  pub stats : MayAskForStats words serving.stats
+  pub terms : AsksForTerms words serving.terms
+  pub until_eof : HasFlag words (codes "until-eof") serving.until_eof

@@ -1,0 +1,780 @@
+//! The request that a command line makes.
+
+ghost use Rattle.std.specs.Prelude.{◌≡◌, ◌≤◌, ◌⊎◌, ℕ, IfOk, IfSome, MatchOption, OnOk, Some, codes, false, is_some, map, pos, true};
+ghost use Rattle.clap.specs.Values.{kind_of};
+ghost use Rattle.clap.specs.Words.{app_of, subcommand_rows_of};
+ghost use Rattle.clap.specs.declared.error.kind.ErrorKind.TheVariants.{InvalidValue, OutOfMemory};
+ghost use Rattle.sysv_options.specs.Asked.{AreAtOnce, AreBlocks, AreTerms, AreWorkers, HasLimits, IsWithinLimits};
+ghost use Rattle.sysv_options.specs.Requests.{AsksFor, ClientAsks, IsAskedBy, IsMeant};
+ghost use Rattle.sysv_options.specs.Servers.{AsksForAtOnce, AsksForBlocks, AsksForFile, AsksForFileAt, AsksForTerms, AsksForWorkers, AsksToLook, AsksToServe, HasPath, MayAskForStats};
+ghost use Rattle.sysv_options.specs.Tasks.{AsksToList, AsksToMake, AsksToReceive, AsksToRemove, AsksToSend, HasTask, HasHow, NamesTarget, IsAhead, Receives, ShowsIn, StatesWho, is_json};
+ghost use Rattle.sysv_options.specs.Words.{ArePartsOf, AreSeconds, Has, HasFlag, HasMaybe, HasOr, IsMode, IsOctalMode, IsOn, IsRead, IsThousandths, IsTime, IsUnsigned, WantsType, word_of, words_in};
+ghost use Rattle.sysv_words.specs.Words.{IsNat32, IsNat64};
+ghost use Rattle.sysv_clients.specs.Run.{HasShortText};
+ghost use Rattle.sysv_clients.specs.Words.{IsKey, IsType};
+
+use crate::commands::{command, command_named};
+use crate::who::Who;
+use clap::error::ErrorKind;
+use clap::{ArgMatches, Command as CommandLine, Error};
+use std::alloc::{AllocError, Global};
+use std::convert::AsStr;
+use sysv_clients::{
+    Form, Format, MAX_AHEAD, Making, Receipt, Target, Task, id_of, key_of, type_of,
+};
+use sysv_connect::{How, Looking};
+use sysv_model::{BODY_ROOM, MAX_BLOCKS, MIN_BLOCKS};
+use sysv_server::{MAX_CLIENTS, Patience, Terms};
+use sysv_words::{Reads, one_split, split_at_mark};
+
+/// The request that a command line makes.
+#[derive(Clone, Copy, PartialEq, Eq, Debug)]
+pub enum Asked<'a> {
+    /// Run the script on the standard input.
+    Script,
+    /// Serve at a path.
+    Serve(Serving<'a>),
+    /// Show the state of a server.
+    Look(Looking<'a>),
+    /// Run a task of a client at the server at `path`.
+    Client {
+        /// The path of the server's socket.
+        path: &'a str,
+        /// The user, the group and the process that the client states.
+        who: Who,
+        /// The task.
+        task: Task<'a>,
+        /// How the task is run.
+        how: How,
+    },
+}
+
+/// The socket files and the terms of a server.
+#[derive(Clone, Copy, PartialEq, Eq, Debug)]
+pub struct Serving<'a> {
+    /// The file of its socket.
+    pub file: SocketFile<'a>,
+    /// The file of the socket on which its state is shown, if it is to be shown.
+    pub stats: Option<SocketFile<'a>>,
+    /// The terms of the server.
+    pub terms: Terms,
+    /// Whether the server ends after its standard input has ended.
+    pub until_eof: bool,
+}
+
+/// The file of a server's socket.
+#[derive(Clone, Copy, PartialEq, Eq, Debug)]
+pub struct SocketFile<'a> {
+    /// The path of the file.
+    pub path: &'a str,
+    /// The mode of the file. Without one it is 0777 less the umask.
+    pub mode: Option<u32>,
+    /// Whether to remove the file first if it is a socket on which no server listens.
+    pub replace: bool,
+}
+
+/// The maximum number of workers that `--workers` may ask for.
+const MAX_WORKERS: u32 = 16;
+
+/// The number of workers without an option.
+const WORKERS: u32 = 4;
+
+/// The maximum mode of a socket file.
+const MAX_MODE: u32 = 0o777;
+
+/// The maximum number of bytes in a socket's path. The system call has space for one more byte,
+/// which is 0.
+const MAX_PATH: usize = 107;
+
+/// The maximum number of bytes in a socket's path that has a `--mode`. The socket is created under
+/// a name that is four bytes longer.
+const MAX_PATH_WITH_MODE: usize = 103;
+
+/// Why a word is not valid.
+type Bad = &'static str;
+
+const BAD_PATH: Bad = "a PATH has 1 to 107 bytes";
+
+const BAD_PATH_WITH_MODE: Bad = "with --mode a PATH has 1 to 103 bytes";
+
+const SAME_PATH: Bad = "PATH2 is PATH: --stats names a socket of its own";
+
+const BAD_KEY: Bad =
+    "a KEY is 1 to 2147483647, or 0x and one to eight hexadecimal digits that are not all 0";
+
+const BAD_ID: Bad = "an ID is 0 to 2147483647";
+
+const BAD_TYPE: Bad = "a type is 1 to 9223372036854775807";
+
+const BAD_BLOCKS: Bad = "the number of blocks is 128 to 65536";
+
+const BAD_WORKERS: Bad = "the number of workers is 1 to 16";
+
+const BAD_AT_ONCE: Bad = "the number of sessions at once is 1 to 16384";
+
+const BAD_SECONDS: Bad = "the number of seconds is 0 to 4294967295";
+
+const BAD_MODE: Bad = "a mode is 0 to 777 in octal";
+
+const BAD_SESSIONS: Bad = "the number of sessions is 0 to 18446744073709551615";
+
+const BAD_COUNT: Bad = "a number of messages or bytes is 0 to 4294967295";
+
+const BAD_TIME: Bad =
+    "a time is 0 to 4294967295 seconds, with or without a point and one to three more digits";
+
+const BAD_FORM: Bad = "--raw, --zero and --json exclude one another";
+
+const BAD_AHEAD: Bad = "the number of receives ahead is 1 to 64";
+
+const BAD_NUMBER: Bad = "a size, user ID, group ID or process ID is 0 to 4294967295";
+
+const LONG_TEXT: Bad = "a TEXT has at most 8256 bytes";
+
+const NO_COMMAND: Bad = "a command is missing";
+
+/// Parses a command line, whose first word is the program's name.
+///
+/// # Errors
+///
+/// Fails with the error to print if the words are not valid, and with the help or the version if
+/// the words request it.
+pub fn read_words<'a, S: AsStr>(alloc: Global, words: &'a [S]) -> Result<Asked<'a>, Error>
+    ensures limits { IfOk result IsWithinLimits }
+    ensures meaning { IfOk result (IsMeant (map S.text words.entry.now)) }
+{
+    let mut line: CommandLine<'a> = command(alloc)?;
+    read_line(alloc, &mut line, words)
+}
+
+/// Parses the words like `read_words`, with this command line.
+fn read_line<'a, S: AsStr>(
+    alloc: Global,
+    line: &mut CommandLine<'a>,
+    words: &'a [S],
+) -> Result<Asked<'a>, Error>
+    ensures limits { IfOk result IsWithinLimits }
+    ensures meaning { IfOk result (IsAskedBy (app_of line.old) (map S.text words.entry.now)) }
+{
+    let matches = line.try_get_matches_from_mut(words)?;
+    match task_of(&matches) {
+        Ok(task) => Ok(task),
+        Err(bad) => Err(bad_value(alloc, &matches, bad)?),
+    }
+}
+
+/// Returns the error that a value is not valid, with the usage of the parsed command.
+fn bad_value(alloc: Global, matches: &ArgMatches<'_>, bad: Bad) -> Result<Error, AllocError> {
+    let name = matches.subcommand_name().unwrap_or("");
+    command_named(alloc, name)?.error(ErrorKind::ValueValidation, bad)
+}
+
+/// Returns the error that a word is not UTF-8, or that memory was refused for it.
+pub fn no_text(alloc: Global) -> Error
+    ensures { (kind_of result ≡ InvalidValue) ⊎ (kind_of result ≡ OutOfMemory) }
+{
+    match fault(alloc, "a word is not UTF-8") {
+        Ok(error) => error,
+        Err(error) => Error::from(error),
+    }
+}
+
+/// Returns an error about the whole command line.
+fn fault(alloc: Global, text: &str) -> Result<Error, AllocError>
+    ensures { IfOk result (λ error. kind_of error ≡ InvalidValue) }
+{
+    command(alloc)?.error(ErrorKind::InvalidValue, text)
+}
+
+/// Returns the request of the parsed command.
+fn task_of<'a>(matches: &ArgMatches<'a>) -> Result<Asked<'a>, Bad>
+    ensures limits { IfOk result IsWithinLimits }
+    ensures meaning { IsRead result (AsksFor (subcommand_rows_of matches.now)) }
+{
+    let Some((name, words)) = command_in(matches) else {
+        return Err(NO_COMMAND);
+    };
+    match name {
+        "script" => Ok(Asked::Script),
+        "serve" => Ok(Asked::Serve(server(words)?)),
+        "stats" => Ok(Asked::Look(look_of(words)?)),
+        _ => client(name, words),
+    }
+}
+
+/// Returns the request of a `stats`.
+fn look_of<'a>(words: &ArgMatches<'a>) -> Result<Looking<'a>, Bad>
+    ensures { IsRead result (AsksToLook (words_in words.now)) }
+{
+    Ok(Looking {
+        path: path_of(words)?,
+        json: has_flag(words, "json"),
+        wait: time_if(words, "wait")?,
+        is_aside: has_flag(words, "stderr"),
+    })
+}
+
+/// Returns the request of a client's command.
+fn client<'a>(name: &str, words: &ArgMatches<'a>) -> Result<Asked<'a>, Bad>
+    ensures limits { IfOk result IsWithinLimits }
+    ensures meaning { IsRead result (ClientAsks name.now (words_in words.now)) }
+{
+    let task = client_task(name, words)?;
+    let path = path_of(words)?;
+    let who = who_of(words)?;
+    let how = how_of(words)?;
+    Ok(Asked::Client {
+        path,
+        who,
+        task,
+        how,
+    })
+}
+
+/// Returns how a client's task is run.
+fn how_of(words: &ArgMatches<'_>) -> Result<How, Bad>
+    ensures { IsRead result (HasHow (words_in words.now)) }
+{
+    Ok(How {
+        from_input: has_flag(words, "stdin"),
+        lines: has_flag(words, "lines"),
+        follow: has_flag(words, "follow"),
+        count: number_if(words, "count")?,
+        ahead: ahead_of(words)?,
+        wait: time_if(words, "wait")?,
+        stderr: has_flag(words, "stderr"),
+    })
+}
+
+/// Returns the number of receives that may be on their way, if the command has it.
+fn ahead_of(words: &ArgMatches<'_>) -> Result<Option<u32>, Bad>
+    ensures { IsRead result (HasMaybe IsAhead (word_of (words_in words.now) (codes "ahead"))) }
+{
+    match word_in(words, "ahead") {
+        Some(word) => match u32::read(word.as_bytes()) {
+            Some(ahead) if (1..=MAX_AHEAD).contains(&ahead) => Ok(Some(ahead)),
+            _ => Err(BAD_AHEAD),
+        },
+        None => Ok(None),
+    }
+}
+
+/// Returns the task of a client's command.
+fn client_task<'a>(name: &str, words: &ArgMatches<'a>) -> Result<Task<'a>, Bad>
+    ensures limits { IfOk result HasShortText }
+    ensures meaning { IsRead result (HasTask name.now (words_in words.now)) }
+{
+    match name {
+        "ipcs" => listing(words),
+        "ipcrm" => removal(words),
+        "ipcmk" => making(words),
+        "snd" => sending(words),
+        "rcv" => receiving(words),
+        _ => Err(NO_COMMAND),
+    }
+}
+
+/// Returns the path of the socket. An empty path is refused: it would create a socket without a
+/// name, which no file's mode protects.
+fn path_of<'a>(words: &ArgMatches<'a>) -> Result<&'a str, Bad>
+    ensures { IsRead result (λ path. HasPath (words_in words.now) path.now) }
+{
+    match word_in(words, "path") {
+        Some(path) if !path.is_empty() && path.len() <= MAX_PATH => Ok(path),
+        _ => Err(BAD_PATH),
+    }
+}
+
+/// Returns the request of a `serve`.
+fn server<'a>(words: &ArgMatches<'a>) -> Result<Serving<'a>, Bad>
+    ensures limits { IfOk result HasLimits }
+    ensures meaning { IsRead result (AsksToServe (words_in words.now)) }
+{
+    let file = file_of(words)?;
+    Ok(Serving {
+        file,
+        stats: stats_of(words, file.path)?,
+        terms: terms_of(words)?,
+        until_eof: has_flag(words, "until-eof"),
+    })
+}
+
+/// Returns the file of a server's socket.
+fn file_of<'a>(words: &ArgMatches<'a>) -> Result<SocketFile<'a>, Bad>
+    ensures { IsRead result (AsksForFile (words_in words.now)) }
+{
+    file_at(words, path_of(words)?)
+}
+
+/// Returns the file of the socket on which the state of a server at the path `own` is shown, if the
+/// command has one.
+fn stats_of<'a>(words: &ArgMatches<'a>, own: &str) -> Result<Option<SocketFile<'a>>, Bad>
+    requires { word_of (words_in words.now) (codes "path") ≡ Some own.now }
+    ensures { IsRead result (MayAskForStats (words_in words.now)) }
+{
+    match word_in(words, "stats") {
+        Some(path) if path.is_empty() || path.len() > MAX_PATH => Err(BAD_PATH),
+        Some(path) if path == own => Err(SAME_PATH),
+        Some(path) => Ok(Some(file_at(words, path)?)),
+        None => Ok(None),
+    }
+}
+
+/// Returns the file of a socket of a server at this path.
+fn file_at<'a>(words: &ArgMatches<'a>, path: &'a str) -> Result<SocketFile<'a>, Bad>
+    ensures { IsRead result (λ file. (file.path.now ≡ path.now)
+        × AsksForFileAt (words_in words.now) path.now file) }
+{
+    let mode = mode_of(words)?;
+    if mode.is_some() && path.len() > MAX_PATH_WITH_MODE {
+        return Err(BAD_PATH_WITH_MODE);
+    }
+    Ok(SocketFile {
+        path,
+        mode,
+        replace: has_flag(words, "replace"),
+    })
+}
+
+/// Returns the terms of a server.
+fn terms_of(words: &ArgMatches<'_>) -> Result<Terms, Bad>
+    ensures limits { IfOk result AreTerms }
+    ensures meaning { IsRead result (AsksForTerms (words_in words.now)) }
+{
+    Ok(Terms {
+        blocks: blocks_of(words)?,
+        workers: workers_of(words)?,
+        at_once: at_once_of(words)?,
+        sessions: sessions_of(words)?,
+        patience: Patience {
+            idle: seconds_of(words, "idle")?,
+            stall: seconds_of(words, "stall")?,
+        },
+        drain: seconds_of(words, "drain")?,
+        stats: has_word(words, "stats"),
+    })
+}
+
+/// Returns the maximum number of clients at once: the word after `--at-once`, or else the greatest
+/// number.
+fn at_once_of(words: &ArgMatches<'_>) -> Result<u32, Bad>
+    ensures limits { IfOk result AreAtOnce }
+    ensures meaning { IsRead result (AsksForAtOnce (words_in words.now)) }
+{
+    let Some(word) = word_in(words, "at-once") else {
+        return Ok(MAX_CLIENTS);
+    };
+    match u32::read(word.as_bytes()) {
+        Some(at_once) if (1..=MAX_CLIENTS).contains(&at_once) => Ok(at_once),
+        _ => Err(BAD_AT_ONCE),
+    }
+}
+
+/// Returns the number of seconds that an option has, 0 for no limit.
+fn seconds_of(words: &ArgMatches<'_>, id: &str) -> Result<u32, Bad>
+    ensures { IsRead result (HasOr IsNat32 0 (word_of (words_in words.now) id.now)) }
+{
+    match word_in(words, id) {
+        Some(word) => u32::read(word.as_bytes()).ok_or(BAD_SECONDS),
+        None => Ok(0),
+    }
+}
+
+/// Returns the mode of a socket file, if the command has one.
+fn mode_of(words: &ArgMatches<'_>) -> Result<Option<u32>, Bad>
+    ensures { IsRead result (IsMode (word_of (words_in words.now) (codes "mode"))) }
+{
+    match word_in(words, "mode") {
+        Some(word) => Ok(Some(octal_mode(word)?)),
+        None => Ok(None),
+    }
+}
+
+/// Parses a mode: an octal number from 0 to 777.
+fn octal_mode(word: &str) -> Result<u32, Bad>
+    ensures { IsRead result (IsOctalMode word.now) }
+{
+    match u32::from_str_radix(word, 8) {
+        Ok(mode) if mode <= MAX_MODE && !word.starts_with('+') => Ok(mode),
+        _ => Err(BAD_MODE),
+    }
+}
+
+/// Returns the number of blocks in a pool.
+fn blocks_of(words: &ArgMatches<'_>) -> Result<u32, Bad>
+    ensures limits { IfOk result AreBlocks }
+    ensures meaning { IsRead result (AsksForBlocks (words_in words.now)) }
+{
+    let blocks = number(words, "blocks", 1024)?;
+    if (MIN_BLOCKS..=MAX_BLOCKS).contains(&blocks) {
+        Ok(blocks)
+    } else {
+        Err(BAD_BLOCKS)
+    }
+}
+
+/// Returns the number of workers: the word after `--workers`, or else four.
+fn workers_of(words: &ArgMatches<'_>) -> Result<u32, Bad>
+    ensures limits { IfOk result AreWorkers }
+    ensures meaning { IsRead result (AsksForWorkers (words_in words.now)) }
+{
+    let Some(word) = word_in(words, "workers") else {
+        return Ok(WORKERS);
+    };
+    match u32::read(word.as_bytes()) {
+        Some(workers) if (1..=MAX_WORKERS).contains(&workers) => Ok(workers),
+        _ => Err(BAD_WORKERS),
+    }
+}
+
+/// Returns the number of sessions after which a server ends, 0 for no limit.
+fn sessions_of(words: &ArgMatches<'_>) -> Result<u64, Bad>
+    ensures { IsRead result (HasOr IsNat64 0 (word_of (words_in words.now) (codes "sessions"))) }
+{
+    match word_in(words, "sessions") {
+        Some(word) => u64::read(word.as_bytes()).ok_or(BAD_SESSIONS),
+        None => Ok(0),
+    }
+}
+
+/// Returns the mode of a queue that is created.
+fn queue_mode(words: &ArgMatches<'_>) -> Result<u32, Bad>
+    ensures { IsRead result (HasOr IsOctalMode 384 (word_of (words_in words.now) (codes "mode"))) }
+{
+    match word_in(words, "mode") {
+        Some(word) => octal_mode(word),
+        None => Ok(0o600),
+    }
+}
+
+/// Returns the task of an `ipcs`.
+fn listing<'a>(words: &ArgMatches<'a>) -> Result<Task<'a>, Bad>
+    ensures limits { IfOk result HasShortText }
+    ensures meaning { IsRead result (AsksToList (words_in words.now)) }
+{
+    match word_in(words, "id") {
+        Some(id) => Ok(Task::Show(id_of(id.as_bytes()).ok_or(BAD_ID)?)),
+        None => Ok(Task::List(format_of(words))),
+    }
+}
+
+/// Returns the form in which the queues are listed.
+fn format_of(words: &ArgMatches<'_>) -> Format
+    ensures { HasFlag (words_in words.now) (codes "json") (is_json result) }
+{
+    if has_flag(words, "json") {
+        Format::Json
+    } else {
+        Format::Table
+    }
+}
+
+/// Returns the task of an `ipcmk`.
+fn making<'a>(words: &ArgMatches<'a>) -> Result<Task<'a>, Bad>
+    ensures limits { IfOk result HasShortText }
+    ensures meaning { IsRead result (AsksToMake (words_in words.now)) }
+{
+    Ok(Task::Make(Making {
+        key: key_or_private(words)?,
+        mode: queue_mode(words)?,
+        qbytes: number_if(words, "qbytes")?,
+    }))
+}
+
+/// Returns the key, or that of a private queue if there is none.
+fn key_or_private(words: &ArgMatches<'_>) -> Result<i32, Bad>
+    ensures { IsRead result (HasOr IsKey (pos 0) (word_of (words_in words.now) (codes "key"))) }
+{
+    match word_in(words, "key") {
+        Some(_) => key(words),
+        None => Ok(0),
+    }
+}
+
+/// Returns the task of an `ipcrm`.
+fn removal<'a>(words: &ArgMatches<'a>) -> Result<Task<'a>, Bad>
+    ensures limits { IfOk result HasShortText }
+    ensures meaning { IsRead result (AsksToRemove (words_in words.now)) }
+{
+    Ok(Task::Remove(target_of(words)?))
+}
+
+/// Returns the queue that an `ipcrm` removes, or all queues.
+fn target_of(words: &ArgMatches<'_>) -> Result<Target, Bad>
+    ensures { IsRead result (NamesTarget (word_of (words_in words.now) (codes "id"))
+        (word_of (words_in words.now) (codes "key"))
+        (word_of (words_in words.now) (codes "all"))) }
+{
+    match (word_in(words, "id"), word_in(words, "all")) {
+        (Some(id), _) => Ok(Target::Id(id_of(id.as_bytes()).ok_or(BAD_ID)?)),
+        (None, Some("true")) => Ok(Target::All),
+        (None, _) => Ok(Target::Key(key(words)?)),
+    }
+}
+
+/// Returns the task of a `snd`.
+fn sending<'a>(words: &ArgMatches<'a>) -> Result<Task<'a>, Bad>
+    ensures limits { IfOk result HasShortText }
+    ensures meaning { IsRead result (AsksToSend (words_in words.now)) }
+{
+    let key = key(words)?;
+    let text = word_in(words, "text").unwrap_or("").as_bytes();
+    if text.len() > BODY_ROOM {
+        return Err(LONG_TEXT);
+    }
+    let mtype = match word_in(words, "type") {
+        Some(word) => type_of(word.as_bytes()).ok_or(BAD_TYPE)?,
+        None => 1,
+    };
+    Ok(Task::Send {
+        key,
+        text,
+        mtype,
+        nowait: has_flag(words, "nowait"),
+    })
+}
+
+/// Returns the task of a `rcv`.
+fn receiving<'a>(words: &ArgMatches<'a>) -> Result<Task<'a>, Bad>
+    ensures limits { IfOk result HasShortText }
+    ensures meaning { IsRead result (AsksToReceive (words_in words.now)) }
+{
+    Ok(Task::Receive(receipt_of(words)?))
+}
+
+/// Returns what a `rcv` receives.
+fn receipt_of(words: &ArgMatches<'_>) -> Result<Receipt, Bad>
+    ensures { IsRead result (Receives (words_in words.now)) }
+{
+    Ok(Receipt {
+        key: key(words)?,
+        create: has_flag(words, "create"),
+        mode: queue_mode(words)?,
+        size: number(words, "size", 8192)?,
+        mtype: wanted_type(words)?,
+        except: has_word(words, "except"),
+        nowait: has_flag(words, "nowait"),
+        noerror: has_flag(words, "noerror"),
+        show_type: has_flag(words, "show-type"),
+        form: form_of(words)?,
+    })
+}
+
+/// Returns the form in which a `rcv` shows a message.
+fn form_of(words: &ArgMatches<'_>) -> Result<Form, Bad>
+    ensures { IsRead result (ShowsIn (word_of (words_in words.now) (codes "raw"))
+        (word_of (words_in words.now) (codes "zero"))
+        (word_of (words_in words.now) (codes "json"))) }
+{
+    match (
+        is_on(words, "raw"),
+        is_on(words, "zero"),
+        is_on(words, "json"),
+    ) {
+        (false, false, false) => Ok(Form::Line),
+        (true, false, false) => Ok(Form::Raw),
+        (false, true, false) => Ok(Form::Zero),
+        (false, false, true) => Ok(Form::Object),
+        _ => Err(BAD_FORM),
+    }
+}
+
+/// Returns the type argument of a `rcv`: 0 for any type, a positive number for one type or for any
+/// but one, or a negative number for the lowest type up to its absolute value.
+fn wanted_type(words: &ArgMatches<'_>) -> Result<i64, Bad>
+    ensures { IsRead result (WantsType (word_of (words_in words.now) (codes "type"))
+        (word_of (words_in words.now) (codes "upto"))
+        (word_of (words_in words.now) (codes "except"))) }
+{
+    match (word_in(words, "type"), word_in(words, "upto")) {
+        (Some(word), _) => type_of(word.as_bytes()).ok_or(BAD_TYPE),
+        (None, Some(word)) => Ok(-type_of(word.as_bytes()).ok_or(BAD_TYPE)?),
+        (None, None) => excepted_type(words),
+    }
+}
+
+/// Returns the type after `--except`, or 0 if there is none.
+fn excepted_type(words: &ArgMatches<'_>) -> Result<i64, Bad>
+    ensures { IsRead result (HasOr IsType (pos 0)
+        (word_of (words_in words.now) (codes "except"))) }
+{
+    match word_in(words, "except") {
+        Some(word) => type_of(word.as_bytes()).ok_or(BAD_TYPE),
+        None => Ok(0),
+    }
+}
+
+/// Returns the user, the group and the process that a client states.
+fn who_of(words: &ArgMatches<'_>) -> Result<Who, Bad>
+    ensures { IsRead result (StatesWho (words_in words.now)) }
+{
+    Ok(Who {
+        me: has_flag(words, "me"),
+        uid: id_if(words, "uid")?,
+        gid: id_if(words, "gid")?,
+        pid: id_if(words, "pid")?,
+    })
+}
+
+/// Returns the key.
+fn key(words: &ArgMatches<'_>) -> Result<i32, Bad>
+    ensures { IsRead result (Has IsKey (word_of (words_in words.now) (codes "key"))) }
+{
+    match word_in(words, "key") {
+        Some(word) => key_of(word.as_bytes()).ok_or(BAD_KEY),
+        None => Err(BAD_KEY),
+    }
+}
+
+/// Returns the number that an option has, or its default.
+fn number(words: &ArgMatches<'_>, id: &str, default: u32) -> Result<u32, Bad>
+    ensures { IsRead result (HasOr IsNat32 default (word_of (words_in words.now) id.now)) }
+{
+    match word_in(words, id) {
+        Some(word) => u32::read(word.as_bytes()).ok_or(BAD_NUMBER),
+        None => Ok(default),
+    }
+}
+
+/// Returns the number of messages or bytes that an option has, if the command has it.
+fn number_if(words: &ArgMatches<'_>, id: &str) -> Result<Option<u32>, Bad>
+    ensures { IsRead result (HasMaybe IsNat32 (word_of (words_in words.now) id.now)) }
+{
+    match word_in(words, id) {
+        Some(word) => match u32::read(word.as_bytes()) {
+            Some(number) => Ok(Some(number)),
+            None => Err(BAD_COUNT),
+        },
+        None => Ok(None),
+    }
+}
+
+/// Returns the number of milliseconds that an option has, if the command has it.
+fn time_if(words: &ArgMatches<'_>, id: &str) -> Result<Option<u64>, Bad>
+    ensures { IsRead result (HasMaybe IsTime (word_of (words_in words.now) id.now)) }
+{
+    match word_in(words, id) {
+        Some(word) => match milliseconds(word.as_bytes()) {
+            Some(time) => Ok(Some(time)),
+            None => Err(BAD_TIME),
+        },
+        None => Ok(None),
+    }
+}
+
+/// Parses a number of seconds from 0 to 4294967295, which may have a point and one to three more
+/// digits. Returns the number of milliseconds, or `None` for any other word.
+fn milliseconds(word: &[u8]) -> Option<u64>
+    ensures { MatchOption result ((time : ℕ) → ¬ IsTime word.now time) (IsTime word.now) }
+{
+    one_split();
+    match split_at_mark(word, b'.') {
+        Some((seconds, places)) => parts(seconds, places),
+        None => whole_seconds(word),
+    }
+}
+
+/// Returns the number of milliseconds of a number of seconds without a point, or `None` for any
+/// other word.
+fn whole_seconds(word: &[u8]) -> Option<u64>
+    ensures { MatchOption result ((time : ℕ) → ¬ AreSeconds word.now time) (AreSeconds word.now) }
+{
+    match u32::read(word) {
+        Some(seconds) => Some(u64::from(seconds) * 1000),
+        None => None,
+    }
+}
+
+/// Returns the number of milliseconds of a number of seconds and its decimal places, or `None` for
+/// any other words.
+fn parts(seconds: &[u8], places: &[u8]) -> Option<u64>
+    ensures { MatchOption result ((time : ℕ) → ¬ ArePartsOf seconds.now places.now time)
+        (ArePartsOf seconds.now places.now) }
+{
+    let Some(seconds) = unsigned(seconds) else {
+        return None;
+    };
+    match thousandths(places) {
+        Some(thousandths) => Some(u64::from(seconds) * 1000 + thousandths),
+        None => None,
+    }
+}
+
+/// Returns the number of thousandths of one to three decimal places, or `None` for any other word.
+fn thousandths(places: &[u8]) -> Option<u64>
+    ensures number { MatchOption result ((number : ℕ) → ¬ IsThousandths places.now number)
+        (IsThousandths places.now) }
+    ensures few { IfSome result (λ number. number ≤ 429496729500) }
+{
+    let Some(digits) = unsigned(places) else {
+        return None;
+    };
+    match places.len() {
+        1 => Some(u64::from(digits) * 100),
+        2 => Some(u64::from(digits) * 10),
+        3 => Some(u64::from(digits)),
+        _ => None,
+    }
+}
+
+/// Parses a number from 0 to 4294967295 without a sign. Returns `None` for any other word.
+fn unsigned(word: &[u8]) -> Option<u32>
+    ensures { MatchOption result ((number : ℕ) → ¬ IsUnsigned word.now number)
+        (IsUnsigned word.now) }
+{
+    if word.first() == Some(&b'-') {
+        return None;
+    }
+    u32::read(word)
+}
+
+/// Returns the user, group or process ID that an option has, if the command has it.
+fn id_if(words: &ArgMatches<'_>, id: &str) -> Result<Option<u32>, Bad>
+    ensures { IsRead result (HasMaybe IsNat32 (word_of (words_in words.now) id.now)) }
+{
+    match number_if(words, id) {
+        Ok(number) => Ok(number),
+        Err(_) => Err(BAD_NUMBER),
+    }
+}
+
+/// Returns the word that a command has under a name.
+fn word_in<'a>(words: &ArgMatches<'a>, name: &str) -> Option<&'a str>
+    ensures { MatchOption result (word_of (words_in words.now) name.now ≡ None)
+        (λ word. word_of (words_in words.now) name.now ≡ Some word.now) }
+{
+    words.get_str(name)
+}
+
+/// Returns whether a command has a word under a name.
+fn has_word(words: &ArgMatches<'_>, name: &str) -> bool
+    ensures { result ≡ is_some (word_of (words_in words.now) name.now) }
+{
+    match word_in(words, name) {
+        Some(_) => true,
+        None => false,
+    }
+}
+
+/// Returns whether clap found a flag as `true`.
+fn is_on(words: &ArgMatches<'_>, name: &str) -> bool
+    ensures on { result ≡ true → IsOn (word_of (words_in words.now) name.now) }
+    ensures off { result ≡ false → ¬ IsOn (word_of (words_in words.now) name.now) }
+{
+    word_in(words, name) == Some("true")
+}
+
+/// Returns whether a command has a flag.
+fn has_flag(words: &ArgMatches<'_>, name: &str) -> bool
+    ensures { HasFlag (words_in words.now) name.now result }
+{
+    words.get_flag(name)
+}
+
+/// Returns the name of the parsed command, and its words.
+fn command_in<'m, 'a>(matches: &'m ArgMatches<'a>) -> Option<(&'a str, &'m ArgMatches<'a>)>
+    ensures { MatchOption result (subcommand_rows_of matches.now ≡ None)
+        (λ found. subcommand_rows_of matches.now ≡ Some (found.0.now, words_in found.1.now)) }
+{
+    matches.subcommand()
+}

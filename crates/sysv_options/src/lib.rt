@@ -1,0 +1,10 @@
+//! What a command line requests, as values: the table of commands, the request that the words make,
+//! and the credentials that a client states. `specs/` defines what the words mean.
+#![tactic(auto)]
+
+mod asked;
+mod commands;
+mod who;
+
+pub use asked::{Asked, Serving, SocketFile, no_text, read_words};
+pub use who::{Who, credentials, own, wants_me, wants_stderr};

@@ -1,0 +1,83 @@
+//! The user, the group and the process that a client states.
+ghost use Rattle.std.specs.Prelude.{◌≡◌};
+ghost use Rattle.sysv_options.specs.Who.{cred_by, stated_by};
+
+use std::env;
+use std::env::Env;
+use sysv_model::Cred;
+
+/// The user, the group and the process that the words of a client state.
+#[derive(Clone, Copy, PartialEq, Eq, Debug)]
+pub struct Who {
+    /// Whether those that are not stated are those of this process.
+    pub me: bool,
+    /// The user ID, if it is stated.
+    pub uid: Option<u32>,
+    /// The group ID, if it is stated.
+    pub gid: Option<u32>,
+    /// The process ID, if it is stated.
+    pub pid: Option<u32>,
+}
+
+/// What a client states without options.
+const USUAL: Cred = Cred {
+    uid: 1000,
+    gid: 1000,
+    pid: 1,
+};
+
+/// The environment variable that has the effect of `--me` if its value is 1.
+const ME: &str = "SYSVMSG_ME";
+
+/// The environment variable that has the effect of `--stderr` if its value is 1.
+const STDERR: &str = "SYSVMSG_STDERR";
+
+/// Returns the credentials that a client states: those of the words, and for the others `own`, if
+/// the words or the environment want them, or the usual ones.
+pub fn credentials(who: &Who, wants_me: bool, own: Cred) -> Cred
+    ensures { result ≡ stated_by who.now wants_me own }
+{
+    if who.me || wants_me {
+        cred_of(who, own)
+    } else {
+        cred_of(who, USUAL)
+    }
+}
+
+/// Returns the credentials of the words, and for the others those of `usual`.
+fn cred_of(who: &Who, usual: Cred) -> Cred
+    ensures { result ≡ cred_by who.now usual }
+{
+    Cred {
+        uid: who.uid.unwrap_or(usual.uid),
+        gid: who.gid.unwrap_or(usual.gid),
+        pid: who.pid.unwrap_or(usual.pid),
+    }
+}
+
+/// Returns whether the environment wants the IDs of this process.
+pub fn wants_me(rt: &(impl Env + AllocGlobal)) -> bool {
+    is_one(rt, ME)
+}
+
+/// Returns whether the environment wants faults on standard error.
+pub fn wants_stderr(rt: &(impl Env + AllocGlobal)) -> bool {
+    is_one(rt, STDERR)
+}
+
+/// Returns whether an environment variable has the value 1.
+fn is_one(rt: &(impl Env + AllocGlobal), name: &str) -> bool {
+    match env::var(rt, name) {
+        Ok(value) => value.as_str() == "1",
+        Err(_) => false,
+    }
+}
+
+/// Returns the effective user and group of this process, and its ID.
+pub fn own() -> Cred {
+    Cred {
+        uid: libc::geteuid(),
+        gid: libc::getegid(),
+        pid: libc::getpid().unsigned_abs(),
+    }
+}

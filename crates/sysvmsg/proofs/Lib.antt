@@ -1,5 +1,0 @@
--- The lemmas of the command line.
-pub mod WordLemmas
-pub mod AskedLemmas
-pub mod EndLemmas
-pub mod TimeLemmas

@@ -1,7 +1,0 @@
-use Rattle.clap.specs.declared.parser.matches.ArgMatches.TheViews.{out-ArgMatches}
-use Rattle.sysvmsg.proofs.WordLemmas.{found_command}
-use Rattle.sysvmsg.proofs.asked.command_in.Goals as goal
-
-pub returns : goal.returns
-returns c = found_command (out-ArgMatches c.args.matches.now).subcommand c.subcommand.result c.subcommand.ensures.name
-    c.subcommand.ensures.rows

@@ -1,0 +1,227 @@
+//! Clients at a place in memory: what they request and show, and how they end.
+ghost use Rattle.sysv_clients.specs.Run.{HasShortText};
+
+use super::*;
+use std::io::Eprint;
+use std::process::ExitCode;
+use std::time::Duration;
+use sysv_connect::{FAULT, How, Leave, Looking, Place, complain, look_at, run_as, say};
+
+/// A place in memory. Its server has already sent its replies.
+#[derive(Drop)]
+struct Desk<'a> {
+    replies: Replies<'a>,
+    requests: &'a mut Tape,
+    /// Whether there is a server.
+    is_served: bool,
+}
+
+/// What a server has sent.
+#[derive(Drop)]
+struct Replies<'a> {
+    tape: &'a mut Tape,
+    /// Whether the read after the last byte waits too long. Then the session ends.
+    is_slow: bool,
+}
+
+impl Read for Replies<'_> {
+    fn read(&mut self, buf: &mut [u8]) -> io::Result<usize> {
+        let count = self.tape.read(buf)?;
+        if count == 0 && self.is_slow {
+            self.is_slow = false;
+            return Err(io::Error::from(ErrorKind::WouldBlock));
+        }
+        Ok(count)
+    }
+}
+
+impl Leave for Replies<'_> {
+    fn limit(&self, _: Duration) {}
+
+    fn leave(&self) {}
+}
+
+impl<'a> Place for Desk<'a> {
+    type Input = Replies<'a>;
+
+    type Output = &'a mut Tape;
+
+    fn connect(self) -> io::Result<(Replies<'a>, &'a mut Tape)> {
+        if self.is_served {
+            Ok((self.replies, self.requests))
+        } else {
+            Err(io::Error::from(ErrorKind::NotFound))
+        }
+    }
+}
+
+/// No options.
+const PLAIN: How = How {
+    from_input: false,
+    lines: false,
+    follow: false,
+    count: None,
+    ahead: None,
+    wait: None,
+    stderr: false,
+};
+
+/// A send of type 1 to key 7.
+const SEND: Task<'static> = Task::Send {
+    key: 7,
+    text: b"",
+    mtype: 1,
+    nowait: false,
+};
+
+/// `msgget` of key 7 with IPC_CREAT and mode 0600, and a send of type 1 to identifier 64.
+const MAKE: &[u8] = b"\0\0\0\x0a\x02\x01\0\0\0\x07\0\0\x03\x80";
+
+const SEND_ABC: &[u8] = b"\0\0\0\x15\x02\x02\0\0\0\x40\0\0\0\0\0\0\0\x01\0\0\0\0abc";
+
+/// Returns the place of a server that has sent these replies. `how` has a time only if the last
+/// read waits too long.
+fn make_desk<'a>(
+    replies: &'a mut Tape,
+    requests: &'a mut Tape,
+    how: &How,
+    is_served: bool,
+) -> Desk<'a> {
+    Desk {
+        replies: Replies {
+            tape: replies,
+            is_slow: how.wait.is_some(),
+        },
+        requests,
+        is_served,
+    }
+}
+
+/// Runs a client with this task, and returns how it ends. Tolerates one refusal of memory, after
+/// which nothing was requested.
+fn run(
+    rt: &(impl Print + Eprint + AllocGlobal + Abort),
+    dialogue: &mut Dialogue,
+    input: &mut Tape,
+    task: Task<'_>,
+    how: &How,
+) -> ExitCode {
+    if let Task::Send { text, .. } = task {
+        assert!(rt; text.len() <= BODY_ROOM);
+    }
+    let command = Command { cred: WHO, task };
+    let exit = run_once(rt, dialogue, input, &command, how);
+    if dialogue.requests.len() > 0 {
+        return exit;
+    }
+    dialogue.screen.bytes.clear();
+    run_once(rt, dialogue, input, &command, how)
+}
+
+/// Runs a client with this command at the place of a server, and returns how it ends.
+fn run_once(
+    rt: &(impl Print + Eprint + AllocGlobal),
+    dialogue: &mut Dialogue,
+    input: &mut Tape,
+    command: &Command<'_>,
+    how: &How,
+) -> ExitCode
+    requires { HasShortText command.now.task }
+{
+    let place = make_desk(&mut dialogue.replies, &mut dialogue.requests, how, true);
+    run_as(rt, input, place, "./q", command, how, &mut dialogue.screen)
+}
+
+#[test]
+fn queues_at_a_place_are_listed(rt: HostRuntime) {
+    let welcome = b"\0\0\0\x07\x02\0\0\0\0\0\x01";
+    let mut dialogue = Dialogue::new(&rt, rt.alloc(), &[welcome, ROW]);
+    let mut input = Tape::new(&rt, rt.alloc());
+    let exit = run(&rt, &mut dialogue, &mut input, LIST, &PLAIN);
+    assert_is(&rt, exit, ExitCode::SUCCESS);
+    let rows = [HELLO, b"\0\0\0\x06\x02\x07\0\0\0\0"];
+    dialogue.assert_requests(&rt, rt.alloc(), &rows);
+    dialogue.assert_shown(&rt, joined(&rt, rt.alloc(), &[HEAD, LINE]).text(), 0);
+}
+
+#[test]
+fn an_input_is_sent_as_a_body(rt: HostRuntime) {
+    let mut dialogue = Dialogue::new(&rt, rt.alloc(), &[WELCOME, GOT, SENT]);
+    let mut input = joined(&rt, rt.alloc(), &[b"abc"]);
+    let how = How {
+        from_input: true,
+        ..PLAIN
+    };
+    let exit = run(&rt, &mut dialogue, &mut input, SEND, &how);
+    assert_is(&rt, exit, ExitCode::SUCCESS);
+    dialogue.assert_requests(&rt, rt.alloc(), &[HELLO, MAKE, SEND_ABC]);
+    dialogue.assert_shown(&rt, b"", 0);
+}
+
+#[test]
+fn a_receive_that_waits_too_long_is_left(rt: HostRuntime) {
+    let mut dialogue = Dialogue::new(&rt, rt.alloc(), &[WELCOME, GOT]);
+    let mut input = Tape::new(&rt, rt.alloc());
+    let how = How {
+        wait: Some(1),
+        ..PLAIN
+    };
+    let exit = run(&rt, &mut dialogue, &mut input, RECEIVE_ANY, &how);
+    assert_is(&rt, exit, ExitCode::from(3));
+    dialogue.assert_shown(&rt, b"sysvmsg: ENOMSG\n", 0);
+}
+
+#[test]
+fn a_client_without_a_server_fails(rt: HostRuntime) {
+    let mut dialogue = Dialogue::new(&rt, rt.alloc(), &[]);
+    let mut input = Tape::new(&rt, rt.alloc());
+    let place = make_desk(&mut dialogue.replies, &mut dialogue.requests, &PLAIN, false);
+    let command = Command {
+        cred: WHO,
+        task: LIST,
+    };
+    let exit = run_as(
+        &rt,
+        &mut input,
+        place,
+        "./q",
+        &command,
+        &PLAIN,
+        &mut dialogue.screen,
+    );
+    assert_is(&rt, exit, ExitCode::from(FAULT));
+}
+
+/// A state of a server.
+const STATE: &[u8] = b"sysvmsg_sessions_open 3\n";
+
+/// Shows the state of a server as a JSON object, and returns how that ends.
+fn look(rt: &(impl Print + Eprint + AllocGlobal), dialogue: &mut Dialogue) -> ExitCode {
+    let looking = Looking {
+        path: "./q.stats",
+        json: true,
+        wait: None,
+        is_aside: false,
+    };
+    let place = make_desk(&mut dialogue.replies, &mut dialogue.requests, &PLAIN, true);
+    look_at(rt, place, &looking, &mut dialogue.screen)
+}
+
+#[test]
+fn a_state_is_requested_and_shown(rt: HostRuntime) {
+    let mut dialogue = Dialogue::new(&rt, rt.alloc(), &[STATE]);
+    let mut exit = look(&rt, &mut dialogue);
+    if exit != ExitCode::SUCCESS {
+        dialogue = Dialogue::new(&rt, rt.alloc(), &[STATE]);
+        exit = look(&rt, &mut dialogue);
+    }
+    assert_is(&rt, exit, ExitCode::SUCCESS);
+    dialogue.assert_requests(&rt, rt.alloc(), &[b"json\n"]);
+    dialogue.assert_shown(&rt, STATE, 0);
+}
+
+#[test]
+fn a_fault_is_reported(rt: HostRuntime) {
+    complain(&rt, "./q", &io::Error::from(ErrorKind::NotFound), "");
+    assert_is(&rt, say(&rt, "no server"), ExitCode::from(FAULT));
+}

@@ -1,0 +1,7 @@
+//! Tests of what command lines request.
+#![tactic(auto)]
+
+#[cfg(test)]
+mod options;
+#[cfg(test)]
+mod parts;

@@ -1,0 +1,300 @@
+//! The requests that command lines make, and the credentials that a client states.
+use crate::parts::{assert_is, assert_that};
+use clap::Error;
+use std::env;
+use std::process::Abort;
+use sysv_clients::{Form, Receipt, Target, Task};
+use sysv_connect::{How, Looking};
+use sysv_model::Cred;
+use sysv_options::{
+    Asked, Serving, SocketFile, Who, credentials, no_text, own, read_words, wants_me, wants_stderr,
+};
+use sysv_server::{MAX_CLIENTS, Patience, Terms};
+
+/// No credentials.
+const NOBODY: Who = Who {
+    me: false,
+    uid: None,
+    gid: None,
+    pid: None,
+};
+
+/// No options of a client.
+const PLAIN: How = How {
+    from_input: false,
+    lines: false,
+    follow: false,
+    count: None,
+    ahead: None,
+    wait: None,
+    stderr: false,
+};
+
+/// Parses a command line. Tolerates one refusal of memory.
+fn read<'a>(rt: &impl AllocGlobal, words: &'a [&'a str]) -> Result<Asked<'a>, Error> {
+    match read_words(rt.alloc(), words) {
+        Ok(asked) => Ok(asked),
+        Err(_) => read_words(rt.alloc(), words),
+    }
+}
+
+/// Asserts that the words request this.
+fn assert_asks(rt: &(impl Abort + AllocGlobal), words: &[&str], wanted: Asked<'_>) {
+    match read(rt, words) {
+        Ok(asked) => assert_is(rt, asked, wanted),
+        Err(why) => panic!(rt; "{why}"),
+    }
+}
+
+/// Asserts that an error says this.
+fn assert_says(rt: &(impl Abort + AllocGlobal), why: &Error, wanted: &str) {
+    let said = format!(in rt.alloc(); "{why}").expect(rt, "memory for a text");
+    assert_that(rt, said.as_str().contains(wanted));
+}
+
+/// Asserts that the words request nothing, with an error that says this.
+fn assert_refused(rt: &(impl Abort + AllocGlobal), words: &[&str], wanted: &str) {
+    match read(rt, words) {
+        Ok(asked) => panic!(rt; "{asked:?}"),
+        Err(why) => assert_says(rt, &why, wanted),
+    }
+}
+
+/// Returns the request of a client at `./q`.
+fn client(who: Who, task: Task<'_>, how: How) -> Asked<'_> {
+    Asked::Client {
+        path: "./q",
+        who,
+        task,
+        how,
+    }
+}
+
+#[test]
+fn a_script_is_requested(rt: HostRuntime) {
+    assert_asks(&rt, &["sysvmsg", "script"], Asked::Script);
+}
+
+#[test]
+fn a_send_is_requested(rt: HostRuntime) {
+    let words = [
+        "sysvmsg", "snd", "./q", "0x10", "hello", "--type", "5", "--uid", "7", "--wait", "1.5",
+    ];
+    let task = Task::Send {
+        key: 16,
+        text: b"hello",
+        mtype: 5,
+        nowait: false,
+    };
+    let who = Who {
+        uid: Some(7),
+        ..NOBODY
+    };
+    let how = How {
+        wait: Some(1500),
+        ..PLAIN
+    };
+    assert_asks(&rt, &words, client(who, task, how));
+}
+
+#[test]
+fn a_receive_is_requested(rt: HostRuntime) {
+    let words = [
+        "sysvmsg", "rcv", "./q", "7", "--upto", "3", "--json", "--count", "2", "--me", "--stderr",
+    ];
+    let task = Task::Receive(Receipt {
+        key: 7,
+        create: false,
+        mode: 0o600,
+        size: 8192,
+        mtype: -3,
+        except: false,
+        nowait: false,
+        noerror: false,
+        show_type: false,
+        form: Form::Object,
+    });
+    let who = Who { me: true, ..NOBODY };
+    let how = How {
+        count: Some(2),
+        stderr: true,
+        ..PLAIN
+    };
+    assert_asks(&rt, &words, client(who, task, how));
+}
+
+#[test]
+fn a_removal_is_requested(rt: HostRuntime) {
+    let words = ["sysvmsg", "ipcrm", "./q", "-q", "64"];
+    assert_asks(
+        &rt,
+        &words,
+        client(NOBODY, Task::Remove(Target::Id(64)), PLAIN),
+    );
+}
+
+#[test]
+fn a_state_is_requested(rt: HostRuntime) {
+    let looking = Looking {
+        path: "./q.stats",
+        json: true,
+        wait: Some(0),
+        is_aside: false,
+    };
+    let words = ["sysvmsg", "stats", "./q.stats", "--json", "--wait", "0"];
+    assert_asks(&rt, &words, Asked::Look(looking));
+}
+
+#[test]
+fn a_server_is_requested(rt: HostRuntime) {
+    let words = [
+        "sysvmsg", "serve", "./q", "--mode", "660", "--blocks", "128", "--stats", "./s", "--drain",
+        "9",
+    ];
+    let file = SocketFile {
+        path: "./q",
+        mode: Some(0o660),
+        replace: false,
+    };
+    let terms = Terms {
+        blocks: 128,
+        workers: 4,
+        at_once: MAX_CLIENTS,
+        sessions: 0,
+        patience: Patience { idle: 0, stall: 0 },
+        drain: 9,
+        stats: true,
+    };
+    let serving = Serving {
+        file,
+        stats: Some(SocketFile {
+            path: "./s",
+            ..file
+        }),
+        terms,
+        until_eof: false,
+    };
+    assert_asks(&rt, &words, Asked::Serve(serving));
+}
+
+/// A path of 104 bytes.
+const LONG: &str =
+    "012345678901234567890123456789012345678901234567890/0123456789012345678901234567890123456789012345678901";
+
+/// What each kind of error of a value says, with words that have it.
+const REFUSED: [(&[&str], &str); 16] = [
+    (&["sysvmsg", "ipcs", ""], "a PATH has 1 to 107 bytes"),
+    (
+        &["sysvmsg", "serve", LONG, "--mode", "600"],
+        "with --mode a PATH has 1 to 103 bytes",
+    ),
+    (
+        &["sysvmsg", "serve", "./q", "--stats", "./q"],
+        "PATH2 is PATH",
+    ),
+    (&["sysvmsg", "snd", "./q", "0", "hello"], "a KEY is 1 to"),
+    (&["sysvmsg", "ipcs", "./q", "-i", "x"], "an ID is 0 to"),
+    (
+        &["sysvmsg", "rcv", "./q", "7", "--type", "0"],
+        "a type is 1 to",
+    ),
+    (
+        &["sysvmsg", "serve", "./q", "--blocks", "127"],
+        "blocks is 128 to 65536",
+    ),
+    (
+        &["sysvmsg", "serve", "./q", "--workers", "17"],
+        "workers is 1 to 16",
+    ),
+    (
+        &["sysvmsg", "serve", "./q", "--at-once", "16385"],
+        "sessions at once is 1 to 16384",
+    ),
+    (
+        &["sysvmsg", "serve", "./q", "--idle", "4294967296"],
+        "seconds is 0 to 4294967295",
+    ),
+    (
+        &["sysvmsg", "ipcmk", "./q", "9", "--mode", "1000"],
+        "a mode is 0 to 777 in octal",
+    ),
+    (
+        &["sysvmsg", "serve", "./q", "--sessions", "x"],
+        "sessions is 0 to 18446744073709551615",
+    ),
+    (
+        &["sysvmsg", "rcv", "./q", "7", "--count", "x"],
+        "messages or bytes is 0 to 4294967295",
+    ),
+    (
+        &["sysvmsg", "rcv", "./q", "7", "--wait", "1.2345"],
+        "a time is 0 to 4294967295 seconds",
+    ),
+    (
+        &[
+            "sysvmsg", "rcv", "./q", "7", "--count", "2", "--ahead", "65",
+        ],
+        "receives ahead is 1 to 64",
+    ),
+    (
+        &["sysvmsg", "snd", "./q", "7", "hello", "--uid", "x"],
+        "process ID is 0 to 4294967295",
+    ),
+];
+
+#[test]
+fn words_that_are_not_valid_are_refused(rt: HostRuntime) {
+    for (words, wanted) in REFUSED {
+        assert_refused(&rt, words, wanted);
+    }
+}
+
+#[test]
+fn a_text_that_is_too_long_is_refused(rt: HostRuntime) {
+    let text = "x"
+        .repeat(rt.alloc(), 8257)
+        .expect(&rt, "memory for a text");
+    let words = ["sysvmsg", "snd", "./q", "7", text.as_str()];
+    assert_refused(&rt, &words, "a TEXT has at most 8256 bytes");
+}
+
+#[test]
+fn a_word_that_is_no_text_is_refused(rt: HostRuntime) {
+    assert_says(&rt, &no_text(rt.alloc()), "a word is not UTF-8");
+}
+
+#[test]
+fn credentials_are_those_of_the_words(rt: HostRuntime) {
+    let who = Who {
+        uid: Some(7),
+        ..NOBODY
+    };
+    let own = Cred {
+        uid: 1,
+        gid: 2,
+        pid: 3,
+    };
+    let usual = Cred {
+        uid: 7,
+        gid: 1000,
+        pid: 1,
+    };
+    assert_is(&rt, credentials(&who, false, own), usual);
+    let mine = Cred { uid: 7, ..own };
+    assert_is(&rt, credentials(&who, true, own), mine);
+}
+
+/// Returns whether an environment variable has the value 1.
+fn is_one(rt: &(impl env::Env + AllocGlobal), name: &str) -> bool {
+    match env::var(rt, name) {
+        Ok(value) => value.as_str() == "1",
+        Err(_) => false,
+    }
+}
+
+#[test]
+fn the_environment_and_the_process_are_read(rt: HostRuntime) {
+    assert_is(&rt, wants_me(&rt), is_one(&rt, "SYSVMSG_ME"));
+    assert_is(&rt, wants_stderr(&rt), is_one(&rt, "SYSVMSG_STDERR"));
+    assert_that(&rt, own().pid > 0);
+}
