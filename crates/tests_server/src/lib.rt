@@ -1,4 +1,5 @@
-//! Tests of a server on a real socket and in memory, with frames worked out by hand and with clients.
+//! Tests of a server on a real socket and in memory, with frames worked out by hand and with
+//! clients.
 #![tactic(auto)]
 
 #[cfg(test)]
