@@ -1,9 +1,9 @@
 //! What a worker counts for those who look at the server.
 
-use crate::server_state::{BLOCKS_WORD, WORDS, room_word};
 use std::alloc::Global;
 use std::sync::atomic::{AtomicU64, Ordering};
 use sysv_keys::SLOTS;
+use sysv_parking::{BLOCKS_WORD, WORDS, room_word};
 use sysv_queue::Tally;
 use sysv_seats::Notification;
 

@@ -11,6 +11,8 @@
 #![tactic(auto)]
 
 mod arrivals;
+mod awaited;
+mod changes;
 mod connections;
 mod counts;
 mod dealing;
@@ -18,7 +20,6 @@ mod doorbell;
 mod fault;
 mod laws;
 mod moment;
-mod parked_calls;
 mod place;
 mod rounds;
 mod rows;

@@ -1,0 +1,241 @@
+//! The parked calls of a worker, by what they wait for.
+use crate::due::Why;
+use crate::key::{BLOCKS_LINE, Key, LINES, SETTLED_LINE, WORDS, room_line};
+use std::alloc::Global;
+use std::collections::VecDeque;
+
+/// The number of places for which an empty line keeps its memory.
+const MOST_KEPT: usize = 16;
+
+/// The parked calls of a worker, in lines by what they wait for. In each line they are in the order
+/// in which they were parked.
+///
+/// A call is known by its place. A place is in one line at most.
+#[derive(Drop)]
+pub struct Lines {
+    alloc: Global,
+    /// What the call of each place waits for, if it is in a line.
+    keys: Vec<Option<Key>>,
+    lines: Vec<VecDeque<usize>>,
+    /// The number of places in the lines of each word.
+    counts: Vec<usize>,
+    /// Why the call of each place is due.
+    why: Vec<Why>,
+    /// The number of places that are due.
+    due_count: usize,
+    /// The places that are due, in the order in which they are looked at.
+    due: VecDeque<usize>,
+}
+
+impl Lines {
+    /// Allocates empty lines for this number of places. Returns `None` if memory is refused.
+    pub fn open(alloc: Global, places: usize) -> Option<Lines> {
+        Some(Lines {
+            alloc,
+            keys: vec![in alloc; None; places].ok()?,
+            lines: empty_lines(alloc)?,
+            counts: vec![in alloc; 0; WORDS].ok()?,
+            why: vec![in alloc; Why::NOT; places].ok()?,
+            due_count: 0,
+            due: VecDeque::with_capacity(alloc, places).ok()?,
+        })
+    }
+
+    /// Returns what the call of a place waits for, if it is in a line.
+    pub fn key(&self, place: usize) -> Option<Key> {
+        *self.keys.get(place)?
+    }
+
+    /// Returns the number of places in the lines of this word.
+    pub fn count(&self, word: usize) -> usize {
+        self.counts.get(word).copied().unwrap_or(0)
+    }
+
+    /// Returns the place at this index of a line, if there is one.
+    pub(crate) fn at(&self, line: usize, index: usize) -> Option<usize> {
+        self.lines.get(line)?.get(index).copied()
+    }
+
+    /// Puts the place at the end of the line of this key. A place that is in a line is left there.
+    /// Returns whether it is in a line; else memory was refused, and the place is due.
+    pub fn enter(&mut self, place: usize, key: Key) -> bool {
+        if self.key(place).is_some() {
+            return true;
+        }
+        if !self.append(place, key) {
+            self.make_due(place, Why::ALL);
+            return false;
+        }
+        if let Some(there) = self.keys.get_mut(place) {
+            *there = Some(key);
+        }
+        if let Some(count) = self.counts.get_mut(key.word()) {
+            *count = count.saturating_add(1);
+        }
+        true
+    }
+
+    /// Appends the place to the line of this key. Returns `false` if memory is refused, or the place
+    /// is out of range.
+    fn append(&mut self, place: usize, key: Key) -> bool {
+        if place >= self.keys.len() {
+            return false;
+        }
+        match self.lines.get_mut(key.line()) {
+            Some(line) => line.push_back(place).is_ok(),
+            None => false,
+        }
+    }
+
+    /// Takes the place out of its line, if it is in one.
+    pub fn leave(&mut self, place: usize) {
+        let Some(key) = self.key(place) else {
+            return;
+        };
+        self.remove(place, key.line());
+        if let Some(there) = self.keys.get_mut(place) {
+            *there = None;
+        }
+        if let Some(count) = self.counts.get_mut(key.word()) {
+            *count = count.saturating_sub(1);
+        }
+    }
+
+    /// Removes the place from a line.
+    fn remove(&mut self, place: usize, line: usize) {
+        let alloc = self.alloc;
+        let Some(line) = self.lines.get_mut(line) else {
+            return;
+        };
+        if let Some(index) = line.iter().position(|it| *it == place) {
+            line.remove(index);
+        }
+        if line.is_empty() && line.capacity() > MOST_KEPT {
+            *line = VecDeque::new(alloc);
+        }
+    }
+
+    /// Notes that the queue of a slot was set or removed: the calls that are parked there are due.
+    pub fn note_change(&mut self, slot: usize) {
+        for place in 0..self.keys.len() {
+            let Some(key) = self.key(place) else {
+                continue;
+            };
+            if key.is_at(slot) {
+                self.make_due(place, changed(key));
+            }
+        }
+    }
+
+    /// Notes that the freed count of a slot rose: the sends that wait for room there are due.
+    pub fn note_room(&mut self, slot: usize) {
+        self.note_line(room_line(slot));
+    }
+
+    /// Notes that the released count rose: the sends that wait for blocks are due.
+    pub fn note_blocks(&mut self) {
+        self.note_line(BLOCKS_LINE);
+    }
+
+    /// Notes that the settled count rose: the gets that wait for it are due.
+    pub fn note_settled(&mut self) {
+        self.note_line(SETTLED_LINE);
+    }
+
+    /// Notes that anything may have happened: all parked calls are due.
+    pub fn note_everything(&mut self) {
+        for place in 0..self.keys.len() {
+            if self.key(place).is_some() {
+                self.make_due(place, Why::ALL);
+            }
+        }
+    }
+
+    /// Notes that the count rose for which the calls of a line wait: they are due.
+    fn note_line(&mut self, line: usize) {
+        for index in 0..self.len_of(line) {
+            if let Some(place) = self.at(line, index) {
+                self.make_due(place, Why::RAISED);
+            }
+        }
+    }
+
+    /// Returns the number of places in a line.
+    fn len_of(&self, line: usize) -> usize {
+        match self.lines.get(line) {
+            Some(line) => line.len(),
+            None => 0,
+        }
+    }
+
+    /// Returns whether a place is due.
+    pub fn has_due(&self) -> bool {
+        self.due_count > 0
+    }
+
+    /// Makes a place due for these reasons too.
+    pub fn make_due(&mut self, place: usize, why: Why) {
+        let Some(there) = self.why.get_mut(place) else {
+            return;
+        };
+        if !there.is_due() && why.is_due() {
+            self.due_count = self.due_count.saturating_add(1);
+            // (there is room: a place that is due is in the queue once)
+            let _ = self.due.push_back(place);
+        }
+        *there = there.and(why);
+    }
+
+    /// Takes the first of the places that are due, if there are any. It is not due then. Returns it
+    /// with the reasons for which it was.
+    pub fn take_due(&mut self) -> Option<(usize, Why)> {
+        if self.due_count == 0 {
+            return None;
+        }
+        let place = self.first_due()?;
+        let there = self.why.get_mut(place)?;
+        let why = *there;
+        *there = Why::NOT;
+        self.due_count = self.due_count.saturating_sub(1);
+        Some((place, why))
+    }
+
+    /// Returns the first of the places that are due, which is not in the queue any more.
+    fn first_due(&mut self) -> Option<usize> {
+        for _ in 0..self.due.len() {
+            let Some(place) = self.due.pop_front() else {
+                break;
+            };
+            if self.is_due(place) {
+                return Some(place);
+            }
+        }
+        (0..self.why.len()).find(|place| self.is_due(*place))
+    }
+
+    /// Returns whether a place is due.
+    fn is_due(&self, place: usize) -> bool {
+        match self.why.get(place) {
+            Some(why) => why.is_due(),
+            None => false,
+        }
+    }
+}
+
+/// Returns why a call that waits for this is due if its queue was set or removed: a set may make
+/// room on the queue.
+fn changed(key: Key) -> Why {
+    match key {
+        Key::Room { .. } => Why::ALL,
+        _ => Why::CHANGED,
+    }
+}
+
+/// Returns all lines, each of them empty. Returns `None` if memory is refused.
+fn empty_lines(alloc: Global) -> Option<Vec<VecDeque<usize>>> {
+    let mut lines = Vec::with_capacity(alloc, LINES).ok()?;
+    for _ in 0..LINES {
+        lines.push(VecDeque::new(alloc)).ok()?;
+    }
+    Some(lines)
+}
