@@ -11,8 +11,10 @@ use crate::watch::{Ready, Watch};
 use crate::worker::{Worker, sooner};
 use std::alloc::Global;
 use std::sync::Wait;
-use sysv_parking::{BLOCKS_WORD, Calls, Found, Lines, LookedFor, SETTLED_WORD, Why, look_at_due};
-use sysv_parking::{look_for_message, room_word};
+use sysv_parking::{
+    BLOCKS_WORD, Calls, Found, Lines, LookedFor, SETTLED_WORD, Why, look_at_due, look_for_message,
+    room_word,
+};
 use sysv_seats::{NonBlocking, Notification};
 use sysv_service::Service;
 use sysv_session::End;

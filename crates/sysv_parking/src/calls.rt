@@ -1,7 +1,7 @@
 //! Which parked calls are looked at.
 use crate::barriers::Barriers;
 use crate::due::Why;
-use crate::key::{Key, any_line, except_line, exact_line, up_to_line};
+use crate::key::{Key, any_line, exact_line, except_line, up_to_line};
 use crate::lines::Lines;
 use sysv_keys::slot_of_id;
 use sysv_rules::qualifies;
@@ -105,12 +105,7 @@ fn stops(barriers: &Barriers, why: Why, key: Option<Key>) -> bool {
 
 /// Looks at the receives that request messages of this type at a slot, until one takes a message of
 /// the type or finds none.
-pub fn look_for_message<B, C: Calls<B>>(
-    by: &B,
-    calls: &mut C,
-    slot: usize,
-    mtype: i64,
-) -> LookedFor
+pub fn look_for_message<B, C: Calls<B>>(by: &B, calls: &mut C, slot: usize, mtype: i64) -> LookedFor
     ensures keeps { C.keeps calls.old calls.new }
 {
     let lines = [

@@ -86,9 +86,8 @@ impl Key {
     /// Returns whether the call is one at the queue of this slot.
     pub fn is_at(self, slot: usize) -> bool {
         match self {
-            Key::Message { caller, .. }
-            | Key::Room { caller, .. }
-            | Key::Blocks { caller, .. } => slot_of_id(caller.id) == slot,
+            Key::Message { caller, .. } | Key::Room { caller, .. } | Key::Blocks { caller, .. } =>
+                slot_of_id(caller.id) == slot,
             Key::Settled => false,
         }
     }

@@ -1,6 +1,6 @@
 -- The places have had what they had at the entry.
 use Rattle.sysv_engine.specs.Places.{KeepsAll}
-use Rattle.sysv_engine.proofs.rounds.Serving.round.Given as goal
+use Rattle.sysv_engine.proofs.rounds.Serving.serve_ready.Given as goal
 
 abbrev pub invariant-loop-at : goal.invariant-loop-at
 invariant-loop-at g l =
