@@ -1,0 +1,4 @@
+pub mod Keys
+pub mod Parking
+pub mod Due
+pub mod Barriers

@@ -63,7 +63,7 @@ pub trait Calls<B> {
 pub fn look_at_due<B, C: Calls<B>>(by: &B, calls: &mut C)
     ensures keeps { C.keeps calls.old calls.new }
 {
-    let mut barriers = Barriers::NONE;
+    let mut barriers = Barriers::new();
     for _ in 0..u64::MAX {
         if !calls.may_look() {
             return;

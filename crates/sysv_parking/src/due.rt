@@ -1,4 +1,6 @@
 //! Why parked calls are due.
+ghost use Rattle.std.specs.Prelude.{◌≡◌};
+ghost use Rattle.sysv_parking.specs.Due.{both, is_due as due};
 
 /// Why a parked call is due to be looked at, if it is.
 #[derive(Clone, Copy, PartialEq, Eq, Debug)]
@@ -35,12 +37,16 @@ impl Why {
     };
 
     /// Returns whether the call is due.
-    pub fn is_due(self) -> bool {
+    pub fn is_due(self) -> bool
+        ensures { result ≡ due self }
+    {
         self.changed || self.raised
     }
 
     /// Returns both reasons.
-    pub fn and(self, more: Why) -> Why {
+    pub fn and(self, more: Why) -> Why
+        ensures { result ≡ both self more }
+    {
         Why {
             changed: self.changed || more.changed,
             raised: self.raised || more.raised,

@@ -1,4 +1,7 @@
 //! What parked calls wait for.
+ghost use Rattle.std.specs.Prelude.{◌≡◌, ◌==◌, Some, IsTrue, ◌↔◌};
+ghost use Rattle.sysv_parking.specs.Keys.{bounded_sum, hash_of, line_any, line_except, line_exact, line_of, line_room, line_up_to, slot_in, word_of};
+
 use sysv_keys::{SLOTS, slot_of_id};
 use sysv_model::Selector;
 
@@ -20,6 +23,9 @@ const EXACT_LINES: usize = 1 << HASH_BITS;
 
 /// 2^64 divided by the golden ratio, an odd number: products with it differ in their high bits.
 const SPREAD: u64 = 0x9E37_79B9_7F4A_7C15;
+
+/// 2^64 divided by the square of that, an odd number: slots differ in the high bits too.
+const SLOT_SPREAD: u64 = 0x61C8_8646_80B5_83EB;
 
 /// The line of the sends that wait for blocks. Before it are the lines of each slot's receives of
 /// any type, of types up to a bound and of all types but one, of the sends that wait for room at
@@ -74,7 +80,9 @@ pub enum Key {
 
 impl Key {
     /// Returns the word of the calls that wait for the same count.
-    pub fn word(self) -> usize {
+    pub fn word(self) -> usize
+        ensures { result ≡ word_of self }
+    {
         match self {
             Key::Message { caller, .. } => slot_of_id(caller.id),
             Key::Room { caller, .. } => room_word(slot_of_id(caller.id)),
@@ -84,7 +92,9 @@ impl Key {
     }
 
     /// Returns whether the call is one at the queue of this slot.
-    pub fn is_at(self, slot: usize) -> bool {
+    pub fn is_at(self, slot: usize) -> bool
+        ensures { IsTrue result ↔ (slot_in self ≡ Some slot) }
+    {
         match self {
             Key::Message { caller, .. } | Key::Room { caller, .. } | Key::Blocks { caller, .. } =>
                 slot_of_id(caller.id) == slot,
@@ -93,7 +103,9 @@ impl Key {
     }
 
     /// Returns the line of the calls that wait for the same.
-    pub(crate) fn line(self) -> usize {
+    pub(crate) fn line(self) -> usize
+        ensures { result ≡ line_of self }
+    {
         match self {
             Key::Message { caller, selector } => {
                 let slot = slot_of_id(caller.id);
@@ -112,37 +124,52 @@ impl Key {
 }
 
 /// Returns the word of the sends that wait for room at a slot.
-pub fn room_word(slot: usize) -> usize {
+pub fn room_word(slot: usize) -> usize
+    ensures { result ≡ bounded_sum SLOTS slot }
+{
     SLOTS.saturating_add(slot)
 }
 
 /// Returns the line of the receives of any type at a slot.
-pub(crate) fn any_line(slot: usize) -> usize {
+pub(crate) fn any_line(slot: usize) -> usize
+    ensures { result ≡ line_any slot }
+{
     slot
 }
 
 /// Returns the line of the receives of types up to a bound at a slot.
-pub(crate) fn up_to_line(slot: usize) -> usize {
+pub(crate) fn up_to_line(slot: usize) -> usize
+    ensures { result ≡ line_up_to slot }
+{
     SLOTS.saturating_add(slot)
 }
 
 /// Returns the line of the receives of all types but one at a slot.
-pub(crate) fn except_line(slot: usize) -> usize {
+pub(crate) fn except_line(slot: usize) -> usize
+    ensures { result ≡ line_except slot }
+{
     (2 * SLOTS).saturating_add(slot)
 }
 
 /// Returns the line of the sends that wait for room at a slot.
-pub(crate) fn room_line(slot: usize) -> usize {
+pub(crate) fn room_line(slot: usize) -> usize
+    ensures { result ≡ line_room slot }
+{
     (3 * SLOTS).saturating_add(slot)
 }
 
 /// Returns the line of the receives of an exact type at a slot.
-pub(crate) fn exact_line(slot: usize, mtype: i64) -> usize {
+pub(crate) fn exact_line(slot: usize, mtype: i64) -> usize
+    ensures { result ≡ line_exact slot mtype }
+{
     (4 * SLOTS).saturating_add(hash(slot, mtype))
 }
 
 /// Returns the hash of a slot and an exact type, below `EXACT_LINES`.
-fn hash(slot: usize, mtype: i64) -> usize {
-    let mixed = (mtype.unsigned_abs() ^ (slot as u64).rotate_left(48)).wrapping_mul(SPREAD);
-    (mixed >> (u64::BITS - HASH_BITS)) as usize
+fn hash(slot: usize, mtype: i64) -> usize
+    ensures { result ≡ hash_of slot mtype }
+{
+    let at_slot = (slot as u64).wrapping_mul(SLOT_SPREAD);
+    let mixed = mtype.unsigned_abs().wrapping_add(at_slot);
+    (mixed.wrapping_mul(SPREAD) >> (u64::BITS - HASH_BITS)) as usize
 }

@@ -11,7 +11,6 @@ mod due;
 mod key;
 mod lines;
 
-pub use barriers::Barriers;
 pub use calls::{Calls, Found, LookedFor, look_at_due, look_for_message};
 pub use due::Why;
 pub use key::{BLOCKS_WORD, Caller, Key, SETTLED_WORD, WORDS, room_word};

@@ -1,0 +1,43 @@
+-- The parked calls of a worker (this project's profile). A call is known by its place.
+use Rattle.std.specs.Prelude.{◌≡◌, ◌≢◌, ◌==◌, ℕ, Bool, true, false, not, List, [], Option, None, Some, cond, slice_index_or}
+use Rattle.std.specs.List.{filter}
+use Rattle.sysv_lists.specs.Numbers.{times}
+use Rattle.sysv_parking.specs.declared.due.Why.{Why}
+use Rattle.sysv_parking.specs.declared.key.Key.{Key}
+use Rattle.sysv_parking.specs.Due.{is_due, not_due}
+use Rattle.sysv_parking.specs.Keys.{line_of}
+
+-- What the call of each place waits for, if it is in a line; the places in each line, in the order
+-- in which they were parked; and why the call of each place is due.
+pub record Parking : Type 0 where
+  pub keys : List (Option Key)
+  pub lines : List (List ℕ)
+  pub why : List Why
+
+abbrev pub key_at : Parking → ℕ → Option Key
+key_at parking place = slice_index_or parking.keys place None
+
+abbrev pub line_at : Parking → ℕ → List ℕ
+line_at parking line = slice_index_or parking.lines line []
+
+abbrev pub why_at : Parking → ℕ → Why
+why_at parking place = slice_index_or parking.why place not_due
+
+-- How often a place is in a line whose call waits for this.
+abbrev pub in_line : Option Key → ℕ → ℕ
+in_line None line = 0
+in_line (Some key) line = cond (line_of key == line) 1 0
+
+-- Each place with a key is in the line of its key once. No other place is in a line.
+abbrev pub AreInLines : Parking → Type 0
+AreInLines parking = (line place : ℕ) → times place (line_at parking line) ≡ in_line (key_at parking place) line
+
+-- The list without this place.
+abbrev pub without : ℕ → List ℕ → List ℕ
+without place places = filter (λ x. not (x == place)) places
+
+-- Nothing changed for any other place.
+pub record MovesOnly (place : ℕ) (old new : Parking) : Type 0 where
+  pub keys : (other : ℕ) → other ≢ place → key_at new other ≡ key_at old other
+  pub lines : (line : ℕ) → without place (line_at new line) ≡ without place (line_at old line)
+  pub why : (other : ℕ) → other ≢ place → why_at new other ≡ why_at old other
