@@ -2,3 +2,4 @@ pub mod Keys
 pub mod Parking
 pub mod Due
 pub mod Barriers
+pub mod Lines

@@ -1,5 +1,5 @@
 -- The parked calls of a worker (this project's profile). A call is known by its place.
-use Rattle.std.specs.Prelude.{◌≡◌, ◌≢◌, ◌==◌, ℕ, Bool, true, false, not, List, [], Option, None, Some, cond, slice_index_or}
+use Rattle.std.specs.Prelude.{◌≡◌, ◌≢◌, ◌==◌, ℕ, Bool, true, false, not, List, [], Option, None, Some, cond, slice_get, slice_index_or}
 use Rattle.std.specs.List.{filter}
 use Rattle.sysv_lists.specs.Numbers.{times}
 use Rattle.sysv_parking.specs.declared.due.Why.{Why}
@@ -22,6 +22,10 @@ line_at parking line = slice_index_or parking.lines line []
 
 abbrev pub why_at : Parking → ℕ → Why
 why_at parking place = slice_index_or parking.why place not_due
+
+-- The element at this index of a list, if there is one.
+abbrev pub item_at : List ℕ → ℕ → Option ℕ
+item_at xs index = slice_get xs index
 
 -- How often a place is in a line whose call waits for this.
 abbrev pub in_line : Option Key → ℕ → ℕ

@@ -1,8 +1,15 @@
 //! The parked calls of a worker, by what they wait for.
+ghost use Rattle.std.specs.Prelude.{◌≡◌, ◌≢◌, ◌↔◌, ◌++◌, ◌∷◌, ◌<◌, ◌≤◌, ℕ, [], None, Some, true, false, IfSome, IsTrue, IsSome, slice_set, vec_len};
+ghost use Rattle.sysv_parking.specs.Due.{both, by_raise, is_due as due, why_changed};
+ghost use Rattle.sysv_parking.specs.Keys.{line_of, line_room};
+ghost use Rattle.sysv_parking.specs.Parking.{AreInLines, MovesOnly, key_at, line_at, why_at};
+ghost use Rattle.sysv_parking.specs.Parking.{item_at};
+
 use crate::due::Why;
 use crate::key::{BLOCKS_LINE, Key, LINES, SETTLED_LINE, WORDS, room_line};
 use std::alloc::Global;
 use std::collections::VecDeque;
+use std::marker::Model;
 
 /// The number of places for which an empty line keeps its memory.
 const MOST_KEPT: usize = 16;
@@ -27,9 +34,25 @@ pub struct Lines {
     due: VecDeque<usize>,
 }
 
+impl Model for Lines {
+    ghost use Rattle.sysv_parking.specs.Parking.{Parking};
+
+    ghost Value = { Parking };
+
+    ghost use Rattle.sysv_parking.specs.Lines.{IsKept, parking_in};
+
+    ghost view = { parking_in };
+
+    ghost invariant = { IsKept };
+}
+
 impl Lines {
+    ghost use Rattle.sysv_parking.specs.Lines.{AreEmpty, Enters, NoneIsDue, NotesAll, NotesChange, NotesLine, OnlyMakesDue, Takes};
+
     /// Allocates empty lines for this number of places. Returns `None` if memory is refused.
-    pub fn open(alloc: Global, places: usize) -> Option<Lines> {
+    pub fn open(alloc: Global, places: usize) -> Option<Lines>
+        ensures { IfSome result AreEmpty }
+    {
         Some(Lines {
             alloc,
             keys: vec![in alloc; None; places].ok()?,
@@ -42,7 +65,10 @@ impl Lines {
     }
 
     /// Returns what the call of a place waits for, if it is in a line.
-    pub fn key(&self, place: usize) -> Option<Key> {
+    pub fn key(&self, place: usize) -> Option<Key>
+        ensures key { result ≡ key_at self.now place }
+        ensures in_lines { AreInLines self.now }
+    {
         *self.keys.get(place)?
     }
 
@@ -52,13 +78,21 @@ impl Lines {
     }
 
     /// Returns the place at this index of a line, if there is one.
-    pub(crate) fn at(&self, line: usize, index: usize) -> Option<usize> {
+    pub(crate) fn at(&self, line: usize, index: usize) -> Option<usize>
+        ensures { result ≡ item_at (line_at self.now line) index }
+    {
         self.lines.get(line)?.get(index).copied()
     }
 
     /// Puts the place at the end of the line of this key. A place that is in a line is left there.
     /// Returns whether it is in a line; else memory was refused, and the place is due.
-    pub fn enter(&mut self, place: usize, key: Key) -> bool {
+    pub fn enter(&mut self, place: usize, key: Key) -> bool
+        ensures moves { MovesOnly place self.old self.new }
+        ensures entered { key_at self.old place ≡ None → result ≡ true
+            → Enters place key self.old self.new }
+        ensures refused { result ≡ false → (self.new.keys ≡ self.old.keys)
+            × (self.new.lines ≡ self.old.lines) }
+    {
         if self.key(place).is_some() {
             return true;
         }
@@ -88,7 +122,11 @@ impl Lines {
     }
 
     /// Takes the place out of its line, if it is in one.
-    pub fn leave(&mut self, place: usize) {
+    pub fn leave(&mut self, place: usize)
+        ensures moves { MovesOnly place self.old self.new }
+        ensures left { key_at self.new place ≡ None }
+        ensures why { self.new.why ≡ self.old.why }
+    {
         let Some(key) = self.key(place) else {
             return;
         };
@@ -116,7 +154,9 @@ impl Lines {
     }
 
     /// Notes that the queue of a slot was set or removed: the calls that are parked there are due.
-    pub fn note_change(&mut self, slot: usize) {
+    pub fn note_change(&mut self, slot: usize)
+        ensures { NotesChange slot self.old self.new }
+    {
         for place in 0..self.keys.len() {
             let Some(key) = self.key(place) else {
                 continue;
@@ -128,22 +168,30 @@ impl Lines {
     }
 
     /// Notes that the freed count of a slot rose: the sends that wait for room there are due.
-    pub fn note_room(&mut self, slot: usize) {
+    pub fn note_room(&mut self, slot: usize)
+        ensures { NotesLine (line_room slot) self.old self.new }
+    {
         self.note_line(room_line(slot));
     }
 
     /// Notes that the released count rose: the sends that wait for blocks are due.
-    pub fn note_blocks(&mut self) {
+    pub fn note_blocks(&mut self)
+        ensures { NotesLine BLOCKS_LINE self.old self.new }
+    {
         self.note_line(BLOCKS_LINE);
     }
 
     /// Notes that the settled count rose: the gets that wait for it are due.
-    pub fn note_settled(&mut self) {
+    pub fn note_settled(&mut self)
+        ensures { NotesLine SETTLED_LINE self.old self.new }
+    {
         self.note_line(SETTLED_LINE);
     }
 
     /// Notes that anything may have happened: all parked calls are due.
-    pub fn note_everything(&mut self) {
+    pub fn note_everything(&mut self)
+        ensures { NotesAll self.old self.new }
+    {
         for place in 0..self.keys.len() {
             if self.key(place).is_some() {
                 self.make_due(place, Why::ALL);
@@ -152,7 +200,9 @@ impl Lines {
     }
 
     /// Notes that the count rose for which the calls of a line wait: they are due.
-    fn note_line(&mut self, line: usize) {
+    fn note_line(&mut self, line: usize)
+        ensures { NotesLine line self.old self.new }
+    {
         for index in 0..self.len_of(line) {
             if let Some(place) = self.at(line, index) {
                 self.make_due(place, Why::RAISED);
@@ -169,12 +219,18 @@ impl Lines {
     }
 
     /// Returns whether a place is due.
-    pub fn has_due(&self) -> bool {
+    pub fn has_due(&self) -> bool
+        ensures { result ≡ false → NoneIsDue self.now }
+    {
         self.due_count > 0
     }
 
     /// Makes a place due for these reasons too.
-    pub fn make_due(&mut self, place: usize, why: Why) {
+    pub fn make_due(&mut self, place: usize, why: Why)
+        ensures same { (self.new.keys ≡ self.old.keys) × (self.new.lines ≡ self.old.lines) }
+        ensures why { self.new.why ≡ slice_set self.old.why place
+            (both (why_at self.old place) why) }
+    {
         let Some(there) = self.why.get_mut(place) else {
             return;
         };
@@ -188,7 +244,9 @@ impl Lines {
 
     /// Takes the first of the places that are due, if there are any. It is not due then. Returns it
     /// with the reasons for which it was.
-    pub fn take_due(&mut self) -> Option<(usize, Why)> {
+    pub fn take_due(&mut self) -> Option<(usize, Why)>
+        ensures { Takes result self.old self.new }
+    {
         if self.due_count == 0 {
             return None;
         }
