@@ -1,1 +1,3 @@
 pub mod Crossing
+pub mod Heeding
+pub mod Walking

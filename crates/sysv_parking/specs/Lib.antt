@@ -3,3 +3,4 @@ pub mod Parking
 pub mod Due
 pub mod Barriers
 pub mod Lines
+pub mod Looks
