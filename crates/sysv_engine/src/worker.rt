@@ -285,8 +285,9 @@ impl<'a, R: Wait, T: NonBlocking, W: Watch<T>> Worker<'a, R, T, W> {
     /// Has the client learn what the watch reports of it.
     #[tactic(auto, using(crate::proofs::PlaceLists::keeps_at))]
     pub(crate) fn note(&mut self, ready: &Ready)
-        ensures { KeepsAll T.incoming T.outgoing T.closes self.old.places.items
+        ensures keeps { KeepsAll T.incoming T.outgoing T.closes self.old.places.items
             self.new.places.items }
+        ensures lines { self.new.lines ≡ self.old.lines }
     {
         if let Some(there) = self.places.get_mut(ready.place) {
             there.note(ready);
@@ -307,8 +308,9 @@ impl<'a, R: Wait, T: NonBlocking, W: Watch<T>> Worker<'a, R, T, W> {
     /// Continues the client's parked call, if it may go on.
     #[tactic(auto, using(crate::proofs::PlaceLists::keeps_at))]
     pub(crate) fn go_on(&mut self, place: usize)
-        ensures { KeepsAll T.incoming T.outgoing T.closes self.old.places.items
+        ensures keeps { KeepsAll T.incoming T.outgoing T.closes self.old.places.items
             self.new.places.items }
+        ensures lines { self.new.lines ≡ self.old.lines }
     {
         if let Some(there) = self.places.get_mut(place) {
             there.go_on(&mut self.tools);
@@ -318,8 +320,9 @@ impl<'a, R: Wait, T: NonBlocking, W: Watch<T>> Worker<'a, R, T, W> {
     /// Gives the client's connection as many bytes of the replies as it takes now.
     #[tactic(auto, using(crate::proofs::PlaceLists::keeps_at))]
     pub(crate) fn drain(&mut self, place: usize)
-        ensures { KeepsAll T.incoming T.outgoing T.closes self.old.places.items
+        ensures keeps { KeepsAll T.incoming T.outgoing T.closes self.old.places.items
             self.new.places.items }
+        ensures lines { self.new.lines ≡ self.old.lines }
     {
         if let Some(there) = self.places.get_mut(place) {
             there.drain();
@@ -329,8 +332,9 @@ impl<'a, R: Wait, T: NonBlocking, W: Watch<T>> Worker<'a, R, T, W> {
     /// Ends the client because of a limit.
     #[tactic(auto, using(crate::proofs::PlaceLists::keeps_at))]
     pub(crate) fn cut(&mut self, place: usize)
-        ensures { KeepsAll T.incoming T.outgoing T.closes self.old.places.items
+        ensures keeps { KeepsAll T.incoming T.outgoing T.closes self.old.places.items
             self.new.places.items }
+        ensures lines { self.new.lines ≡ self.old.lines }
     {
         if let Some(there) = self.places.get_mut(place) {
             there.cut();
@@ -340,8 +344,9 @@ impl<'a, R: Wait, T: NonBlocking, W: Watch<T>> Worker<'a, R, T, W> {
     /// Closes the client, and returns what its session did.
     #[tactic(auto, using(crate::proofs::PlaceLists::keeps_at))]
     pub(crate) fn close(&mut self, place: usize) -> Option<Served>
-        ensures { KeepsAll T.incoming T.outgoing T.closes self.old.places.items
+        ensures keeps { KeepsAll T.incoming T.outgoing T.closes self.old.places.items
             self.new.places.items }
+        ensures lines { self.new.lines ≡ self.old.lines }
     {
         let Some(there) = self.places.get_mut(place) else {
             return None;
@@ -352,8 +357,9 @@ impl<'a, R: Wait, T: NonBlocking, W: Watch<T>> Worker<'a, R, T, W> {
     /// Has the watch report when the client's connection may take bytes, if some wait for it, and
     /// puts the place into the line of those that have more to do, if the client has.
     pub(crate) fn await_more(&mut self, place: usize)
-        ensures { KeepsAll T.incoming T.outgoing T.closes self.old.places.items
+        ensures keeps { KeepsAll T.incoming T.outgoing T.closes self.old.places.items
             self.new.places.items }
+        ensures lines { self.new.lines ≡ self.old.lines }
     {
         self.await_room(place);
         self.await_turn(place);
@@ -362,8 +368,9 @@ impl<'a, R: Wait, T: NonBlocking, W: Watch<T>> Worker<'a, R, T, W> {
     /// Has the watch report when the client's connection may take bytes, if some wait for it.
     #[tactic(auto, using(crate::proofs::PlaceLists::keeps_at))]
     fn await_room(&mut self, place: usize)
-        ensures { KeepsAll T.incoming T.outgoing T.closes self.old.places.items
+        ensures keeps { KeepsAll T.incoming T.outgoing T.closes self.old.places.items
             self.new.places.items }
+        ensures lines { self.new.lines ≡ self.old.lines }
     {
         if let Some(there) = self.places.get_mut(place) {
             there.await_room(&mut self.watch, place);
@@ -373,8 +380,9 @@ impl<'a, R: Wait, T: NonBlocking, W: Watch<T>> Worker<'a, R, T, W> {
     /// Puts the place into the line of those that have more to do, if the client has.
     #[tactic(auto, using(crate::proofs::PlaceLists::keeps_at))]
     fn await_turn(&mut self, place: usize)
-        ensures { KeepsAll T.incoming T.outgoing T.closes self.old.places.items
+        ensures keeps { KeepsAll T.incoming T.outgoing T.closes self.old.places.items
             self.new.places.items }
+        ensures lines { self.new.lines ≡ self.old.lines }
     {
         let Some(there) = self.places.get_mut(place) else {
             return;
@@ -400,8 +408,9 @@ impl<'a, R: Wait, T: NonBlocking, W: Watch<T>> Worker<'a, R, T, W> {
     /// Sets when the client's time is over.
     #[tactic(auto, using(crate::proofs::PlaceLists::keeps_at))]
     pub(crate) fn set_time(&mut self, place: usize, patience: Patience)
-        ensures { KeepsAll T.incoming T.outgoing T.closes self.old.places.items
+        ensures keeps { KeepsAll T.incoming T.outgoing T.closes self.old.places.items
             self.new.places.items }
+        ensures lines { self.new.lines ≡ self.old.lines }
     {
         if patience == Patience::UNBOUNDED {
             return;

@@ -107,7 +107,7 @@ module _ (W : Key → Type 0) where
       (caller : Caller) × (caller.id ≡ id) × W (Room caller (if b then min shortage.least length else length))
   least_at shortage id length true is was now =
       elim (least_of shortage.least length) [
-        inl e ↦ (
+        | inl e ↦ (
           was.0,
           was.1 ∙ (Decides-int_eq shortage.id id).0 is,
           subst (λ (n : ℕ). W (Room was.0 n)) (sym e) was.2,
@@ -131,7 +131,7 @@ module _ (W : Key → Type 0) where
   blocks_shown (Some least) length shown now =
       let was = shown least refl in
       elim (least_of least length) [
-        inl e ↦ (was.0, subst (λ (n : ℕ). W (Blocks was.0 n)) (sym e) was.1)
+        | inl e ↦ (was.0, subst (λ (n : ℕ). W (Blocks was.0 n)) (sym e) was.1)
         | inr e ↦ (now.0, subst (λ (n : ℕ). W (Blocks now.0 n)) (sym e) now.1)
       ]
 
@@ -201,9 +201,9 @@ module _ {L M : ℕ → Option Key → Found → Type 0} (kept : (p : ℕ) (k : 
       IsHeeded M was after other
   others_heeded other same heeded =
       elim heeded [
-        inl still ↦ inl (same ∙ still)
+        | inl still ↦ inl (same ∙ still)
         | inr done ↦ inr (elim done [
-          inl looked ↦ inl (looked_on kept other looked)
+          | inl looked ↦ inl (looked_on kept other looked)
           | inr would ↦ inr (would.0, would.1, would_on kept (why_at was other) would.0 would.2)
         ])
       ]
@@ -235,7 +235,7 @@ module _ {L M : ℕ → Option Key → Found → Type 0} (kept : (p : ℕ) (k : 
     after_why : (q : ℕ) → q ≢ place → why_at after q ≡ why_at taken q
     after_why q ne =
         elim step [
-          inl passed ↦ ap (λ (p : Parking). why_at p q) passed.0
+          | inl passed ↦ ap (λ (p : Parking). why_at p q) passed.0
           | inr look ↦ look.2.why q ne
         ]
 
@@ -243,8 +243,8 @@ module _ {L M : ℕ → Option Key → Found → Type 0} (kept : (p : ℕ) (k : 
     due_heeded : why_at before place ≡ why_at was place → IsHeeded M was after place
     due_heeded still =
         elim step [
-          inl passed ↦ elim (keys place) [
-            inl looked ↦ inr (inl (looked_on kept place looked))
+          | inl passed ↦ elim (keys place) [
+            | inl looked ↦ inr (inl (looked_on kept place looked))
             | inr same ↦ stopped_heeded (key_at taken place) (sym same ∙ sym (same_key place))
                 (sym still ∙ takes.was) (shown_more (waits_on kept) known shown) passed.2
           ]
@@ -254,9 +254,9 @@ module _ {L M : ℕ → Option Key → Found → Type 0} (kept : (p : ℕ) (k : 
     here_heeded : IsHeeded L was before place → IsHeeded M was after place
     here_heeded was_heeded =
         elim was_heeded [
-          inl still ↦ due_heeded still
+          | inl still ↦ due_heeded still
           | inr done ↦ inr (elim done [
-            inl looked ↦ inl (looked_on kept place looked)
+            | inl looked ↦ inl (looked_on kept place looked)
             | inr would ↦ inr (would.0, would.1, would_on kept (why_at was place) would.0 would.2)
           ])
         ]
@@ -264,7 +264,7 @@ module _ {L M : ℕ → Option Key → Found → Type 0} (kept : (p : ℕ) (k : 
     pub all_heeded : (q : ℕ) → is_due (why_at was q) ≡ true → IsHeeded M was after q
     all_heeded q due =
         elim (cases_eq q place) [
-          inl e ↦ subst (λ (p : ℕ). IsHeeded M was after p) (sym e)
+          | inl e ↦ subst (λ (p : ℕ). IsHeeded M was after p) (sym e)
               (here_heeded (subst (λ (p : ℕ). IsHeeded L was before p) e (heeded q due)))
           | inr ne ↦ others_heeded q (after_why q ne ∙ other_why q ne) (heeded q due)
         ]
@@ -272,8 +272,8 @@ module _ {L M : ℕ → Option Key → Found → Type 0} (kept : (p : ℕ) (k : 
     here_keys : WasLookedAt M place ⊎ (key_at after place ≡ key_at was place)
     here_keys =
         elim step [
-          inl passed ↦ elim (keys place) [
-            inl looked ↦ inl (looked_on kept place looked)
+          | inl passed ↦ elim (keys place) [
+            | inl looked ↦ inl (looked_on kept place looked)
             | inr same ↦ inr (ap (λ (p : Parking). key_at p place) passed.0 ∙ same_key place ∙ same)
           ]
           | inr look ↦ inl (key_at taken place, look.0, look.1)
@@ -282,16 +282,16 @@ module _ {L M : ℕ → Option Key → Found → Type 0} (kept : (p : ℕ) (k : 
     other_keys : (q : ℕ) → q ≢ place → key_at after q ≡ key_at taken q
     other_keys q ne =
         elim step [
-          inl passed ↦ ap (λ (p : Parking). key_at p q) passed.0
+          | inl passed ↦ ap (λ (p : Parking). key_at p q) passed.0
           | inr look ↦ look.2.keys q ne
         ]
 
     pub all_keys : (q : ℕ) → WasLookedAt M q ⊎ (key_at after q ≡ key_at was q)
     all_keys q =
         elim (cases_eq q place) [
-          inl e ↦ subst (λ (p : ℕ). WasLookedAt M p ⊎ (key_at after p ≡ key_at was p)) (sym e) here_keys
+          | inl e ↦ subst (λ (p : ℕ). WasLookedAt M p ⊎ (key_at after p ≡ key_at was p)) (sym e) here_keys
           | inr ne ↦ elim (keys q) [
-            inl looked ↦ inl (looked_on kept q looked)
+            | inl looked ↦ inl (looked_on kept q looked)
             | inr same ↦ inr (other_keys q ne ∙ same_key q ∙ same)
           ]
         ]
@@ -299,7 +299,7 @@ module _ {L M : ℕ → Option Key → Found → Type 0} (kept : (p : ℕ) (k : 
     pub still_shown : AreShown (StillWaits M) now
     still_shown =
         elim step [
-          inl passed ↦ subst (λ (b : Barriers). AreShown (StillWaits M) b) (sym passed.1)
+          | inl passed ↦ subst (λ (b : Barriers). AreShown (StillWaits M) b) (sym passed.1)
               (shown_more (waits_on kept) known shown)
           | inr look ↦ subst (λ (b : Barriers). AreShown (StillWaits M) b) (sym look.3)
               (known_shown kept look.0 place (key_at taken place) known look.1 shown)

@@ -40,10 +40,10 @@ pub has_index : (xs : List ℕ) (p : ℕ) → 1 ≤ times p xs → (j : ℕ) × 
 has_index [] p has = absurd (omega arith)
 has_index (x ∷ xs) p has =
     elim (cases_eq x p) [
-      inl e ↦ (0, omega arith, e)
+      | inl e ↦ (0, omega arith, e)
       | inr ne ↦
-        let found = has_index xs p (subst (λ (n : ℕ). 1 ≤ n) (times_other x p xs ne) has) in
-        (suc found.0, (let low = found.1 in omega arith), found.2)
+          let found = has_index xs p (subst (λ (n : ℕ). 1 ≤ n) (times_other x p xs ne) has) in
+          (suc found.0, (let low = found.1 in omega arith), found.2)
     ]
 
 -- A list is the same without a number that is not in it.
@@ -51,12 +51,12 @@ pub without_none : (xs : List ℕ) (p : ℕ) → times p xs ≡ 0 → without p 
 without_none [] p none = refl
 without_none (x ∷ xs) p none =
     elim (cases_eq x p) [
-      inl e ↦ absurd (let has = sym (times_same x p xs e) ∙ none in omega arith)
+      | inl e ↦ absurd (let has = sym (times_same x p xs e) ∙ none in omega arith)
       | inr ne ↦
-        let d = differs x p ne in
-        let rest = sym (times_other x p xs ne) ∙ none in
-        ap (λ (b : Bool). cond (not b) (x ∷ without p xs) (without p xs)) d
-            ∙ ap (λ (ys : List ℕ). x ∷ ys) (without_none xs p rest)
+          let d = differs x p ne in
+          let rest = sym (times_other x p xs ne) ∙ none in
+          ap (λ (b : Bool). cond (not b) (x ∷ without p xs) (without p xs)) d
+          ∙ ap (λ (ys : List ℕ). x ∷ ys) (without_none xs p rest)
     ]
 
 -- What comes before the first place is where it was.
@@ -67,7 +67,7 @@ without_before (x ∷ xs) p zero other =
     ap (λ (b : Bool). get_or (cond (not b) (x ∷ without p xs) (without p xs)) 0 0) (differs x p (other 0 (omega arith)))
 without_before (x ∷ xs) p (suc j) other =
     ap (λ (b : Bool). get_or (cond (not b) (x ∷ without p xs) (without p xs)) (suc j) 0) (differs x p (other 0 (omega arith)))
-        ∙ without_before xs p j (λ i le. other (suc i) (omega arith))
+    ∙ without_before xs p j (λ i le. other (suc i) (omega arith))
 
 past_end : (xs : List ℕ) (i : ℕ) → slice_get xs i ≡ None → length xs ≤ i
 past_end xs i none =
@@ -101,11 +101,11 @@ module _ (now : Parking) (line slot : ℕ) (mtype : ℤ) (index place : ℕ)
       ArePassed now line slot mtype bound
   passed_more bound le not_naming j low key is names =
       elim (cases_eq j index) [
-        inl e ↦
-          let same : get_or (line_at now line) j 0 ≡ place =
-          ap (λ (i : ℕ). get_or (line_at now line) i 0) e ∙ at_index in
-          let key_is : key_at now place ≡ Some key = sym (ap (λ (p : ℕ). key_at now p) same) ∙ is in
-          not_naming (subst (λ (k : Option Key). IsNaming slot mtype k) (sym key_is) names)
+        | inl e ↦
+            let same : get_or (line_at now line) j 0 ≡ place =
+            ap (λ (i : ℕ). get_or (line_at now line) i 0) e ∙ at_index in
+            let key_is : key_at now place ≡ Some key = sym (ap (λ (p : ℕ). key_at now p) same) ∙ is in
+            not_naming (subst (λ (k : Option Key). IsNaming slot mtype k) (sym key_is) names)
         | inr ne ↦ passed j (omega arith) key is names
       ]
 
@@ -140,7 +140,7 @@ module _ (now : Parking) (line slot : ℕ) (mtype : ℤ) (index place : ℕ)
     pub ends_after : (was : Parking) → OnlyEnds was now → OnlyEnds was after
     ends_after was ends q key is =
         elim (cases_eq q place) [
-          inl e ↦ absurd (let none = sym over ∙ sym (ap (λ (p : ℕ). key_at after p) e) ∙ is in cc)
+          | inl e ↦ absurd (let none = sym over ∙ sym (ap (λ (p : ℕ). key_at after p) e) ∙ is in cc)
           | inr ne ↦ ends q key (sym (moves.keys q ne) ∙ is)
         ]
 
@@ -177,11 +177,11 @@ unwanted_in_all slot mtype first second third last one two ends-two three ends-t
     let in-two = ends-three place key in-three in
     let in-one = ends-two place key in-two in
     elim (in_one_of slot mtype key names) [
-      inl e ↦ one place key in-one e names
+      | inl e ↦ one place key in-one e names
       | inr rest ↦ elim rest [
-        inl e ↦ two place key in-two e names
+        | inl e ↦ two place key in-two e names
         | inr more ↦ elim more [
-          inl e ↦ three place key in-three e names
+          | inl e ↦ three place key in-three e names
           | inr e ↦ four place key is e names
         ]
       ]

@@ -51,6 +51,12 @@ line_room slot = bounded_sum (3 * SLOTS) slot
 abbrev pub line_exact : ℕ → ℤ → ℕ
 line_exact slot mtype = bounded_sum (4 * SLOTS) (hash_of slot mtype)
 
+abbrev pub line_blocks : ℕ
+line_blocks = BLOCKS_LINE
+
+abbrev pub line_settled : ℕ
+line_settled = SETTLED_LINE
+
 -- The line of a receive with this selector at a slot.
 abbrev pub line_for : ℕ → Selector → ℕ
 line_for slot Any = line_any slot
@@ -62,8 +68,8 @@ line_for slot (Exactly mtype) = line_exact slot mtype
 abbrev pub line_of : Key → ℕ
 line_of (Message caller selector) = line_for (slot_of_id caller.id) selector
 line_of (Room caller length) = line_room (slot_of_id caller.id)
-line_of (Blocks caller length) = BLOCKS_LINE
-line_of Settled = SETTLED_LINE
+line_of (Blocks caller length) = line_blocks
+line_of Settled = line_settled
 
 -- The word of the calls that wait for the same count.
 abbrev pub word_of : Key → ℕ

@@ -1,6 +1,8 @@
 -- The parked calls of a worker (this project's profile). A call is known by its place.
 use Rattle.std.specs.Prelude.{◌≡◌, ◌≢◌, ◌==◌, ℕ, Bool, true, false, not, List, [], Option, None, Some, cond, slice_get, slice_index_or}
 use Rattle.std.specs.List.{filter}
+use Rattle.std.specs.Prelude.{refl}
+use Rattle.std.proofs.Common.{◌∙◌}
 use Rattle.sysv_lists.specs.Numbers.{times}
 use Rattle.sysv_parking.specs.declared.due.Why.{Why}
 use Rattle.sysv_parking.specs.declared.key.Key.{Key}
@@ -45,3 +47,14 @@ pub record MovesOnly (place : ℕ) (old new : Parking) : Type 0 where
   pub keys : (other : ℕ) → other ≢ place → key_at new other ≡ key_at old other
   pub lines : (line : ℕ) → without place (line_at new line) ≡ without place (line_at old line)
   pub why : (other : ℕ) → other ≢ place → why_at new other ≡ why_at old other
+
+pub moves_none : (place : ℕ) (parking : Parking) → MovesOnly place parking parking
+moves_none place parking = record { keys = λ other ne. refl; lines = λ line. refl; why = λ other ne. refl }
+
+pub moves_on : (place : ℕ) (first second third : Parking) → MovesOnly place first second →
+    MovesOnly place second third → MovesOnly place first third
+moves_on place first second third one two = record {
+  keys = λ other ne. two.keys other ne ∙ one.keys other ne;
+  lines = λ line. two.lines line ∙ one.lines line;
+  why = λ other ne. two.why other ne ∙ one.why other ne;
+}

@@ -15,9 +15,9 @@ returns-in_default-clause-unwanted g c =
     λ unwanted. subst (λ (t : ℤ). IsUnwantedIn line_of c.args.line now c.args.slot t)
     (to_z-of_z w64 c.args.mtype c.ranges.mtype)
     (none_left now c.args.line c.args.slot m c.loop.index
-        (subst (λ (p : Parking). AreInLines p) c.lines.ensures c.at.ensures.in_lines)
-        (sym (ap (λ (p : Parking). item_at (line_at p c.args.line) c.loop.index) c.lines.ensures)
-            ∙ sym c.at.ensures.item ∙ c.in_default.is) c.loop.invariant.passed)
+    (subst (λ (p : Parking). AreInLines p) c.lines.ensures c.at.ensures.in_lines)
+    (sym (ap (λ (p : Parking). item_at (line_at p c.args.line) c.loop.index) c.lines.ensures)
+    ∙ sym c.at.ensures.item ∙ c.in_default.is) c.loop.invariant.passed)
 
 pub loop-preserved-then-not-names : goal.loop-preserved-then-not-names
 loop-preserved-then-not-names g c =
@@ -25,7 +25,7 @@ loop-preserved-then-not-names g c =
     let m = to_z w64 (of_z w64 c.args.mtype) in
     let there : item_at (line_at now c.args.line) c.loop.index ≡ Some c.in-Some.place =
     sym (ap (λ (p : Parking). item_at (line_at p c.args.line) c.loop.index) c.lines.ensures)
-        ∙ sym c.at.ensures.item ∙ c.in-Some.is in
+    ∙ sym c.at.ensures.item ∙ c.in-Some.is in
     let key : c.key.result ≡ key_at now c.in-Some.place =
     c.key.ensures.key ∙ ap (λ (p : Parking). key_at p c.in-Some.place) c.lines-in-loop.ensures in
     let step = c.saturating_add-index.ensures in
@@ -35,7 +35,7 @@ loop-preserved-then-not-names g c =
       passed = passed_more now c.args.line c.args.slot m c.loop.index c.in-Some.place there c.loop.invariant.passed
           c.saturating_add-index.result (omega arith)
           (λ naming. absurd (let yes = c.names.ensures.1 (subst (λ (k : Option Key). IsNaming c.args.slot m k) (sym key) naming) in
-              let no = c.if-not-names.true in cc));
+          let no = c.if-not-names.true in cc));
     }
 
 pub loop-preserved : goal.loop-preserved
@@ -45,7 +45,7 @@ loop-preserved g c =
     let m = to_z w64 (of_z w64 c.args.mtype) in
     let there : item_at (line_at now c.args.line) c.loop.index ≡ Some c.in-Some.place =
     sym (ap (λ (p : Parking). item_at (line_at p c.args.line) c.loop.index) c.lines.ensures)
-        ∙ sym c.at.ensures.item ∙ c.in-Some.is in
+    ∙ sym c.at.ensures.item ∙ c.in-Some.is in
     let key : c.key.result ≡ key_at now c.in-Some.place =
     c.key.ensures.key ∙ ap (λ (p : Parking). key_at p c.in-Some.place) c.lines-in-loop.ensures in
     let yes : c.names.result ≡ true = c.if-not-names.false in

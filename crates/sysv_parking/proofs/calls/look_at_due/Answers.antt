@@ -19,8 +19,8 @@ loop-preserved g c =
     let heeded = c.loop.invariant.heeded in
     let shown = c.loop.invariant.shown in
     let kept : (p : ℕ) (k : Option Key) (f : Found) → g.C.Calls.looked c.loop.calls p k f →
-        g.C.Calls.looked c.look_unless.new.calls p k f =
-        λ p k f l. c.look_unless.ensures.looked p k f (c.take_due.ensures.looked p k f l) in
+    g.C.Calls.looked c.look_unless.new.calls p k f =
+    λ p k f l. c.look_unless.ensures.looked p k f (c.take_due.ensures.looked p k f l) in
     record {
       keeps = g.met.C.Calls.keeps_on _ _ _ c.loop.invariant.keeps
           (g.met.C.Calls.keeps_on _ _ _ c.take_due.ensures.keeps c.look_unless.ensures.keeps);

@@ -42,14 +42,14 @@ returns-clause-unwanted g c =
     let four = g.C.Calls.parking c.look_along-4.new.calls in
     λ is. subst (λ (t : ℤ). IsUnwanted four c.args.slot t) (to_z-of_z w64 c.args.mtype c.ranges.mtype)
     (unwanted_in_all c.args.slot m one two three four
-        (subst (λ (n : ℕ). IsUnwantedIn line_of n one c.args.slot m) c.exact_line.ensures
-            (c.look_along.ensures.unwanted c.in-Unwanted.is))
-        (subst (λ (n : ℕ). IsUnwantedIn line_of n two c.args.slot m) c.any_line.ensures
-            (c.look_along-2.ensures.unwanted c.in-Unwanted-look_along.is))
-        (c.look_along-2.ensures.ends c.in-Unwanted-look_along.is)
-        (subst (λ (n : ℕ). IsUnwantedIn line_of n three c.args.slot m) c.up_to_line.ensures
-            (c.look_along-3.ensures.unwanted c.in-Unwanted-look_along-2.is))
-        (c.look_along-3.ensures.ends c.in-Unwanted-look_along-2.is)
-        (subst (λ (n : ℕ). IsUnwantedIn line_of n four c.args.slot m) c.except_line.ensures
-            (c.look_along-4.ensures.unwanted is))
-        (c.look_along-4.ensures.ends is))
+    (subst (λ (n : ℕ). IsUnwantedIn line_of n one c.args.slot m) c.exact_line.ensures
+    (c.look_along.ensures.unwanted c.in-Unwanted.is))
+    (subst (λ (n : ℕ). IsUnwantedIn line_of n two c.args.slot m) c.any_line.ensures
+    (c.look_along-2.ensures.unwanted c.in-Unwanted-look_along.is))
+    (c.look_along-2.ensures.ends c.in-Unwanted-look_along.is)
+    (subst (λ (n : ℕ). IsUnwantedIn line_of n three c.args.slot m) c.up_to_line.ensures
+    (c.look_along-3.ensures.unwanted c.in-Unwanted-look_along-2.is))
+    (c.look_along-3.ensures.ends c.in-Unwanted-look_along-2.is)
+    (subst (λ (n : ℕ). IsUnwantedIn line_of n four c.args.slot m) c.except_line.ensures
+    (c.look_along-4.ensures.unwanted is))
+    (c.look_along-4.ensures.ends is))
