@@ -145,7 +145,7 @@ class Client:
         self.who = who
         self.rnd = rnd
         self.pending = collections.deque()
-        self.input = b""
+        self.input = self.output = b""
         self.is_found = False
         self.must_get = 0
         self.open(path)
@@ -155,13 +155,23 @@ class Client:
         self.peer.connect(path)
         self.file = self.peer.fileno()
         self.pending.clear()
-        self.input = b""
+        self.input = self.output = b""
         self.is_found = False
         self.write([(Call(HELLO, 0), OF_HELLO.pack(14, VERSION, HELLO, *self.who, 1))])
 
     def write(self, requests):
         self.pending.extend(call for call, _ in requests)
-        self.peer.sendall(b"".join(data for _, data in requests))
+        self.output += b"".join(data for _, data in requests)
+        self.flush()
+
+    def flush(self):
+        """Sends what the connection takes now. Returns whether it has taken any."""
+        try:
+            count = self.peer.send(self.output, socket.MSG_DONTWAIT) if self.output else 0
+        except BlockingIOError:
+            return False
+        self.output = self.output[count:]
+        return count > 0
 
     def replies(self):
         """The replies that have arrived, each with its call: the call, the number of the error, and the fields."""
@@ -331,6 +341,13 @@ class Random:
     def rm(self, queue):
         return Call(RM, queue), OF_ID.pack(6, VERSION, RM, queue)
 
+    def hasty(self, rnd):
+        """A request that does not wait."""
+        kind = rnd.random()
+        if kind < 0.4:
+            return self.snd(rnd, NOWAIT)
+        return self.rcv(rnd, NOWAIT) if kind < 0.8 else self.any_set(rnd)
+
     def one(self, rnd):
         """A request of a client."""
         kind = rnd.random()
@@ -348,16 +365,16 @@ class Random:
 
 
 class Found(NamedTuple):
-    """A call that waited in vain: how that was found, and what the call is."""
+    """A call that waited in vain, and how that was found."""
+    call: Call
     how: str
-    what: str
 
     def __str__(self):
-        return "%s (found by a %s)" % (self.what, self.how)
+        return "%s: %s" % (self.call, self.how)
 
 
 class Result(NamedTuple):
-    """How many calls were made, how often nothing moved, how many calls waited then in all, which of them waited in vain,
+    """How many random calls were made, how often nothing moved, how many calls waited then in all, which of them waited in vain,
     and what else is wrong."""
     calls: int
     rests: int
@@ -421,22 +438,22 @@ class Harness:
         for call in client.pending:
             self.model.sent.pop(call.number, None)
 
-    def write(self, client, requests):
-        self.calls += len(requests)
-        client.write(requests)
-
     def batch(self, client):
         """Has a client that waits for nothing make some requests, if this burst has some left."""
         if self.left <= 0:
             return
-        requests = []
+        rnd, requests = client.rnd, []
         if client.must_get:
-            requests.append(self.random.get(client.must_get, CREAT | client.rnd.choice(MODES)))
+            requests.append(self.random.get(client.must_get, CREAT | rnd.choice(MODES)))
             client.must_get = 0
-        for _ in range(1 if client.rnd.random() < 0.6 else int(client.rnd.random() * 5) + 1):
-            requests.append(self.random.one(client.rnd))
+        kind = rnd.random()
+        if kind < 0.01:
+            requests += [self.random.hasty(rnd) for _ in range(rnd.randrange(1, 100))]
+        for _ in range(1 if kind < 0.6 else int(rnd.random() * 5) + 1):
+            requests.append(self.random.one(rnd))
         self.left -= len(requests)
-        self.write(client, requests)
+        self.calls += len(requests)
+        client.write(requests)
 
     def take(self, client, call, error, fields):
         """Takes note of a reply."""
@@ -473,13 +490,17 @@ class Harness:
             self.batch(client)
         return bool(ready)
 
+    def flush(self):
+        """Sends what was not sent yet. Returns whether any was sent."""
+        return any([client.flush() for client in [self.root, *self.clients] if client.output])
+
     def settle(self):
         """Reads on until nothing moves."""
         while True:
-            while self.read():
+            while self.read() | self.flush():
                 pass
             if self.threads.all_sleep():
-                if not self.read():
+                if not self.read() and not self.flush():
                     return
             else:
                 self.read(0.001)
@@ -487,7 +508,7 @@ class Harness:
     def ask(self, requests):
         """The replies to requests of user 0, once nothing moves."""
         self.told.clear()
-        self.write(self.root, requests)
+        self.root.write(requests)
         self.settle()
         if len(self.told) != len(requests):
             raise Wrong("a request of user 0 waits: %s" % (self.root.pending[0],))
@@ -498,14 +519,14 @@ class Harness:
         self.ended.clear()
         told = self.ask(requests)
         if not any(is_found for is_found, _ in self.ended):
-            self.found += [Found(how, str(call)) for _, call in self.ended]
+            self.found += [Found(call, how) for _, call in self.ended]
         return told
 
     def look(self):
         """Asks for the attributes of the queues that live."""
-        told = self.ask_idly("look", [self.random.get(key, 0) for key in KEYS])
+        told = self.ask_idly("it ends by a look", [self.random.get(key, 0) for key in KEYS])
         ids = [int.from_bytes(fields, "big") for _, error, fields in told if not error]
-        told = self.ask_idly("look", [self.random.stat(queue) for queue in ids]) if ids else []
+        told = self.ask_idly("it ends by a look", [self.random.stat(queue) for queue in ids]) if ids else []
         live = {}
         for call, error, fields in told:
             if error:
@@ -525,7 +546,7 @@ class Harness:
             why = "" if client.is_found else self.model.why(client.pending[0], client.who, self.live)
             if why:
                 client.is_found = True
-                self.found.append(Found("model", "%s: %s" % (client.pending[0], why)))
+                self.found.append(Found(client.pending[0], why))
 
     def nudge(self):
         """Sets each queue to another mode that means the same, and back."""
@@ -535,7 +556,7 @@ class Harness:
                 requests.append(self.random.set(queue, of.uid, of.gid, mode, of.qbytes))
         if not requests:
             return
-        if any(error for _, error, _ in self.ask_idly("nudge", requests)):
+        if any(error for _, error, _ in self.ask_idly("it ends by a nudge", requests)):
             raise Wrong("a set of user 0 fails")
 
     def burst(self, calls):
@@ -556,21 +577,18 @@ class Harness:
             self.reopen(client)
 
     def step(self):
-        """Has user 0 make one request that may end waits."""
+        """Has user 0 make one request that may end waits, or many in one write."""
         kind = self.rnd.random()
         if kind < 0.15:
             self.leave()
-        if kind < 0.4:
-            request = self.random.snd(self.rnd, NOWAIT)
-        elif kind < 0.7:
-            request = self.random.rcv(self.rnd, NOWAIT)
-        elif kind < 0.85:
-            request = self.random.any_set(self.rnd)
+        if kind < 0.85:
+            requests = [self.random.hasty(self.rnd) for _ in range(self.rnd.choice((200, 1000)) if kind < 0.02 else 1)]
         elif kind < 0.93:
-            request = self.random.rm(self.random.queue(self.rnd))
+            requests = [self.random.rm(self.random.queue(self.rnd))]
         else:
-            request = self.random.any_get(self.rnd)
-        self.ask([request])
+            requests = [self.random.any_get(self.rnd)]
+        self.calls += len(requests)
+        self.ask(requests)
         self.check()
 
     def make_all(self):
