@@ -336,7 +336,8 @@ class Random:
         return Call(SET, queue), OF_SET.pack(22, VERSION, SET, queue, uid, gid, mode, qbytes)
 
     def any_set(self, rnd):
-        return self.set(self.queue(rnd), rnd.choice((1000, 2000)), rnd.choice((1000, 2000)), rnd.choice(MODES), rnd.choice(self.rooms))
+        owner, group = rnd.choice((1000, 2000)), rnd.choice((1000, 2000))
+        return self.set(self.queue(rnd), owner, group, rnd.choice(MODES), rnd.choice(self.rooms))
 
     def rm(self, queue):
         return Call(RM, queue), OF_ID.pack(6, VERSION, RM, queue)
