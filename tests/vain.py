@@ -35,6 +35,8 @@ PAD = bytes(range(251)) * 33
 TYPES = 1, 1, 1, 2, 2, 3, 4, 5, 1 << 40
 MODES = (0o666,) * 10 + (0o660, 0o606, 0o640, 0o620, 0o664, 0o662, 0o600, 0o066, 0o444, 0o222)
 ROOMS = (16384,) * 4 + (65536,) * 4 + (0, 1, 64, 500, 4096, 8192)
+# In this share of the runs all bodies are short.
+TINY = 0.2
 # A pool of this number of blocks or a larger one takes longer bodies and more room to be used up.
 LARGE_POOL = 1024
 LARGE_ROOMS = (16384,) * 2 + (65536,) * 12 + (0, 500, 8192)
@@ -276,9 +278,11 @@ class Model:
 class Random:
     """Random requests."""
 
-    def __init__(self, model, ids):
+    def __init__(self, model, ids, is_tiny):
         self.model = model
         self.ids = ids
+        # Whether bodies are so short that queues are full because of the number of their messages.
+        self.is_tiny = is_tiny
         self.is_large = model.blocks >= LARGE_POOL
         self.rooms = LARGE_ROOMS if self.is_large else ROOMS
 
@@ -294,6 +298,8 @@ class Random:
 
     def length(self, rnd):
         """The length of a body."""
+        if self.is_tiny:
+            return int(rnd.random() * 40)
         kind = rnd.random() ** (0.4 if self.is_large else 1)
         if kind < 0.3:
             return int(rnd.random() * 100)
@@ -303,11 +309,12 @@ class Random:
             return int(rnd.random() * 8192)
         return 8192 if kind < 0.95 else 64
 
-    def snd(self, rnd, flags=0):
+    def snd(self, rnd, flags=0, queue=None):
         length = self.length(rnd)
         mtype = TYPES[int(rnd.random() * len(TYPES))]
         self.model.numbers += 1
-        call = Call(SND, self.queue(rnd), mtype, flags, length, self.model.numbers)
+        queue = self.queue(rnd) if queue is None else queue
+        call = Call(SND, queue, mtype, flags, length, self.model.numbers)
         body = PAD[:length]
         if length >= NUMBER:
             body = call.number.to_bytes(NUMBER, "big") + PAD[:length - NUMBER]
@@ -375,8 +382,8 @@ class Found(NamedTuple):
 
 
 class Result(NamedTuple):
-    """How many random calls were made, how often nothing moved, how many calls waited then in all, which of them waited in vain,
-    and what else is wrong."""
+    """How many random calls were made, how often nothing moved, how many calls waited then in all, which of them waited in
+    vain, and what else is wrong."""
     calls: int
     rests: int
     waits: int
@@ -402,7 +409,7 @@ class Harness:
         self.poll = select.epoll()
         self.model = Model(blocks)
         self.ids = dict.fromkeys(KEYS, 0)
-        self.random = Random(self.model, self.ids)
+        self.random = Random(self.model, self.ids, self.rnd.random() < TINY)
         self.files = {}
         # The user 0 of the looks is at another worker in each run.
         place = self.rnd.randrange(clients + 1)
@@ -611,7 +618,10 @@ class Harness:
             if kind < 0.5:
                 self.ask([self.random.all_rcv(queue)] * self.rnd.randrange(1, 30))
             elif kind < 0.8:
-                self.ask([self.random.snd(self.rnd, NOWAIT) for _ in range(20)])
+                if self.random.is_tiny:
+                    self.ask([self.random.snd(self.rnd, NOWAIT, queue) for _ in range(MOST_MESSAGES)])
+                else:
+                    self.ask([self.random.snd(self.rnd, NOWAIT) for _ in range(20)])
             else:
                 self.ask([self.random.rm(queue)])
             self.check()
