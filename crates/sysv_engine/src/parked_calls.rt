@@ -15,7 +15,7 @@ const EXACT_LINES: usize = 1 << HASH_BITS;
 const SPREAD: u64 = 0x9E37_79B9_7F4A_7C15;
 
 /// The number of words that say which workers have parked calls.
-const WORDS: usize = 2 * SLOTS + 1;
+const WORDS: usize = 2 * SLOTS + 2;
 
 /// What a parked call waits for.
 #[derive(Clone, Copy, PartialEq, Eq)]
@@ -26,6 +26,8 @@ pub(crate) enum Key {
     Room { slot: usize, length: usize },
     /// Blocks for a frame of this length.
     Blocks { length: usize },
+    /// The queue of a key, which another call makes or removes.
+    Settled,
 }
 
 impl Key {
@@ -38,6 +40,7 @@ impl Key {
             },
             Awaited::Freed { slot } => Key::Room { slot, length },
             Awaited::Released => Key::Blocks { length },
+            Awaited::Settled => Key::Settled,
         }
     }
 
@@ -45,7 +48,7 @@ impl Key {
     pub(crate) fn is_at(self, at: usize) -> bool {
         match self {
             Key::Message { slot, .. } | Key::Room { slot, .. } => slot == at,
-            Key::Blocks { .. } => false,
+            Key::Blocks { .. } | Key::Settled => false,
         }
     }
 
@@ -55,6 +58,7 @@ impl Key {
             Key::Message { slot, .. } => slot,
             Key::Room { slot, .. } => SLOTS.saturating_add(slot),
             Key::Blocks { .. } => 2 * SLOTS,
+            Key::Settled => 2 * SLOTS + 1,
         }
     }
 }
@@ -95,6 +99,8 @@ pub(crate) struct Lines {
     exact: Vec<Line>,
     /// The line of the sends that wait for blocks.
     blocks: Line,
+    /// The line of the gets.
+    settled: Line,
     /// The places, each with its link if it is in a line.
     links: Vec<Option<Link>>,
     /// The number of places in the lines of each word.
@@ -126,6 +132,7 @@ impl Lines {
             slots: vec![in alloc; SlotLines::EMPTY; SLOTS].ok()?,
             exact: vec![in alloc; Line::EMPTY; EXACT_LINES].ok()?,
             blocks: Line::EMPTY,
+            settled: Line::EMPTY,
             links: vec![in alloc; None; places].ok()?,
             counts: vec![in alloc; 0; WORDS].ok()?,
         })
@@ -206,6 +213,11 @@ impl Lines {
         self.blocks.first
     }
 
+    /// Returns the first place of the gets.
+    pub(crate) fn getters(&self) -> Option<usize> {
+        self.settled.first
+    }
+
     /// Returns the link of a place, if it is in a line.
     fn link(&self, place: usize) -> Option<Link> {
         *self.links.get(place)?
@@ -222,6 +234,7 @@ impl Lines {
             },
             Key::Room { slot, .. } => Some(&mut self.slots.get_mut(slot)?.room),
             Key::Blocks { .. } => Some(&mut self.blocks),
+            Key::Settled => Some(&mut self.settled),
         }
     }
 

@@ -5,7 +5,7 @@ ghost use Rattle.sysv_engine.specs.Places.{IsVacantAt, KeepsAll};
 use crate::counts::Moved;
 use crate::moment::Moment;
 use crate::parked_calls::Key;
-use crate::server_state::{BLOCKS_WORD, Envelope, ServerState, bit, room_word};
+use crate::server_state::{BLOCKS_WORD, Envelope, SETTLED_WORD, ServerState, bit, room_word};
 use crate::spinning::look;
 use crate::watch::{Ready, Watch};
 use crate::worker::{Worker, sooner};
@@ -433,6 +433,7 @@ impl<'a, 'c, R: Wait> Serving<'a, 'c, R> {
             Notification::Arrived { slot, .. } => self.server.word(slot),
             Notification::Freed { slot, .. } => self.server.word(room_word(slot)),
             Notification::Released => self.server.word(BLOCKS_WORD),
+            Notification::Settled => self.server.word(SETTLED_WORD),
             Notification::Changed { slot } => self.server.word(slot)
                 | self.server.word(room_word(slot)),
         }
@@ -501,6 +502,11 @@ impl<'a, 'c, R: Wait> Serving<'a, 'c, R> {
                 let first = worker.lines.reservers();
                 self.look_for_room(worker, first, &mut envelope.least);
                 self.unmark(worker, BLOCKS_WORD);
+                false
+            }
+            Notification::Settled => {
+                self.look_for_queues(worker);
+                self.unmark(worker, SETTLED_WORD);
                 false
             }
             Notification::Changed { slot } => {
@@ -592,6 +598,21 @@ impl<'a, 'c, R: Wait> Serving<'a, 'c, R> {
                     *least = length;
                 }
             }
+        }
+    }
+
+    /// Looks at all parked gets. Each may find the queue of its key settled, or wait again.
+    fn look_for_queues<T: NonBlocking, W: Watch<T>>(&self, worker: &mut Worker<'_, R, T, W>)
+        ensures { KeepsAll T.incoming T.outgoing T.closes worker.old.places.items
+            worker.new.places.items }
+    {
+        let mut at = worker.lines.getters();
+        for _ in self.rt.forever() {
+            let Some(place) = at else {
+                return;
+            };
+            at = worker.lines.after(place);
+            self.wake(worker, place, 0);
         }
     }
 

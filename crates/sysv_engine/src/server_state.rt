@@ -20,8 +20,11 @@ use sysv_seats::Notification;
 /// slot, and then those of the sends at each slot.
 pub(crate) const BLOCKS_WORD: usize = 2 * SLOTS;
 
+/// The word of the gets.
+pub(crate) const SETTLED_WORD: usize = BLOCKS_WORD + 1;
+
 /// The number of words that say which workers have parked calls.
-pub(crate) const WORDS: usize = BLOCKS_WORD + 1;
+pub(crate) const WORDS: usize = SETTLED_WORD + 1;
 
 /// The number of bits in a word, and so of workers that a word can name.
 const BITS: usize = 64;

@@ -179,7 +179,7 @@ impl<'a, R: Wait, T: NonBlocking, W: Watch<T>> Worker<'a, R, T, W> {
                 self.messages = self.messages.wrapping_add(1);
                 turn(self.messages, SHARE_OF_MESSAGES)
             }
-            Notification::Changed { .. } => None,
+            Notification::Changed { .. } | Notification::Settled => None,
         }
     }
 

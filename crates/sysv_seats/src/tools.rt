@@ -14,9 +14,12 @@ pub const FILL_BYTES: usize = 65_536;
 /// The maximum number of requests of a client that are taken up at one event.
 pub const SHARE: u32 = 64;
 
-/// The number of things that one event may tell: two for each request of a share, and for a call
+/// The maximum number of things that one call may tell.
+const MOST_TOLD: usize = 3;
+
+/// The number of things that one event may tell: those of each request of a share, and of a call
 /// that waited before.
-const MOST_NOTIFICATIONS: usize = 2 * (SHARE as usize + 2);
+const MOST_NOTIFICATIONS: usize = MOST_TOLD * (SHARE as usize + 2);
 
 /// The buffers that the clients of one worker use one after another, and what their calls may have
 /// changed for calls that wait.
@@ -81,6 +84,9 @@ impl Tools {
         }
         if told.released {
             self.keep(Notification::Released);
+        }
+        if told.settled {
+            self.keep(Notification::Settled);
         }
     }
 
