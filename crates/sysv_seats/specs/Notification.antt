@@ -107,8 +107,8 @@ notifications_in tools = tools.notifications.items
 
 -- What one call changed, as notifications.
 abbrev pub notifications_of : Told → List Notification
-notifications_of told = option_to_list told.there ++ (if told.released then notifications.Released ∷ [] else [])
-    ++ (if told.settled then notifications.Settled ∷ [] else [])
+notifications_of told = option_to_list told.there ++ ((if told.released then notifications.Released ∷ [] else [])
+    ++ (if told.settled then notifications.Settled ∷ [] else []))
 
 -- These come after the notifications that there were, if there is room for them. Nothing else changes.
 abbrev pub Keeps : List Notification → Tools → Tools → Type 0

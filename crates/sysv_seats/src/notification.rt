@@ -1,6 +1,6 @@
 //! What a call may have changed for calls that wait.
 ghost use Rattle.std.specs.Prelude.{◌≡◌};
-ghost use Rattle.sysv_seats.specs.Notification.{changed_by, freed_by, is_done as does, may_make as makes, told_at, told_by};
+ghost use Rattle.sysv_seats.specs.Notification.{changed_by, freed_by, is_done as does, may_make as makes, may_release, may_settle, told_at, told_by};
 
 use crate::waiting::Waiting;
 use bitflags::Flags as _;
@@ -72,16 +72,8 @@ impl Told {
     {
         Told {
             there: there(request, outcome),
-            released: match request.ask {
-                Ask::Snd { .. } => !is_done(outcome),
-                Ask::Rcv { .. } | Ask::Set { .. } | Ask::Rm { .. } => is_done(outcome),
-                _ => false,
-            },
-            settled: match request.ask {
-                Ask::Get { key, flags } => may_make(key, flags),
-                Ask::Rm { .. } => is_done(outcome),
-                _ => false,
-            },
+            released: releases(request, outcome),
+            settled: settles(request, outcome),
         }
     }
 }
@@ -103,6 +95,28 @@ fn there(request: &Request, outcome: &RequestOutcome) -> Option<Notification>
             slot: slot_of_id(id),
         }),
         _ => None,
+    }
+}
+
+/// Returns whether the call may have raised the released count.
+fn releases(request: &Request, outcome: &RequestOutcome) -> bool
+    ensures { result ≡ may_release request.now.ask outcome.now }
+{
+    match request.ask {
+        Ask::Snd { .. } => !is_done(outcome),
+        Ask::Rcv { .. } | Ask::Set { .. } | Ask::Rm { .. } => is_done(outcome),
+        _ => false,
+    }
+}
+
+/// Returns whether the call may have raised the settled count.
+fn settles(request: &Request, outcome: &RequestOutcome) -> bool
+    ensures { result ≡ may_settle request.now.ask outcome.now }
+{
+    match request.ask {
+        Ask::Get { key, flags } => may_make(key, flags),
+        Ask::Rm { .. } => is_done(outcome),
+        _ => false,
     }
 }
 
