@@ -557,6 +557,7 @@ impl<'a, 'c, R: Wait> Serving<'a, 'c, R> {
             Notification::Freed { slot, .. } => changes.add(Change::Room { slot }),
             Notification::Released => changes.add(Change::Blocks),
             Notification::Changed { slot } => changes.add(Change::Queue { slot }),
+            Notification::Settled => changes.add(Change::Settled),
         }
     }
 

@@ -40,7 +40,8 @@ const MOST_KEPT: usize = 1_024;
 /// All that happens to it is an event: bytes may be there to be read (`note_readable`,
 /// `take_turn`), the connection may take bytes (`drain`), what its parked call waits for may have
 /// changed (`go_on`), its peer has left (`leave`), or a limit has passed (`cut`). No event waits
-/// for the client or for a count. After each event `is_over` states whether to close it.
+/// for the client or for a count: a call that has to wait for a count is parked. An event waits
+/// only for turns at the gates of objects. After each event `is_over` states whether to close it.
 ///
 /// A client can be neither dropped nor copied. Spend it with `close`.
 pub struct Client<T: NonBlocking> {
