@@ -316,6 +316,7 @@ impl<'a, 'c, R: Wait> Serving<'a, 'c, R> {
         }
         worker.await_more(place);
         worker.set_time(place, self.server.patience());
+        worker.look_again(place);
     }
 
     /// Puts a client into the line of what its parked call waits for, and out of any other line. A
@@ -729,7 +730,8 @@ impl<'a, 'c, R: Wait> Serving<'a, 'c, R> {
         found(before, worker.lines.key(place), has_taken)
     }
 
-    /// Closes each client whose time is over, if it may be over for some.
+    /// Closes each client whose time is over, if it may be over for some, and reads again from those
+    /// that may have more bytes.
     fn look_at_times<T: NonBlocking, W: Watch<T>>(&self, worker: &mut Worker<'_, R, T, W>)
         ensures { KeepsAll T.incoming T.outgoing T.closes worker.old.places.items
             worker.new.places.items }
@@ -741,13 +743,15 @@ impl<'a, 'c, R: Wait> Serving<'a, 'c, R> {
             return;
         }
         worker.check = None;
+        worker.again = None;
         for place in 0..worker.places.len() {
             self.look_at_time(worker, place);
         }
         self.spread(worker);
     }
 
-    /// Closes a client whose time is over, unless something has come for it that was not read yet.
+    /// Reads from a client that may have more bytes although nothing reports them, and closes one
+    /// whose time is over, unless something has come for it that was not read yet.
     fn look_at_time<T: NonBlocking, W: Watch<T>>(
         &self,
         worker: &mut Worker<'_, R, T, W>,
@@ -759,7 +763,7 @@ impl<'a, 'c, R: Wait> Serving<'a, 'c, R> {
         if !worker.is_taken(place) {
             return;
         }
-        if is_over(worker.due(place)) {
+        if is_over(worker.due(place)) || worker.may_hold_more(place) {
             self.report(worker, &Ready::unasked(place));
         }
         let due = worker.due(place);

@@ -26,6 +26,9 @@ const SHARE_OF_CHANGES: usize = 2;
 /// its own clients' requests.
 const LOOKS: u32 = 64;
 
+/// The time after a read that may not have returned all bytes until the next one, in milliseconds.
+const AGAIN_MILLIS: u32 = 20;
+
 /// The number of places of which one wait reports events at most.
 const MOST_READY: usize = 256;
 
@@ -52,6 +55,9 @@ pub(crate) struct Worker<'a, R: Wait, T: NonBlocking, W> {
     pub(crate) answered: u64,
     /// When to look for clients whose time is over.
     pub(crate) check: Option<Moment>,
+    /// When to read again from clients that may have more bytes although nothing reports them, if
+    /// there may be such clients.
+    pub(crate) again: Option<Moment>,
     /// Whether the worker looks for events before it sleeps.
     pub(crate) spinning: Spinning,
     /// The numbers of its envelopes and of its changes, modulo 2^64.
@@ -145,6 +151,7 @@ impl<'a, R: Wait, T: NonBlocking, W: Watch<T>> Worker<'a, R, T, W> {
             tools,
             answered: 1,
             check: None,
+            again: None,
             spinning: Spinning::new(),
             messages: 0,
             changed: 0,
@@ -171,6 +178,7 @@ impl<'a, R: Wait, T: NonBlocking, W: Watch<T>> Worker<'a, R, T, W> {
             tools,
             answered: _,
             check: _,
+            again: _,
             spinning: _,
             messages: _,
             changed: _,
@@ -403,6 +411,25 @@ impl<'a, R: Wait, T: NonBlocking, W: Watch<T>> Worker<'a, R, T, W> {
             there.set_in_turns(false);
         }
         Some(place)
+    }
+
+    /// Returns whether the client may have more bytes to read, although nothing reports them.
+    pub(crate) fn may_hold_more(&self, place: usize) -> bool {
+        match self.places.get(place) {
+            Some(there) => there.may_hold_more(),
+            None => false,
+        }
+    }
+
+    /// Has the worker look soon whether the client has more bytes to read, if it may have some that
+    /// nothing reports.
+    pub(crate) fn look_again(&mut self, place: usize)
+        ensures { (self.new.places ≡ self.old.places) × (self.new.lines ≡ self.old.lines) }
+    {
+        if self.again.is_none() && self.may_hold_more(place) {
+            self.again = Some(Moment::now().plus_millis(AGAIN_MILLIS));
+            self.check = sooner(self.check, self.again);
+        }
     }
 
     /// Sets when the client's time is over.
