@@ -1,1 +1,3 @@
 pub mod Crossing
+pub mod Marks
+pub mod Places

@@ -1,5 +1,5 @@
 -- What happens to the lines of parked calls (this project's profile).
-use Rattle.std.specs.Prelude.{◌≡◌, ◌≢◌, ◌++◌, ℕ, Bool, true, false, List, [], ◌∷◌, Option, None, Some, slice_set, map}
+use Rattle.std.specs.Prelude.{◌≡◌, ◌≢◌, ◌++◌, ℕ, Bool, true, false, List, [], ◌∷◌, Option, None, Some, length, slice_set, map}
 use Rattle.std.specs.List.{count_by}
 use Rattle.sysv_parking.specs.declared.due.Why.{Why}
 use Rattle.sysv_parking.specs.declared.key.Key.{Key}
@@ -19,6 +19,7 @@ parking_in lines = record {
 -- What is true of the lines at any time.
 pub record IsKept (lines : Inside) : Type 0 where
   pub in_lines : AreInLines (parking_in lines)
+  pub places : length lines.why.items ≡ length lines.keys.items
   pub due : lines.due_count ≡ count_by is_due lines.why.items
 
 -- No call is in a line, and none is due.
