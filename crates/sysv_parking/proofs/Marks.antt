@@ -44,8 +44,8 @@ pub record MarksLine (line index : ℕ) (old new : Parking) : Type 0 where
 -- A place with a key is within the places.
 pub within : (keys : List (Option Key)) (place : ℕ) (key : Key) → get_or keys place None ≡ Some key → place < length keys
 within keys place key some = elim (cases_lt place (length keys)) [
-  inl low ↦ low |
-  inr past ↦ let none = get_or_past keys place None past in absurd (cc (none, some))
+  | inl low ↦ low
+  | inr past ↦ let none = get_or_past keys place None past in absurd (cc (none, some))
 ]
 
 -- What one place is due for after one was made due.
@@ -70,8 +70,8 @@ all_keep place old new none marks = record {
   lines = marks.lines;
   long = marks.long;
   there = λ other key less some. elim (cases_eq other place) [
-    inl same ↦ let e : key_at old other ≡ None = ap (key_at old) same ∙ none in absurd (cc (e, some)) |
-    inr differ ↦ marks.there other key (omega arith) some
+    | inl same ↦ let e : key_at old other ≡ None = ap (key_at old) same ∙ none in absurd (cc (e, some))
+    | inr differ ↦ marks.there other key (omega arith) some
   ];
 }
 
@@ -82,13 +82,13 @@ all_more place old new newer why keys lines whys all marks = record {
   lines = lines ∙ marks.lines;
   long = ap length whys ∙ length-set new.why place why ∙ marks.long;
   there = λ other key less some. elim (cases_eq other place) [
-    inl same ↦
-      let low : place < length new.why = let w = within old.keys other key some in let e = marks.long in omega arith in
-      ap (λ ws. get_or ws other not_due) whys ∙ ap (λ n. get_or (set new.why place why) n not_due) same
-      ∙ marked_here new.why place why low ∙ all |
-    inr differ ↦
-      ap (λ ws. get_or ws other not_due) whys ∙ marked_there new.why place other why differ
-      ∙ marks.there other key (omega arith) some
+    | inl same ↦
+        let low : place < length new.why = let w = within old.keys other key some in let e = marks.long in omega arith in
+        ap (λ ws. get_or ws other not_due) whys ∙ ap (λ n. get_or (set new.why place why) n not_due) same
+        ∙ marked_here new.why place why low ∙ all
+    | inr differ ↦
+        ap (λ ws. get_or ws other not_due) whys ∙ marked_there new.why place other why differ
+        ∙ marks.there other key (omega arith) some
   ];
 }
 
@@ -117,8 +117,8 @@ slot_keep slot place old new not_there marks = record {
   lines = marks.lines;
   long = marks.long;
   there = λ other key less some at. elim (cases_eq other place) [
-    inl same ↦ absurd (not_there key (sym (ap (key_at old) same) ∙ some) at) |
-    inr differ ↦ marks.there other key (omega arith) some at
+    | inl same ↦ absurd (not_there key (sym (ap (key_at old) same) ∙ some) at)
+    | inr differ ↦ marks.there other key (omega arith) some at
   ];
   later = λ other le. marks.later other (omega arith);
   elsewhere = marks.elsewhere;
@@ -129,33 +129,33 @@ pub slot_more : (slot place : ℕ) (key : Key) (old new newer : Parking) → new
     key_at old place ≡ Some key → slot_in key ≡ Some slot → MarksSlot slot place old new →
     MarksSlot slot (place + 1) old newer
 slot_more slot place key old new newer keys lines whys is at marks =
-  let more : Why = both (why_at new place) (why_changed key) in record {
-    keys = keys ∙ marks.keys;
-    lines = lines ∙ marks.lines;
-    long = ap length whys ∙ length-set new.why place (both (why_at new place) (why_changed key)) ∙ marks.long;
-    there = λ other key' less some at'. elim (cases_eq other place) [
-      inl same ↦
-        let low : place < length new.why = let w = within old.keys place key is in let e = marks.long in omega arith in
-        let alike : key ≡ key' = let e = ap (key_at old) same in cc (is, some, e) in
-        ap (λ ws. get_or ws other not_due) whys ∙ ap (λ n. get_or (set new.why place (both (why_at new place) (why_changed key))) n not_due) same
-        ∙ marked_here new.why place (both (why_at new place) (why_changed key)) low
-        ∙ ap (λ w. both w (why_changed key)) (marks.later place (omega arith) ∙ sym (ap (why_at old) same))
-        ∙ ap (λ k. both (why_at old other) (why_changed k)) alike |
-      inr differ ↦
-        ap (λ ws. get_or ws other not_due) whys
-        ∙ marked_there new.why place other (both (why_at new place) (why_changed key)) differ
-        ∙ marks.there other key' (omega arith) some at'
-    ];
-    later = λ other le.
-      ap (λ ws. get_or ws other not_due) whys
-      ∙ marked_there new.why place other (both (why_at new place) (why_changed key)) (omega arith)
-      ∙ marks.later other (omega arith);
-    elsewhere = λ other none.
-      ap (λ ws. get_or ws other not_due) whys
-      ∙ marked_there new.why place other (both (why_at new place) (why_changed key))
-        (λ same. none key (ap (key_at old) same ∙ is) at)
-      ∙ marks.elsewhere other none;
-  }
+    let more : Why = both (why_at new place) (why_changed key) in record {
+      keys = keys ∙ marks.keys;
+      lines = lines ∙ marks.lines;
+      long = ap length whys ∙ length-set new.why place (both (why_at new place) (why_changed key)) ∙ marks.long;
+      there = λ other key' less some at'. elim (cases_eq other place) [
+        | inl same ↦
+            let low : place < length new.why = let w = within old.keys place key is in let e = marks.long in omega arith in
+            let alike : key ≡ key' = let e = ap (key_at old) same in cc (is, some, e) in
+            ap (λ ws. get_or ws other not_due) whys ∙ ap (λ n. get_or (set new.why place (both (why_at new place) (why_changed key))) n not_due) same
+            ∙ marked_here new.why place (both (why_at new place) (why_changed key)) low
+            ∙ ap (λ w. both w (why_changed key)) (marks.later place (omega arith) ∙ sym (ap (why_at old) same))
+            ∙ ap (λ k. both (why_at old other) (why_changed k)) alike
+        | inr differ ↦
+            ap (λ ws. get_or ws other not_due) whys
+            ∙ marked_there new.why place other (both (why_at new place) (why_changed key)) differ
+            ∙ marks.there other key' (omega arith) some at'
+      ];
+      later = λ other le.
+          ap (λ ws. get_or ws other not_due) whys
+          ∙ marked_there new.why place other (both (why_at new place) (why_changed key)) (omega arith)
+          ∙ marks.later other (omega arith);
+      elsewhere = λ other none.
+          ap (λ ws. get_or ws other not_due) whys
+          ∙ marked_there new.why place other (both (why_at new place) (why_changed key))
+          (λ same. none key (ap (key_at old) same ∙ is) at)
+          ∙ marks.elsewhere other none;
+    }
 
 pub slot_noted : (slot place : ℕ) (old new : Parking) → length old.keys ≤ place → MarksSlot slot place old new →
     NotesChange slot old new
@@ -189,8 +189,8 @@ again_true false = refl
 -- One reason more, which was given before.
 raised_again : (why : Why) → both (both why by_raise) by_raise ≡ both why by_raise
 raised_again why =
-  ap (λ c. record { changed = c; raised = (why.raised || true) || true }) (again_false why.changed)
-  ∙ ap (λ r. record { changed = why.changed || false; raised = r }) (again_true why.raised)
+    ap (λ c. record { changed = c; raised = (why.raised || true) || true }) (again_false why.changed)
+    ∙ ap (λ r. record { changed = why.changed || false; raised = r }) (again_true why.raised)
 
 -- Whether a place is another one, as a number.
 pub is_one : (p x : ℕ) → p ≡ x → cond {A = ℕ} (p == x) 1 0 ≡ 1
@@ -203,14 +203,14 @@ is_zero p x differ = ap (λ (b : Bool). cond {A = ℕ} b 1 0) (ne_eqb p x differ
 one_more : (x : ℕ) (xs : List ℕ) (i place : ℕ) → item_at xs i ≡ Some place →
     times x (take (i + 1) xs) ≡ times x (take i xs) + cond (place == x) 1 0
 one_more x xs i place is =
-  let low = slice_get_within xs i place is in
-  let e : get_or xs i 0 ≡ place = get_or_from_slice_get xs i place 0 is in
-  sum_by_more (λ (y : ℕ). cond (y == x) 1 0) xs i 0 low ∙ ap (λ y. times x (take i xs) + cond (y == x) 1 0) e
+    let low = slice_get_within xs i place is in
+    let e : get_or xs i 0 ≡ place = get_or_from_slice_get xs i place 0 is in
+    sum_by_more (λ (y : ℕ). cond (y == x) 1 0) xs i 0 low ∙ ap (λ y. times x (take i xs) + cond (y == x) 1 0) e
 
 past_item : (xs : List ℕ) (i : ℕ) → item_at xs i ≡ None → take (i + 1) xs ≡ take i xs
 past_item xs i none = elim (cases_lt i (length xs)) [
-  inl low ↦ let some = slice_get-get_or xs i 0 low in absurd (cc (none, some)) |
-  inr past ↦ take_all (i + 1) xs (omega arith) ∙ sym (take_all i xs past)
+  | inl low ↦ let some = slice_get-get_or xs i 0 low in absurd (cc (none, some))
+  | inr past ↦ take_all (i + 1) xs (omega arith) ∙ sym (take_all i xs past)
 ]
 
 pub line_none : (line : ℕ) (old new : Parking) → new ≡ old → length old.why ≡ length old.keys → AreInLines old →
@@ -228,36 +228,36 @@ line_none line old new same long in_lines = record {
 low : (line index place : ℕ) (old new : Parking) → item_at (line_at old line) index ≡ Some place →
     MarksLine line index old new → place < length new.why
 low line index place old new is marks =
-  let more = one_more place (line_at old line) index place is in
-  let one = is_one place place refl in
-  let part : times place (take (index + 1) (line_at old line)) ≤ times place (line_at old line) =
+    let more = one_more place (line_at old line) index place is in
+    let one = is_one place place refl in
+    let part : times place (take (index + 1) (line_at old line)) ≤ times place (line_at old line) =
     sum_by-take-le (λ (y : ℕ). cond (y == place) 1 0) (line_at old line) (index + 1) in
-  let count = marks.in_lines line place in
-  let key = has_key (key_at old place) line (omega arith) in
-  let inside = within old.keys place key.0 key.1 in
-  let long = marks.long in
-  omega arith
+    let count = marks.in_lines line place in
+    let key = has_key (key_at old place) line (omega arith) in
+    let inside = within old.keys place key.0 key.1 in
+    let long = marks.long in
+    omega arith
 
 -- What the place at an index of a line is due for then.
 here : (line index place : ℕ) (old new : Parking) → MarksLine line index old new →
     both (why_at new place) by_raise ≡ both (why_at old place) by_raise
 here line index place old new marks = elim (cases_lt (times place (take index (line_at old line))) 1) [
-  inl none ↦ ap (λ w. both w by_raise) (marks.elsewhere place (omega arith)) |
-  inr some ↦ ap (λ w. both w by_raise) (marks.there place some) ∙ raised_again (why_at old place)
+  | inl none ↦ ap (λ w. both w by_raise) (marks.elsewhere place (omega arith))
+  | inr some ↦ ap (λ w. both w by_raise) (marks.there place some) ∙ raised_again (why_at old place)
 ]
 
 pub line_keep : (line index : ℕ) (old new : Parking) → item_at (line_at old line) index ≡ None →
     MarksLine line index old new → MarksLine line (index + 1) old new
 line_keep line index old new none marks =
-  let same : take (index + 1) (line_at old line) ≡ take index (line_at old line) =
+    let same : take (index + 1) (line_at old line) ≡ take index (line_at old line) =
     past_item (line_at old line) index none in record {
-    keys = marks.keys;
-    lines = marks.lines;
-    long = marks.long;
-    in_lines = marks.in_lines;
-    there = λ other one. let e : times other (take (index + 1) (line_at old line)) ≡ times other (take index (line_at old line)) = ap (times other) same in marks.there other (omega arith);
-    elsewhere = λ other zero. let e : times other (take (index + 1) (line_at old line)) ≡ times other (take index (line_at old line)) = ap (times other) same in marks.elsewhere other (omega arith);
-  }
+      keys = marks.keys;
+      lines = marks.lines;
+      long = marks.long;
+      in_lines = marks.in_lines;
+      there = λ other one. let e : times other (take (index + 1) (line_at old line)) ≡ times other (take index (line_at old line)) = ap (times other) same in marks.there other (omega arith);
+      elsewhere = λ other zero. let e : times other (take (index + 1) (line_at old line)) ≡ times other (take index (line_at old line)) = ap (times other) same in marks.elsewhere other (omega arith);
+    }
 
 pub line_more : (line index place : ℕ) (old new newer : Parking) → newer.keys ≡ new.keys →
     newer.lines ≡ new.lines → newer.why ≡ set new.why place (both (why_at new place) by_raise) →
@@ -269,47 +269,47 @@ line_more line index place old new newer keys lines whys is marks = record {
   long = ap length whys ∙ length-set new.why place (both (why_at new place) by_raise) ∙ marks.long;
   in_lines = marks.in_lines;
   there = λ other one. elim (cases_eq other place) [
-    inl same ↦
-      ap (λ ws. get_or ws other not_due) whys
-      ∙ ap (λ n. get_or (set new.why place (both (why_at new place) by_raise)) n not_due) same
-      ∙ marked_here new.why place (both (why_at new place) by_raise) (low line index place old new is marks)
-      ∙ here line index place old new marks
-      ∙ ap (λ n. both (why_at old n) by_raise) (sym same) |
-    inr differ ↦
-      ap (λ ws. get_or ws other not_due) whys
-      ∙ marked_there new.why place other (both (why_at new place) by_raise) differ
-      ∙ marks.there other
+    | inl same ↦
+        ap (λ ws. get_or ws other not_due) whys
+        ∙ ap (λ n. get_or (set new.why place (both (why_at new place) by_raise)) n not_due) same
+        ∙ marked_here new.why place (both (why_at new place) by_raise) (low line index place old new is marks)
+        ∙ here line index place old new marks
+        ∙ ap (λ n. both (why_at old n) by_raise) (sym same)
+    | inr differ ↦
+        ap (λ ws. get_or ws other not_due) whys
+        ∙ marked_there new.why place other (both (why_at new place) by_raise) differ
+        ∙ marks.there other
         (let e = one_more other (line_at old line) index place is in
-         let z = is_zero place other (λ q. differ (sym q)) in
-         omega arith)
+        let z = is_zero place other (λ q. differ (sym q)) in
+        omega arith)
   ];
   elsewhere = λ other none.
-    let e = one_more other (line_at old line) index place is in
-    ap (λ ws. get_or ws other not_due) whys
-    ∙ marked_there new.why place other (both (why_at new place) by_raise)
+      let e = one_more other (line_at old line) index place is in
+      ap (λ ws. get_or ws other not_due) whys
+      ∙ marked_there new.why place other (both (why_at new place) by_raise)
       (λ same.
-        let o = is_one place other (sym same) in
-        omega arith)
-    ∙ marks.elsewhere other (omega arith);
+      let o = is_one place other (sym same) in
+      omega arith)
+      ∙ marks.elsewhere other (omega arith);
 }
 
 pub line_noted : (line index : ℕ) (old new : Parking) → length (line_at old line) ≤ index →
     MarksLine line index old new → NotesLine line old new
 line_noted line index old new past marks =
-  let all : take index (line_at old line) ≡ line_at old line = take_all index (line_at old line) past in record {
-    keys = marks.keys;
-    lines = marks.lines;
-    there = λ other key some same.
-      let count = marks.in_lines line other in
-      let one = in_line_has (key_at old other) key line some same in
-      let t : times other (take index (line_at old line)) ≡ times other (line_at old line) = ap (times other) all in
-      marks.there other (omega arith);
-    elsewhere = λ other none.
-      let count = marks.in_lines line other in
-      let zero = in_line_none (key_at old other) line none in
-      let t : times other (take index (line_at old line)) ≡ times other (line_at old line) = ap (times other) all in
-      marks.elsewhere other (omega arith);
-  }
+    let all : take index (line_at old line) ≡ line_at old line = take_all index (line_at old line) past in record {
+      keys = marks.keys;
+      lines = marks.lines;
+      there = λ other key some same.
+          let count = marks.in_lines line other in
+          let one = in_line_has (key_at old other) key line some same in
+          let t : times other (take index (line_at old line)) ≡ times other (line_at old line) = ap (times other) all in
+          marks.there other (omega arith);
+      elsewhere = λ other none.
+          let count = marks.in_lines line other in
+          let zero = in_line_none (key_at old other) line none in
+          let t : times other (take index (line_at old line)) ≡ times other (line_at old line) = ap (times other) all in
+          marks.elsewhere other (omega arith);
+    }
 
 pub is_none : {A : Type 0} (o : Option A) → is_some o ≡ false → o ≡ None
 is_none None false_is = refl
@@ -322,5 +322,5 @@ or_true false = refl
 -- All reasons, with whatever others.
 pub all_twice : (why : Why) → both why by_all ≡ by_all
 all_twice why =
-  ap (λ c. record { changed = c; raised = why.raised || true }) (or_true why.changed)
-  ∙ ap (λ r. record { changed = true; raised = r }) (or_true why.raised)
+    ap (λ c. record { changed = c; raised = why.raised || true }) (or_true why.changed)
+    ∙ ap (λ r. record { changed = true; raised = r }) (or_true why.raised)

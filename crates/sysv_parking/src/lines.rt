@@ -1,6 +1,6 @@
 //! The parked calls of a worker, by what they wait for.
-ghost use Rattle.std.specs.Prelude.{◌≡◌, ◌≢◌, ◌↔◌, ◌++◌, ◌∷◌, ◌<◌, ◌≤◌, ℕ, [], None, Some, true, false, IfSome, IsTrue, IsSome, MatchOption, length, slice_set, vec_len};
-ghost use Rattle.sysv_parking.specs.Due.{both, by_raise, is_due as due, why_changed};
+ghost use Rattle.std.specs.Prelude.{◌≡◌, ◌≢◌, ◌↔◌, ◌++◌, ◌∷◌, ◌<◌, ◌≤◌, ℕ, [], None, Some, true, false, IfSome, IsTrue, IsSome, MatchOption, length, replicate, slice_set, vec_len};
+ghost use Rattle.sysv_parking.specs.Due.{both, by_raise, is_due as due, not_due, why_changed};
 ghost use Rattle.sysv_parking.specs.Keys.{line_of, line_room};
 ghost use Rattle.sysv_parking.specs.Parking.{AreInLines, MovesOnly, key_at, line_at, why_at};
 ghost use Rattle.sysv_parking.specs.Parking.{item_at};
@@ -56,10 +56,10 @@ impl Lines {
     {
         Some(Lines {
             alloc,
-            keys: vec![in alloc; None; places].ok()?,
+            keys: no_keys(alloc, places)?,
             lines: empty_lines(alloc)?,
             counts: vec![in alloc; 0; WORDS].ok()?,
-            why: vec![in alloc; Why::NOT; places].ok()?,
+            why: none_due(alloc, places)?,
             due_count: 0,
             due: VecDeque::with_capacity(alloc, places).ok()?,
         })
@@ -333,6 +333,20 @@ fn index_in(line: &VecDeque<usize>, place: usize) -> Option<usize>
         (λ index. IsAt place line.now.items index) }
 {
     line.iter().position(|it| *it == place)
+}
+
+/// Returns no key for each place. Returns `None` if memory is refused.
+fn no_keys(alloc: Global, places: usize) -> Option<Vec<Option<Key>>>
+    ensures { IfSome result (λ keys. keys.items ≡ replicate places None) }
+{
+    vec![in alloc; None; places].ok()
+}
+
+/// Returns that no place is due. Returns `None` if memory is refused.
+fn none_due(alloc: Global, places: usize) -> Option<Vec<Why>>
+    ensures { IfSome result (λ why. why.items ≡ replicate places not_due) }
+{
+    vec![in alloc; Why::NOT; places].ok()
 }
 
 /// Returns all lines, each of them empty. Returns `None` if memory is refused.

@@ -1,3 +1,11 @@
+-- One line changes.
+use Rattle.std.proofs.Common.{subst, sym}
+use Rattle.sysv_parking.specs.Places.{TakesOut}
+use Rattle.sysv_parking.proofs.Places.{removes_at}
 use Rattle.sysv_parking.proofs.lines.remove.Goals as goal
-pub returns-in-Some : goal.returns-in-Some
-returns-in-Some c = let e = c.in-Some.ensures tt in let a = e.variant in let b = e.item in ?
+
+pub returns : goal.returns
+returns c =
+    removes_at (λ q. q.items) c.args.lines.now.items c.args.line c.args.place c.in-Some.line.now c.keep_less.new.line
+    c.in-Some.ensures.item.3.0 c.in-Some.ensures.value
+    (subst (TakesOut c.args.place c.in-Some.line.now.items) (sym c.keep_less.ensures) c.take_out.ensures)

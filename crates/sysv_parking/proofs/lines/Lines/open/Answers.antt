@@ -1,6 +1,25 @@
+-- No line has a place, and no place has a key or is due.
+use Rattle.std.proofs.Common.{◌∙◌, None, length, sym, ap}
+use Rattle.sysv_parking.specs.Due.{not_due}
+use Rattle.sysv_parking.specs.Places.{places_in}
+use Rattle.sysv_parking.proofs.Places.{all_default, empty_in_lines, none_counted}
+use Rattle.std.proofs.lemmas.List.{length-replicate}
+use Rattle.sysv_parking.specs.declared.key.Key.{Key}
+use Rattle.std.proofs.Common.{Option}
 use Rattle.sysv_parking.proofs.lines.Lines.open.Goals as goal
+
 pub invariant_of-result : goal.invariant_of-result
-invariant_of-result c = ?
+invariant_of-result c = record {
+  in_lines = empty_in_lines c.in_ok-no_keys.field-0.items (places_in c.in_ok-empty_lines.field-0) c.args.places
+      c.in_ok-no_keys.ensures c.in_ok-empty_lines.ensures;
+  places = ap length c.in_ok-none_due.ensures ∙ length-replicate c.args.places not_due
+      ∙ sym (ap length c.in_ok-no_keys.ensures ∙ length-replicate {A = Option Key} c.args.places None);
+  due = none_counted c.in_ok-none_due.field-0.items c.args.places c.in_ok-none_due.ensures;
+}
 
 pub returns : goal.returns
-returns c = let a = c.in_ok-ok.ensures.value in let b = c.vec.ensures.items in let e = c.in_ok-empty_lines.ensures in let f = c.vec.ensures.items_if_clones_equal in let g = c.in_ok-ok.was in let h = c.in_ok-ok.is in ?
+returns c = record {
+  keys = λ place. all_default c.in_ok-no_keys.field-0.items c.args.places place None c.in_ok-no_keys.ensures;
+  lines = c.in_ok-empty_lines.ensures;
+  why = λ place. all_default c.in_ok-none_due.field-0.items c.args.places place not_due c.in_ok-none_due.ensures;
+}
