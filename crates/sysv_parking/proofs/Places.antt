@@ -231,3 +231,6 @@ empty_in_lines keys lines n is each line p =
 pub none_counted : (why : List Why) (n : ℕ) → why ≡ replicate n not_due → 0 ≡ count_by is_due why
 none_counted why n is = let e : count_by is_due why ≡ n * 0 =
     ap (count_by is_due) is ∙ sum_by-replicate (λ (w : Why). cond {A = ℕ} (is_due w) 1 0) n not_due in omega arith
+
+pub set_elsewhere : {A : Type 0} (xs : List A) (i j : ℕ) (new d : A) → j ≢ i → get_or (set xs i new) j d ≡ get_or xs j d
+set_elsewhere xs i j new d differ = get_or-set_other xs i j new d differ

@@ -1,7 +1,7 @@
 //! The parked calls of a worker, by what they wait for.
-ghost use Rattle.std.specs.Prelude.{◌≡◌, ◌≢◌, ◌↔◌, ◌++◌, ◌∷◌, ◌<◌, ◌≤◌, ℕ, [], None, Some, true, false, IfSome, IsTrue, IsSome, MatchOption, length, replicate, slice_set, vec_len};
+ghost use Rattle.std.specs.Prelude.{◌≡◌, ◌-◌, ◌≢◌, ◌↔◌, ◌++◌, ◌∷◌, ◌<◌, ◌≤◌, ℕ, [], None, Some, true, false, IfSome, IsTrue, IsSome, MatchOption, length, replicate, slice_index, slice_set, vec_len};
 ghost use Rattle.sysv_parking.specs.Due.{both, by_raise, is_due as due, not_due, why_changed};
-ghost use Rattle.sysv_parking.specs.Keys.{line_of, line_room};
+ghost use Rattle.sysv_parking.specs.Keys.{bounded_sum, line_of, line_room};
 ghost use Rattle.sysv_parking.specs.Parking.{AreInLines, MovesOnly, key_at, line_at, why_at};
 ghost use Rattle.sysv_parking.specs.Parking.{item_at};
 ghost use Rattle.sysv_parking.specs.Places.{Appends, EachIsEmpty, IsAt, IsNowhere, Removes, TakesOut, places_in};
@@ -102,9 +102,7 @@ impl Lines {
             return false;
         }
         self.keys[place] = Some(key);
-        if let Some(count) = self.counts.get_mut(key.word()) {
-            *count = count.saturating_add(1);
-        }
+        count_more(&mut self.counts, key.word());
         true
     }
 
@@ -118,12 +116,8 @@ impl Lines {
             return;
         };
         remove(&mut self.lines, self.alloc, key.line(), place);
-        if let Some(there) = self.keys.get_mut(place) {
-            *there = None;
-        }
-        if let Some(count) = self.counts.get_mut(key.word()) {
-            *count = count.saturating_sub(1);
-        }
+        self.keys[place] = None;
+        count_less(&mut self.counts, key.word());
     }
 
     /// Notes that the queue of a slot was set or removed: the calls that are parked there are due.
@@ -333,6 +327,26 @@ fn index_in(line: &VecDeque<usize>, place: usize) -> Option<usize>
         (λ index. IsAt place line.now.items index) }
 {
     line.iter().position(|it| *it == place)
+}
+
+/// Counts one place more for a word.
+fn count_more(counts: &mut Vec<usize>, word: usize)
+    ensures { counts.new.items ≡ slice_set counts.old.items word
+        (bounded_sum (slice_index counts.old.items word) 1) }
+{
+    if let Some(count) = counts.get_mut(word) {
+        *count = count.saturating_add(1);
+    }
+}
+
+/// Counts one place less for a word.
+fn count_less(counts: &mut Vec<usize>, word: usize)
+    ensures { counts.new.items ≡ slice_set counts.old.items word
+        (slice_index counts.old.items word - 1) }
+{
+    if let Some(count) = counts.get_mut(word) {
+        *count = count.saturating_sub(1);
+    }
 }
 
 /// Returns no key for each place. Returns `None` if memory is refused.
