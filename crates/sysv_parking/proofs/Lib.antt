@@ -1,3 +1,4 @@
+pub mod Counts
 pub mod Crossing
 pub mod Marks
 pub mod Places

@@ -1,11 +1,11 @@
 -- The parked calls of a worker (this project's profile). A call is known by its place.
 use Rattle.std.specs.Prelude.{◌≡◌, ◌≢◌, ◌==◌, ℕ, Bool, true, false, not, List, [], Option, None, Some, cond, slice_get, slice_index_or}
-use Rattle.std.specs.List.{filter}
+use Rattle.std.specs.List.{count_by, filter}
 use Rattle.sysv_lists.specs.Numbers.{times}
 use Rattle.sysv_parking.specs.declared.due.Why.{Why}
 use Rattle.sysv_parking.specs.declared.key.Key.{Key}
 use Rattle.sysv_parking.specs.Due.{is_due, not_due}
-use Rattle.sysv_parking.specs.Keys.{line_of}
+use Rattle.sysv_parking.specs.Keys.{line_of, word_of}
 
 -- What the call of each place waits for, if it is in a line; the places in each line, in the order
 -- in which they were parked; and why the call of each place is due.
@@ -45,3 +45,12 @@ pub record MovesOnly (place : ℕ) (old new : Parking) : Type 0 where
   pub keys : (other : ℕ) → other ≢ place → key_at new other ≡ key_at old other
   pub lines : (line : ℕ) → without place (line_at new line) ≡ without place (line_at old line)
   pub why : (other : ℕ) → other ≢ place → why_at new other ≡ why_at old other
+
+-- Whether a call that waits for this is counted with those of the word.
+abbrev pub is_of_word : ℕ → Option Key → Bool
+is_of_word word None = false
+is_of_word word (Some key) = word_of key == word
+
+-- The number of places in the lines of a word.
+abbrev pub parked_at : Parking → ℕ → ℕ
+parked_at parking word = count_by (is_of_word word) parking.keys

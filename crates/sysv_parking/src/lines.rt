@@ -1,8 +1,8 @@
 //! The parked calls of a worker, by what they wait for.
 ghost use Rattle.std.specs.Prelude.{◌≡◌, ◌-◌, ◌≢◌, ◌↔◌, ◌++◌, ◌∷◌, ◌<◌, ◌≤◌, ℕ, [], None, Some, true, false, IfSome, IsTrue, IsSome, MatchOption, length, replicate, slice_index, slice_set, vec_len};
-ghost use Rattle.sysv_parking.specs.Due.{both, by_raise, is_due as due, not_due, why_changed};
+ghost use Rattle.sysv_parking.specs.Due.{both, by_all, by_raise, is_due as due, not_due, why_changed};
 ghost use Rattle.sysv_parking.specs.Keys.{bounded_sum, line_of, line_room};
-ghost use Rattle.sysv_parking.specs.Parking.{AreInLines, MovesOnly, key_at, line_at, why_at};
+ghost use Rattle.sysv_parking.specs.Parking.{AreInLines, MovesOnly, key_at, line_at, parked_at, why_at};
 ghost use Rattle.sysv_parking.specs.Parking.{item_at};
 ghost use Rattle.sysv_parking.specs.Places.{Appends, EachIsEmpty, IsAt, IsNowhere, Removes, TakesOut, places_in};
 
@@ -58,7 +58,7 @@ impl Lines {
             alloc,
             keys: no_keys(alloc, places)?,
             lines: empty_lines(alloc)?,
-            counts: vec![in alloc; 0; WORDS].ok()?,
+            counts: no_counts(alloc)?,
             why: none_due(alloc, places)?,
             due_count: 0,
             due: VecDeque::with_capacity(alloc, places).ok()?,
@@ -74,7 +74,9 @@ impl Lines {
     }
 
     /// Returns the number of places in the lines of this word.
-    pub fn count(&self, word: usize) -> usize {
+    pub fn count(&self, word: usize) -> usize
+        ensures { result ≡ parked_at self.now word }
+    {
         self.counts.get(word).copied().unwrap_or(0)
     }
 
@@ -91,8 +93,11 @@ impl Lines {
         ensures moves { MovesOnly place self.old self.new }
         ensures entered { key_at self.old place ≡ None → result ≡ true
             → Enters place key self.old self.new }
+        ensures stays { IsSome (key_at self.old place) → (result ≡ true) × (self.new ≡ self.old) }
         ensures refused { result ≡ false → (self.new.keys ≡ self.old.keys)
             × (self.new.lines ≡ self.old.lines) }
+        ensures due { result ≡ false → self.new.why ≡ slice_set self.old.why place
+            (both (why_at self.old place) by_all) }
     {
         if self.key(place).is_some() {
             return true;
@@ -354,6 +359,13 @@ fn no_keys(alloc: Global, places: usize) -> Option<Vec<Option<Key>>>
     ensures { IfSome result (λ keys. keys.items ≡ replicate places None) }
 {
     vec![in alloc; None; places].ok()
+}
+
+/// Returns a count of no place for each word. Returns `None` if memory is refused.
+fn no_counts(alloc: Global) -> Option<Vec<usize>>
+    ensures { IfSome result (λ counts. counts.items ≡ replicate WORDS 0) }
+{
+    vec![in alloc; 0; WORDS].ok()
 }
 
 /// Returns that no place is due. Returns `None` if memory is refused.

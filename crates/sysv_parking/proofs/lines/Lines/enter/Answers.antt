@@ -2,9 +2,10 @@
 use Rattle.std.proofs.Common.{◌≡◌, ◌≢◌, ◌∙◌, ◌<◌, ◌++◌, ◌∷◌, ℕ, None, Some, [], length, get_or, set, refl, sym, ap, subst, arith}
 use Rattle.std.proofs.lemmas.List.{length-map, length-set}
 use Rattle.sysv_lists.specs.Numbers.{times}
-use Rattle.sysv_parking.specs.Keys.{line_of}
+use Rattle.sysv_parking.specs.Keys.{bounded_sum, line_of}
 use Rattle.sysv_parking.specs.Parking.{Parking, key_at, line_at, why_at, without}
 use Rattle.sysv_parking.specs.Places.{Appends, places_in}
+use Rattle.sysv_parking.proofs.Counts.{counted_more}
 use Rattle.sysv_parking.proofs.Marks.{is_none}
 use Rattle.sysv_parking.proofs.Places.{entered_in_lines, entered_without, set_elsewhere}
 use Rattle.sysv_parking.proofs.lines.Lines.enter.Goals as goal
@@ -28,6 +29,11 @@ invariant_of-self-2 c = record {
       ∙ entered_in_lines c.self.inside.keys.items (places_in c.self.inside.lines) c.args.place c.args.key (low c)
       (appends c).there (none c) c.self.invariant.in_lines line p;
   places = c.self.invariant.places ∙ sym (length-set c.self.inside.keys.items c.args.place (Some c.args.key));
+  words = ap length c.count_more.ensures ∙ length-set c.self.inside.counts.items c.word.result
+      (bounded_sum (get_or c.self.inside.counts.items c.word.result 0) 1) ∙ c.self.invariant.words;
+  counts = λ word. ap (λ ns. get_or ns word 0) (c.count_more.ensures ∙ ap (λ n. set c.self.inside.counts.items n (bounded_sum (get_or c.self.inside.counts.items n 0) 1)) c.word.ensures)
+      ∙ counted_more c.self.inside.keys.items c.self.inside.counts.items c.args.place c.args.key (low c) (none c)
+      (omega (arith, c.self.inside.keys.ok, c.self.inside.keys.small)) c.self.invariant.words c.self.invariant.counts word;
   due = c.self.invariant.due;
 }
 

@@ -1,9 +1,10 @@
 -- The place is taken out of the line of its key.
-use Rattle.std.proofs.Common.{◌≡◌, ◌∙◌, ◌<◌, ℕ, None, Some, [], length, get_or, refl, sym, ap, subst}
+use Rattle.std.proofs.Common.{◌≡◌, ◌∙◌, ◌<◌, ℕ, None, Some, [], length, get_or, set, ◌-◌, refl, sym, ap, subst}
 use Rattle.std.proofs.lemmas.List.{length-set}
 use Rattle.sysv_parking.specs.Keys.{line_of}
 use Rattle.sysv_parking.specs.Parking.{Parking, key_at}
 use Rattle.sysv_parking.specs.Places.{Removes, places_in}
+use Rattle.sysv_parking.proofs.Counts.{counted_less}
 use Rattle.sysv_parking.proofs.Marks.{within}
 use Rattle.sysv_parking.proofs.Places.{left_in_lines}
 use Rattle.sysv_parking.proofs.lines.Lines.leave.Goals as goal
@@ -23,5 +24,11 @@ invariant_of-self c = record {
       c.args.place c.in-Some.key (removes c) (within c.self.inside.keys.items c.args.place c.in-Some.key (some c)) (some c)
       c.self.invariant.in_lines;
   places = c.self.invariant.places ∙ sym (length-set c.self.inside.keys.items c.args.place None);
+  words = ap length c.count_less.ensures ∙ length-set c.self.inside.counts.items c.word.result
+      (get_or c.self.inside.counts.items c.word.result 0 - 1) ∙ c.self.invariant.words;
+  counts = λ word. ap (λ ns. get_or ns word 0) (c.count_less.ensures ∙ ap (λ n. set c.self.inside.counts.items n (get_or c.self.inside.counts.items n 0 - 1)) c.word.ensures)
+      ∙ counted_less c.self.inside.keys.items c.self.inside.counts.items c.args.place c.in-Some.key
+      (within c.self.inside.keys.items c.args.place c.in-Some.key (some c)) (some c)
+      c.self.invariant.words c.self.invariant.counts word;
   due = c.self.invariant.due;
 }
