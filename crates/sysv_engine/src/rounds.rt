@@ -14,8 +14,8 @@ use crate::worker::{Worker, sooner};
 use std::alloc::Global;
 use std::sync::Wait;
 use sysv_parking::{
-    BLOCKS_WORD, Calls, Found, Lines, LookedFor, SETTLED_WORD, Why, look_at_due, look_for_message,
-    room_word,
+    BLOCKS_WORD, Calls, Found, Key, Lines, LookedFor, SETTLED_WORD, Why, look_at_due,
+    look_for_message, room_word,
 };
 use sysv_seats::{NonBlocking, Notification};
 use sysv_service::Service;

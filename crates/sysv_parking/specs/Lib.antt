@@ -1,5 +1,6 @@
 pub mod Keys
 pub mod Parking
+pub mod Places
 pub mod Due
 pub mod Barriers
 pub mod Lines

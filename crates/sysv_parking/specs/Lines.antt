@@ -1,12 +1,13 @@
 -- What happens to the lines of parked calls (this project's profile).
-use Rattle.std.specs.Prelude.{◌≡◌, ◌≢◌, ◌++◌, ℕ, Bool, true, false, List, [], ◌∷◌, Option, None, Some, slice_set, map}
+use Rattle.std.specs.Prelude.{◌≡◌, ◌≢◌, ◌++◌, ℕ, Bool, true, false, List, [], ◌∷◌, Option, None, Some, length, slice_index, slice_set, map}
 use Rattle.std.specs.List.{count_by}
 use Rattle.sysv_parking.specs.declared.due.Why.{Why}
 use Rattle.sysv_parking.specs.declared.key.Key.{Key}
+use Rattle.sysv_parking.specs.declared.key.TheConstants.{WORDS}
 use Rattle.sysv_parking.specs.declared.lines.Lines.TheInside.{Inside}
 use Rattle.sysv_parking.specs.Due.{both, by_all, by_raise, is_due, not_due, why_changed}
 use Rattle.sysv_parking.specs.Keys.{line_of, slot_in}
-use Rattle.sysv_parking.specs.Parking.{AreInLines, Parking, key_at, line_at, why_at}
+use Rattle.sysv_parking.specs.Parking.{AreInLines, Parking, key_at, line_at, parked_at, why_at}
 
 -- What the lines are seen as.
 abbrev pub parking_in : Inside → Parking
@@ -19,6 +20,9 @@ parking_in lines = record {
 -- What is true of the lines at any time.
 pub record IsKept (lines : Inside) : Type 0 where
   pub in_lines : AreInLines (parking_in lines)
+  pub places : length lines.why.items ≡ length lines.keys.items
+  pub words : length lines.counts.items ≡ WORDS
+  pub counts : (word : ℕ) → slice_index lines.counts.items word ≡ parked_at (parking_in lines) word
   pub due : lines.due_count ≡ count_by is_due lines.why.items
 
 -- No call is in a line, and none is due.

@@ -1,9 +1,10 @@
 //! The parked calls of a worker, by what they wait for.
-ghost use Rattle.std.specs.Prelude.{◌≡◌, ◌≢◌, ◌↔◌, ◌++◌, ◌∷◌, ◌<◌, ◌≤◌, ℕ, [], None, Some, true, false, IfSome, IsTrue, IsSome, slice_set, vec_len};
-ghost use Rattle.sysv_parking.specs.Due.{both, by_raise, is_due as due, why_changed};
-ghost use Rattle.sysv_parking.specs.Keys.{line_of, line_room};
-ghost use Rattle.sysv_parking.specs.Parking.{AreInLines, MovesOnly, key_at, line_at, why_at};
+ghost use Rattle.std.specs.Prelude.{◌≡◌, ◌-◌, ◌≢◌, ◌↔◌, ◌++◌, ◌∷◌, ◌<◌, ◌≤◌, ℕ, [], None, Some, true, false, IfSome, IsTrue, IsSome, MatchOption, length, replicate, slice_index, slice_set, vec_len};
+ghost use Rattle.sysv_parking.specs.Due.{both, by_all, by_raise, is_due as due, not_due, why_changed};
+ghost use Rattle.sysv_parking.specs.Keys.{bounded_sum, line_of, line_room};
+ghost use Rattle.sysv_parking.specs.Parking.{AreInLines, MovesOnly, key_at, line_at, parked_at, why_at};
 ghost use Rattle.sysv_parking.specs.Parking.{item_at};
+ghost use Rattle.sysv_parking.specs.Places.{Appends, EachIsEmpty, IsAt, IsNowhere, Removes, TakesOut, places_in};
 
 use crate::due::Why;
 use crate::key::{BLOCKS_LINE, Key, LINES, SETTLED_LINE, WORDS, room_line};
@@ -55,10 +56,10 @@ impl Lines {
     {
         Some(Lines {
             alloc,
-            keys: vec![in alloc; None; places].ok()?,
+            keys: no_keys(alloc, places)?,
             lines: empty_lines(alloc)?,
-            counts: vec![in alloc; 0; WORDS].ok()?,
-            why: vec![in alloc; Why::NOT; places].ok()?,
+            counts: no_counts(alloc)?,
+            why: none_due(alloc, places)?,
             due_count: 0,
             due: VecDeque::with_capacity(alloc, places).ok()?,
         })
@@ -73,7 +74,9 @@ impl Lines {
     }
 
     /// Returns the number of places in the lines of this word.
-    pub fn count(&self, word: usize) -> usize {
+    pub fn count(&self, word: usize) -> usize
+        ensures { result ≡ parked_at self.now word }
+    {
         self.counts.get(word).copied().unwrap_or(0)
     }
 
@@ -91,35 +94,22 @@ impl Lines {
         ensures moves { MovesOnly place self.old self.new }
         ensures entered { key_at self.old place ≡ None → result ≡ true
             → Enters place key self.old self.new }
+        ensures stays { IsSome (key_at self.old place) → (result ≡ true) × (self.new ≡ self.old) }
         ensures refused { result ≡ false → (self.new.keys ≡ self.old.keys)
             × (self.new.lines ≡ self.old.lines) }
+        ensures due { result ≡ false → self.new.why ≡ slice_set self.old.why place
+            (both (why_at self.old place) by_all) }
     {
         if self.key(place).is_some() {
             return true;
         }
-        if !self.append(place, key) {
+        if place >= self.keys.len() || !append(&mut self.lines, key.line(), place) {
             self.make_due(place, Why::ALL);
             return false;
         }
-        if let Some(there) = self.keys.get_mut(place) {
-            *there = Some(key);
-        }
-        if let Some(count) = self.counts.get_mut(key.word()) {
-            *count = count.saturating_add(1);
-        }
+        self.keys[place] = Some(key);
+        count_more(&mut self.counts, key.word());
         true
-    }
-
-    /// Appends the place to the line of this key. Returns `false` if memory is refused, or the place
-    /// is out of range.
-    fn append(&mut self, place: usize, key: Key) -> bool {
-        if place >= self.keys.len() {
-            return false;
-        }
-        match self.lines.get_mut(key.line()) {
-            Some(line) => line.push_back(place).is_ok(),
-            None => false,
-        }
     }
 
     /// Takes the place out of its line, if it is in one.
@@ -131,27 +121,9 @@ impl Lines {
         let Some(key) = self.key(place) else {
             return;
         };
-        self.remove(place, key.line());
-        if let Some(there) = self.keys.get_mut(place) {
-            *there = None;
-        }
-        if let Some(count) = self.counts.get_mut(key.word()) {
-            *count = count.saturating_sub(1);
-        }
-    }
-
-    /// Removes the place from a line.
-    fn remove(&mut self, place: usize, line: usize) {
-        let alloc = self.alloc;
-        let Some(line) = self.lines.get_mut(line) else {
-            return;
-        };
-        if let Some(index) = line.iter().position(|it| *it == place) {
-            line.remove(index);
-        }
-        if line.is_empty() && line.capacity() > MOST_KEPT {
-            *line = VecDeque::new(alloc);
-        }
+        remove(&mut self.lines, self.alloc, key.line(), place);
+        self.keys[place] = None;
+        count_less(&mut self.counts, key.word());
     }
 
     /// Notes that the queue of a slot was set or removed: the calls that are parked there are due.
@@ -204,6 +176,8 @@ impl Lines {
     fn note_line(&mut self, line: usize)
         ensures { NotesLine line self.old self.new }
     {
+        // (so that the proof knows what is true of the lines)
+        let _ = &self.alloc;
         for index in 0..self.len_of(line) {
             if let Some(place) = self.at(line, index) {
                 self.make_due(place, Why::RAISED);
@@ -212,7 +186,9 @@ impl Lines {
     }
 
     /// Returns the number of places in a line.
-    fn len_of(&self, line: usize) -> usize {
+    fn len_of(&self, line: usize) -> usize
+        ensures { result ≡ length (line_at self.now line) }
+    {
         match self.lines.get(line) {
             Some(line) => line.len(),
             None => 0,
@@ -260,7 +236,11 @@ impl Lines {
     }
 
     /// Returns the first of the places that are due, which is not in the queue any more.
-    fn first_due(&mut self) -> Option<usize> {
+    fn first_due(&mut self) -> Option<usize>
+        ensures same { self.new ≡ self.old }
+        ensures first { MatchOption result (NoneIsDue self.old)
+            (λ place. due (why_at self.old place) ≡ true) }
+    {
         for _ in 0..self.due.len() {
             let Some(place) = self.due.pop_front() else {
                 break;
@@ -269,11 +249,26 @@ impl Lines {
                 return Some(place);
             }
         }
-        (0..self.why.len()).find(|place| self.is_due(*place))
+        self.any_due()
+    }
+
+    /// Returns the least place that is due, if there is one.
+    fn any_due(&self) -> Option<usize>
+        ensures { MatchOption result (NoneIsDue self.now)
+            (λ place. due (why_at self.now place) ≡ true) }
+    {
+        for place in 0..self.why.len() {
+            if self.is_due(place) {
+                return Some(place);
+            }
+        }
+        None
     }
 
     /// Returns whether a place is due.
-    fn is_due(&self, place: usize) -> bool {
+    fn is_due(&self, place: usize) -> bool
+        ensures { result ≡ due (why_at self.now place) }
+    {
         match self.why.get(place) {
             Some(why) => why.is_due(),
             None => false,
@@ -283,15 +278,108 @@ impl Lines {
 
 /// Returns why a call that waits for this is due if its queue was set or removed: a set may make
 /// room on the queue.
-fn changed(key: Key) -> Why {
+fn changed(key: Key) -> Why
+    ensures { result ≡ why_changed key }
+{
     match key {
         Key::Room { .. } => Why::ALL,
         _ => Why::CHANGED,
     }
 }
 
+/// Appends the place to a line. Returns `false` if memory is refused, or there is no such line.
+fn append(lines: &mut Vec<VecDeque<usize>>, line: usize, place: usize) -> bool
+    ensures appended { result ≡ true → Appends line place (places_in lines.old) (places_in lines.new) }
+    ensures refused { result ≡ false → places_in lines.new ≡ places_in lines.old }
+{
+    match lines.get_mut(line) {
+        Some(line) => line.push_back(place).is_ok(),
+        None => false,
+    }
+}
+
+/// Removes the place from a line, if it is there.
+fn remove(lines: &mut Vec<VecDeque<usize>>, alloc: Global, line: usize, place: usize)
+    ensures { Removes line place (places_in lines.old) (places_in lines.new) }
+{
+    let Some(line) = lines.get_mut(line) else {
+        return;
+    };
+    take_out(line, place);
+    keep_less(line, alloc);
+}
+
+/// Takes the place out of a line, if it is there.
+fn take_out(line: &mut VecDeque<usize>, place: usize)
+    ensures { TakesOut place line.old.items line.new.items }
+{
+    if let Some(index) = index_in(line, place) {
+        line.remove(index);
+    }
+}
+
+/// Gives the memory of an empty line back if it is for more than `MOST_KEPT` places.
+fn keep_less(line: &mut VecDeque<usize>, alloc: Global)
+    ensures { line.new.items ≡ line.old.items }
+{
+    if line.is_empty() && line.capacity() > MOST_KEPT {
+        *line = VecDeque::new(alloc);
+    }
+}
+
+/// Returns the first index of the place in a line, if it is there.
+fn index_in(line: &VecDeque<usize>, place: usize) -> Option<usize>
+    ensures { MatchOption result (IsNowhere place line.now.items)
+        (λ index. IsAt place line.now.items index) }
+{
+    line.iter().position(|it| *it == place)
+}
+
+/// Counts one place more for a word.
+fn count_more(counts: &mut Vec<usize>, word: usize)
+    ensures { counts.new.items ≡ slice_set counts.old.items word
+        (bounded_sum (slice_index counts.old.items word) 1) }
+{
+    if let Some(count) = counts.get_mut(word) {
+        *count = count.saturating_add(1);
+    }
+}
+
+/// Counts one place less for a word.
+fn count_less(counts: &mut Vec<usize>, word: usize)
+    ensures { counts.new.items ≡ slice_set counts.old.items word
+        (slice_index counts.old.items word - 1) }
+{
+    if let Some(count) = counts.get_mut(word) {
+        *count = count.saturating_sub(1);
+    }
+}
+
+/// Returns no key for each place. Returns `None` if memory is refused.
+fn no_keys(alloc: Global, places: usize) -> Option<Vec<Option<Key>>>
+    ensures { IfSome result (λ keys. keys.items ≡ replicate places None) }
+{
+    vec![in alloc; None; places].ok()
+}
+
+/// Returns a count of no place for each word. Returns `None` if memory is refused.
+fn no_counts(alloc: Global) -> Option<Vec<usize>>
+    ensures { IfSome result (λ counts. counts.items ≡ replicate WORDS 0) }
+{
+    vec![in alloc; 0; WORDS].ok()
+}
+
+/// Returns that no place is due. Returns `None` if memory is refused.
+fn none_due(alloc: Global, places: usize) -> Option<Vec<Why>>
+    ensures { IfSome result (λ why. why.items ≡ replicate places not_due) }
+{
+    vec![in alloc; Why::NOT; places].ok()
+}
+
 /// Returns all lines, each of them empty. Returns `None` if memory is refused.
-fn empty_lines(alloc: Global) -> Option<Vec<VecDeque<usize>>> {
+fn empty_lines(alloc: Global) -> Option<Vec<VecDeque<usize>>>
+    ensures { IfSome result (λ lines. EachIsEmpty (places_in lines)) }
+{
     let mut lines = Vec::with_capacity(alloc, LINES).ok()?;
     for _ in 0..LINES {
         lines.push(VecDeque::new(alloc)).ok()?;
