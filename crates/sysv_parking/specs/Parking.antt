@@ -1,12 +1,8 @@
 -- The parked calls of a worker (this project's profile). A call is known by its place.
 use Rattle.std.specs.Prelude.{◌≡◌, ◌≢◌, ◌==◌, ℕ, Bool, true, false, not, List, [], Option, None, Some, cond, slice_get, slice_index_or}
-<<<<<<< HEAD
-use Rattle.std.specs.List.{filter}
 use Rattle.std.specs.Prelude.{refl}
-use Rattle.std.proofs.Common.{◌∙◌}
-=======
 use Rattle.std.specs.List.{count_by, filter}
->>>>>>> lines
+use Rattle.std.proofs.Common.{◌∙◌}
 use Rattle.sysv_lists.specs.Numbers.{times}
 use Rattle.sysv_parking.specs.declared.due.Why.{Why}
 use Rattle.sysv_parking.specs.declared.key.Key.{Key}
@@ -52,7 +48,15 @@ pub record MovesOnly (place : ℕ) (old new : Parking) : Type 0 where
   pub lines : (line : ℕ) → without place (line_at new line) ≡ without place (line_at old line)
   pub why : (other : ℕ) → other ≢ place → why_at new other ≡ why_at old other
 
-<<<<<<< HEAD
+-- Whether a call that waits for this is counted with those of the word.
+abbrev pub is_of_word : ℕ → Option Key → Bool
+is_of_word word None = false
+is_of_word word (Some key) = word_of key == word
+
+-- The number of places in the lines of a word.
+abbrev pub parked_at : Parking → ℕ → ℕ
+parked_at parking word = count_by (is_of_word word) parking.keys
+
 pub moves_none : (place : ℕ) (parking : Parking) → MovesOnly place parking parking
 moves_none place parking = record { keys = λ other ne. refl; lines = λ line. refl; why = λ other ne. refl }
 
@@ -63,13 +67,3 @@ moves_on place first second third one two = record {
   lines = λ line. two.lines line ∙ one.lines line;
   why = λ other ne. two.why other ne ∙ one.why other ne;
 }
-=======
--- Whether a call that waits for this is counted with those of the word.
-abbrev pub is_of_word : ℕ → Option Key → Bool
-is_of_word word None = false
-is_of_word word (Some key) = word_of key == word
-
--- The number of places in the lines of a word.
-abbrev pub parked_at : Parking → ℕ → ℕ
-parked_at parking word = count_by (is_of_word word) parking.keys
->>>>>>> lines
