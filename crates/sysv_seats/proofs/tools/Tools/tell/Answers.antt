@@ -1,6 +1,10 @@
 -- The notifications of a call are kept one after another.
-use Rattle.std.proofs.Common.{◌≡◌, ◌∙◌, List, ◌++◌, ap, append_assoc, arith, length, length-append, subst}
+use Rattle.std.proofs.Common.{◌≡◌, ◌∙◌, List, [], ◌∷◌, ◌++◌, ap, append_assoc, arith, length, length-append, subst}
+use Rattle.std.specs.Prelude.{if◌then◌else◌}
+use Rattle.std.specs.Option.{option_to_list}
 use Rattle.sysv_seats.specs.declared.notification.Notification.{Notification}
+use Rattle.sysv_seats.specs.declared.notification.Notification.TheVariants as notifications
+use Rattle.sysv_seats.specs.declared.notification.Told.{Told}
 use Rattle.sysv_seats.specs.declared.tools.Tools.{Tools}
 use Rattle.sysv_seats.specs.Notification.{Keeps, notifications_in}
 use Rattle.sysv_seats.proofs.tools.Tools.tell.Goals as goal
@@ -22,6 +26,18 @@ keeps_both some more old mid new first second = (
       two ∙ (ap (λ (l : List Notification). l ++ more) one ∙ append_assoc there some more),
 )
 
+abbrev released : Told → List Notification
+released told = if told.released then notifications.Released ∷ [] else []
+
+abbrev settled : Told → List Notification
+settled told = if told.settled then notifications.Settled ∷ [] else []
+
 pub returns : goal.returns
 returns c =
-    keeps_both _ _ _ _ _ c.keep_some.ensures (keeps_both _ _ _ _ _ c.keep_if.ensures c.keep_if-2.ensures)
+    let told = c.args.told in
+    let old : Tools = c.args.self.now in
+    let first : Tools = c.keep_some.new.self in
+    let second : Tools = c.keep_if.new.self in
+    let last : Tools = c.keep_if-2.new.self in
+    keeps_both (option_to_list told.there) (released told ++ settled told) old first last c.keep_some.ensures
+    (keeps_both (released told) (settled told) first second last c.keep_if.ensures c.keep_if-2.ensures)
