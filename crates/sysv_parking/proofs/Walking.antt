@@ -1,5 +1,7 @@
 -- A walk along a line of parked calls.
-use Rattle.std.proofs.Common.{◌≡◌, ◌≢◌, ◌∙◌, ◌==◌, ℕ, ℤ, zero, suc, ◌+◌, ◌<◌, ◌≤◌, ◌⊎◌, List, [], ◌∷◌, length, get_or, Option, None, Some, Bool, true, false, not, cond, zero-add, inl, inr, sym, ap, subst, refl, arith}
+use Rattle.std.proofs.Common.{◌≡◌, ◌≢◌, ◌∙◌, ◌==◌, ℕ, ℤ, zero, suc, ◌+◌, ◌<◌, ◌≤◌, ◌⊎◌, List, [], ◌∷◌, length, get_or}
+use Rattle.std.proofs.Common.{Option, None, Some, Bool, true, false, not, cond, zero-add, inl, inr, sym, ap, subst}
+use Rattle.std.proofs.Common.{refl, arith}
 use Rattle.std.specs.Prelude.{slice_get}
 use Rattle.std.specs.List.{filter}
 use Rattle.std.proofs.lemmas.Bool.{cases_eq}
@@ -66,7 +68,8 @@ without_before [] p j other = refl
 without_before (x ∷ xs) p zero other =
     ap (λ (b : Bool). get_or (cond (not b) (x ∷ without p xs) (without p xs)) 0 0) (differs x p (other 0 (omega arith)))
 without_before (x ∷ xs) p (suc j) other =
-    ap (λ (b : Bool). get_or (cond (not b) (x ∷ without p xs) (without p xs)) (suc j) 0) (differs x p (other 0 (omega arith)))
+    ap (λ (b : Bool). get_or (cond (not b) (x ∷ without p xs) (without p xs)) (suc j) 0)
+    (differs x p (other 0 (omega arith)))
     ∙ without_before xs p j (λ i le. other (suc i) (omega arith))
 
 past_end : (xs : List ℕ) (i : ℕ) → slice_get xs i ≡ None → length xs ≤ i
@@ -84,7 +87,8 @@ none_left now line slot mtype index in_lines over passed place key is at names =
     let one : in_line (Some key) line ≡ 1 = ap (λ (b : Bool). cond b 1 0) (equals (line_of key) line at) in
     let has : times place (line_at now line) ≡ 1 = once ∙ one in
     let found = has_index (line_at now line) place (omega arith) in
-    passed found.0 (let low = found.1 in let end = past_end (line_at now line) index over in omega arith) key (ap (λ (p : ℕ). key_at now p) found.2 ∙ is) names
+    passed found.0 (let low = found.1 in let end = past_end (line_at now line) index over in omega arith) key
+    (ap (λ (p : ℕ). key_at now p) found.2 ∙ is) names
 
 -- The calls before this index are none that request messages of this type.
 abbrev pub ArePassed : Parking → ℕ → ℕ → ℤ → ℕ → Type 0

@@ -11,7 +11,8 @@ use Rattle.sysv_rules.specs.Qualifies.{Qualifies}
 use Rattle.sysv_parking.specs.declared.key.Caller.{Caller}
 use Rattle.sysv_parking.specs.declared.key.Key.{Key}
 use Rattle.sysv_parking.specs.declared.key.Key.TheVariants.{Message, Room, Blocks, Settled}
-use Rattle.sysv_parking.specs.declared.key.TheConstants.{BLOCKS_LINE, SETTLED_LINE, SPREAD, SLOT_SPREAD, BLOCKS_WORD, SETTLED_WORD}
+use Rattle.sysv_parking.specs.declared.key.TheConstants.{BLOCKS_LINE, SETTLED_LINE, SPREAD, SLOT_SPREAD, BLOCKS_WORD}
+use Rattle.sysv_parking.specs.declared.key.TheConstants.{SETTLED_WORD}
 
 -- Whose call it is, unless it is a get.
 abbrev pub caller_of : Key → Option Caller

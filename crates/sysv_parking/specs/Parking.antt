@@ -1,5 +1,6 @@
 -- The parked calls of a worker (this project's profile). A call is known by its place.
-use Rattle.std.specs.Prelude.{◌≡◌, ◌≢◌, ◌==◌, ℕ, Bool, true, false, not, List, [], Option, None, Some, cond, slice_get, slice_index_or}
+use Rattle.std.specs.Prelude.{◌≡◌, ◌≢◌, ◌==◌, ℕ, Bool, true, false, not, List, [], Option, None, Some, cond, slice_get}
+use Rattle.std.specs.Prelude.{slice_index_or}
 use Rattle.std.specs.Prelude.{refl}
 use Rattle.std.specs.List.{count_by, filter}
 use Rattle.std.proofs.Common.{◌∙◌}

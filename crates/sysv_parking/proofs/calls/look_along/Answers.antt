@@ -1,5 +1,6 @@
 -- The walk passes calls that request no message of this type, and looks at the others.
-use Rattle.std.proofs.Common.{◌≡◌, ◌∙◌, ◌≤◌, ◌+◌, ℕ, ℤ, Option, None, Some, sym, ap, subst, arith, refl, to_z, of_z, w64, inr, Bool, true}
+use Rattle.std.proofs.Common.{◌≡◌, ◌∙◌, ◌≤◌, ◌+◌, ℕ, ℤ, Option, None, Some, sym, ap, subst, arith, refl, to_z, of_z}
+use Rattle.std.proofs.Common.{w64, inr, Bool, true}
 use Rattle.std.proofs.lemmas.Int.{to_z-of_z}
 use Rattle.sysv_parking.specs.declared.key.Key.{Key}
 use Rattle.sysv_parking.specs.Keys.{line_of}
@@ -34,7 +35,8 @@ loop-preserved-then-not-names g c =
       ends = c.loop.invariant.ends;
       passed = passed_more now c.args.line c.args.slot m c.loop.index c.in-Some.place there c.loop.invariant.passed
           c.saturating_add-index.result (omega arith)
-          (λ naming. absurd (let yes = c.names.ensures.1 (subst (λ (k : Option Key). IsNaming c.args.slot m k) (sym key) naming) in
+          (λ naming.
+          absurd (let yes = c.names.ensures.1 (subst (λ (k : Option Key). IsNaming c.args.slot m k) (sym key) naming) in
           let no = c.if-not-names.true in cc));
     }
 
@@ -57,6 +59,7 @@ loop-preserved g c =
       ends = ends_after now c.args.line c.args.slot m c.loop.index c.in-Some.place there c.loop.invariant.passed after
           naming c.look.ensures.moves over c.look.ensures.in_lines (g.C.Calls.parking c.args.calls.now)
           c.loop.invariant.ends;
-      passed = passed_after now c.args.line c.args.slot m c.loop.index c.in-Some.place there c.loop.invariant.passed after
+      passed =
+          passed_after now c.args.line c.args.slot m c.loop.index c.in-Some.place there c.loop.invariant.passed after
           naming c.look.ensures.moves over c.look.ensures.in_lines;
     }

@@ -1,5 +1,6 @@
 -- The place is put into the line of its key.
-use Rattle.std.proofs.Common.{◌≡◌, ◌≢◌, ◌∙◌, ◌<◌, ◌++◌, ◌∷◌, ℕ, None, Some, [], length, get_or, set, refl, sym, ap, subst, arith}
+use Rattle.std.proofs.Common.{◌≡◌, ◌≢◌, ◌∙◌, ◌<◌, ◌++◌, ◌∷◌, ℕ, None, Some, [], length, get_or, set, refl, sym, ap}
+use Rattle.std.proofs.Common.{subst, arith}
 use Rattle.std.proofs.lemmas.List.{length-map, length-set}
 use Rattle.sysv_lists.specs.Numbers.{times}
 use Rattle.sysv_parking.specs.Keys.{bounded_sum, line_of}
@@ -31,9 +32,14 @@ invariant_of-self-2 c = record {
   places = c.self.invariant.places ∙ sym (length-set c.self.inside.keys.items c.args.place (Some c.args.key));
   words = ap length c.count_more.ensures ∙ length-set c.self.inside.counts.items c.word.result
       (bounded_sum (get_or c.self.inside.counts.items c.word.result 0) 1) ∙ c.self.invariant.words;
-  counts = λ word. ap (λ ns. get_or ns word 0) (c.count_more.ensures ∙ ap (λ n. set c.self.inside.counts.items n (bounded_sum (get_or c.self.inside.counts.items n 0) 1)) c.word.ensures)
+  counts = λ word.
+      ap (λ ns. get_or ns word 0)
+      (c.count_more.ensures
+      ∙ ap (λ n. set c.self.inside.counts.items n (bounded_sum (get_or c.self.inside.counts.items n 0) 1))
+      c.word.ensures)
       ∙ counted_more c.self.inside.keys.items c.self.inside.counts.items c.args.place c.args.key (low c) (none c)
-      (omega (arith, c.self.inside.keys.ok, c.self.inside.keys.small)) c.self.invariant.words c.self.invariant.counts word;
+      (omega (arith, c.self.inside.keys.ok, c.self.inside.keys.small)) c.self.invariant.words c.self.invariant.counts
+      word;
   due = c.self.invariant.due;
 }
 
@@ -42,7 +48,8 @@ returns-clause-moves c = record {
   keys = λ other differ. set_elsewhere c.self.inside.keys.items c.args.place other (Some c.args.key) None differ
       ∙ ap (λ (p : Parking). key_at p other) c.self.view_is;
   lines = λ line. ap (λ ls. without c.args.place (get_or ls line [])) (appends c).lines
-      ∙ entered_without c.self.inside.keys.items (places_in c.self.inside.lines) c.args.place c.args.key line (appends c).there
+      ∙ entered_without c.self.inside.keys.items (places_in c.self.inside.lines) c.args.place c.args.key line
+      (appends c).there
       ∙ ap (λ (p : Parking). without c.args.place (line_at p line)) c.self.view_is;
   why = λ other differ. ap (λ (p : Parking). why_at p other) c.self.view_is;
 }

@@ -21,12 +21,16 @@ module _ (c : goal.After-count_less) where
 pub invariant_of-self : goal.invariant_of-self
 invariant_of-self c = record {
   in_lines = left_in_lines c.self.inside.keys.items (places_in c.self.inside.lines) (places_in c.remove.new.lines)
-      c.args.place c.in-Some.key (removes c) (within c.self.inside.keys.items c.args.place c.in-Some.key (some c)) (some c)
+      c.args.place c.in-Some.key (removes c) (within c.self.inside.keys.items c.args.place c.in-Some.key (some c))
+      (some c)
       c.self.invariant.in_lines;
   places = c.self.invariant.places ∙ sym (length-set c.self.inside.keys.items c.args.place None);
   words = ap length c.count_less.ensures ∙ length-set c.self.inside.counts.items c.word.result
       (get_or c.self.inside.counts.items c.word.result 0 - 1) ∙ c.self.invariant.words;
-  counts = λ word. ap (λ ns. get_or ns word 0) (c.count_less.ensures ∙ ap (λ n. set c.self.inside.counts.items n (get_or c.self.inside.counts.items n 0 - 1)) c.word.ensures)
+  counts = λ word.
+      ap (λ ns. get_or ns word 0)
+      (c.count_less.ensures
+      ∙ ap (λ n. set c.self.inside.counts.items n (get_or c.self.inside.counts.items n 0 - 1)) c.word.ensures)
       ∙ counted_less c.self.inside.keys.items c.self.inside.counts.items c.args.place c.in-Some.key
       (within c.self.inside.keys.items c.args.place c.in-Some.key (some c)) (some c)
       c.self.invariant.words c.self.invariant.counts word;

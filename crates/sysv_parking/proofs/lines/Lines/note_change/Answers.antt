@@ -15,11 +15,15 @@ loop-place-init c = slot_none c.args.slot c.args.self.now c.args.self.now refl
 pub loop-place-preserved : goal.loop-place-preserved
 loop-place-preserved c =
     let is : key_at c.args.self.now c.loop-place.place ≡ Some c.in-Some.key =
-    ap (λ ks. get_or ks c.loop-place.place None) (sym c.loop-place.invariant.keys) ∙ sym c.key.ensures.key ∙ c.in-Some.is in
+    ap (λ ks. get_or ks c.loop-place.place None) (sym c.loop-place.invariant.keys) ∙ sym c.key.ensures.key
+    ∙ c.in-Some.is in
     elim c.if-is_at.branch [
       | then-is_at w ↦ rw w.self-is (slot_more c.args.slot c.loop-place.place c.in-Some.key c.args.self.now
           c.loop-place.self w.make_due.new.self w.make_due.ensures.same.0 w.make_due.ensures.same.1
-          (w.make_due.ensures.why ∙ ap (λ m. set c.loop-place.self.why c.loop-place.place (both (why_at c.loop-place.self c.loop-place.place) m)) w.changed.ensures)
+          (w.make_due.ensures.why
+          ∙ ap (λ m.
+          set c.loop-place.self.why c.loop-place.place (both (why_at c.loop-place.self c.loop-place.place) m))
+          w.changed.ensures)
           is (c.is_at.ensures.0 w.if-is_at.true) c.loop-place.invariant)
       | else-is_at w ↦ rw w.self-is (slot_keep c.args.slot c.loop-place.place c.args.self.now c.loop-place.self
           (λ key some at. let same : c.in-Some.key ≡ key = cc (is, some) in

@@ -14,9 +14,11 @@ pub loop-place-preserved : goal.loop-place-preserved
 loop-place-preserved c = elim c.if-is_some.branch [
   | then-is_some w ↦ rw w.self-is (all_more c.loop-place.place c.args.self.now c.loop-place.self w.make_due.new.self
       (both (why_at c.loop-place.self c.loop-place.place) by_all) w.make_due.ensures.same.0
-      w.make_due.ensures.same.1 w.make_due.ensures.why (all_twice (why_at c.loop-place.self c.loop-place.place)) c.loop-place.invariant)
+      w.make_due.ensures.same.1 w.make_due.ensures.why (all_twice (why_at c.loop-place.self c.loop-place.place))
+      c.loop-place.invariant)
   | else-is_some w ↦ rw w.self-is (all_keep c.loop-place.place c.args.self.now c.loop-place.self
-      (ap (λ ks. get_or ks c.loop-place.place None) (sym c.loop-place.invariant.keys) ∙ sym c.key.ensures.key ∙ is_none c.key.result (sym c.is_some.ensures ∙ w.if-is_some.false))
+      (ap (λ ks. get_or ks c.loop-place.place None) (sym c.loop-place.invariant.keys) ∙ sym c.key.ensures.key
+      ∙ is_none c.key.result (sym c.is_some.ensures ∙ w.if-is_some.false))
       c.loop-place.invariant)
 ]
 

@@ -12,7 +12,8 @@ loop-index-init c = line_none c.args.line c.args.self.now c.args.self.now refl
 
 module _ (c : goal.Joined-at) where
   is : item_at (line_at c.args.self.now c.args.line) c.loop-index.index ≡ c.at.result
-  is = ap (λ ls. item_at (get_or ls c.args.line []) c.loop-index.index) (sym c.loop-index.invariant.lines) ∙ sym c.at.ensures.item
+  is = ap (λ ls. item_at (get_or ls c.args.line []) c.loop-index.index) (sym c.loop-index.invariant.lines)
+      ∙ sym c.at.ensures.item
 
 pub loop-index-preserved : goal.loop-index-preserved
 loop-index-preserved c = elim c.match-at.branch [
@@ -24,4 +25,5 @@ loop-index-preserved c = elim c.match-at.branch [
 ]
 
 pub returns : goal.returns
-returns c = line_noted c.args.line c.loop-index.index c.args.self.now c.loop-index.self (omega arith) c.loop-index.invariant
+returns c =
+    line_noted c.args.line c.loop-index.index c.args.self.now c.loop-index.self (omega arith) c.loop-index.invariant
