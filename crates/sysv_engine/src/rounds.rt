@@ -66,7 +66,7 @@ impl<'a, 'c, R: Wait, T: NonBlocking + Drop, W: Watch<T>> Job<Worker<'a, R, T, W
 
 impl<'a, 'b, 'c, R: Wait, T: NonBlocking, W: Watch<T>> Calls<Serving<'b, 'c, R>>
     for Worker<'a, R, T, W> {
-    ghost use Rattle.std.specs.Prelude.{⊤, tt};
+    ghost use Rattle.std.specs.Prelude.{⊤};
     ghost use Rattle.sysv_parking.specs.Lines.{Takes};
 
     ghost keeps = { λ old new. KeepsAll T.incoming T.outgoing T.closes old.places.items
@@ -77,11 +77,18 @@ impl<'a, 'b, 'c, R: Wait, T: NonBlocking, W: Watch<T>> Calls<Serving<'b, 'c, R>>
     // (what was looked at is not kept)
     ghost looked = { λ worker place key found. ⊤ };
 
-    fn lines(&self) -> &Lines {
+    fn lines(&self) -> &Lines
+        ensures { result.now ≡ self.now.lines }
+    {
         &self.lines
     }
 
-    fn take_due(&mut self) -> Option<(usize, Why)> {
+    fn take_due(&mut self) -> Option<(usize, Why)>
+        ensures takes { Takes result self.old.lines self.new.lines }
+        ensures looked { ⊤ }
+        ensures keeps { KeepsAll T.incoming T.outgoing T.closes self.old.places.items
+            self.new.places.items }
+    {
         self.lines.take_due()
     }
 
