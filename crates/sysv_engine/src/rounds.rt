@@ -1,5 +1,5 @@
 //! The event loop of a worker.
-ghost use Rattle.std.specs.Prelude.{◌≡◌, ◌⊎◌, None};
+ghost use Rattle.std.specs.Prelude.{◌≡◌, ◌⊎◌, None, Some, true};
 ghost use Rattle.sysv_parking.specs.Parking.{AreInLines, MovesOnly, key_at};
 ghost use Rattle.sysv_engine.specs.Heeding.{Heeds};
 ghost use Rattle.sysv_engine.specs.Places.{IsVacantAt, KeepsAll};
@@ -818,7 +818,17 @@ fn found(before: Option<Key>, after: Option<Key>, has_taken: bool) -> Found
     match after {
         None if has_taken => Found::Message,
         None => Found::Over,
-        Some(_) if after == before => Found::Nothing,
+        Some(key) if is_for(before, key) => Found::Nothing,
         Some(_) => Found::Else,
+    }
+}
+
+/// Returns whether a call waited for this.
+fn is_for(before: Option<Key>, key: Key) -> bool
+    ensures { result ≡ true → before ≡ Some key }
+{
+    match before {
+        Some(before) => before == key,
+        None => false,
     }
 }

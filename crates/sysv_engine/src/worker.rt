@@ -189,7 +189,7 @@ impl<'a, R: Wait, T: NonBlocking, W: Watch<T>> Worker<'a, R, T, W> {
     /// Counts an envelope that this worker writes. Returns whose turn it is to look first, counted
     /// on from turn to turn, or `None` for its own.
     pub(crate) fn next_first(&mut self) -> Option<usize>
-        ensures { self.new.places ≡ self.old.places }
+        ensures { (self.new.places ≡ self.old.places) × (self.new.lines ≡ self.old.lines) }
     {
         self.messages = self.messages.wrapping_add(1);
         turn(self.messages, SHARE_OF_MESSAGES)
@@ -197,7 +197,7 @@ impl<'a, R: Wait, T: NonBlocking, W: Watch<T>> Worker<'a, R, T, W> {
 
     /// Counts a change that this worker heeds. Returns whether other workers heed it first.
     pub(crate) fn is_last(&mut self) -> bool
-        ensures { self.new.places ≡ self.old.places }
+        ensures { (self.new.places ≡ self.old.places) × (self.new.lines ≡ self.old.lines) }
     {
         self.changed = self.changed.wrapping_add(1);
         turn(self.changed, SHARE_OF_CHANGES).is_some()
@@ -205,14 +205,14 @@ impl<'a, R: Wait, T: NonBlocking, W: Watch<T>> Worker<'a, R, T, W> {
 
     /// Begins a round: the worker may make as many looks again.
     pub(crate) fn begin_looks(&mut self)
-        ensures { self.new.places ≡ self.old.places }
+        ensures { (self.new.places ≡ self.old.places) × (self.new.lines ≡ self.old.lines) }
     {
         self.looks = LOOKS;
     }
 
     /// Allows the looks that the requests of a client's turn may need.
     pub(crate) fn allow_looks(&mut self)
-        ensures { self.new.places ≡ self.old.places }
+        ensures { (self.new.places ≡ self.old.places) × (self.new.lines ≡ self.old.lines) }
     {
         self.looks = self.looks.saturating_add(LOOKS);
     }
