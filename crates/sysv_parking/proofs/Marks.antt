@@ -1,6 +1,6 @@
 -- Which calls are due as a loop over the places, or over a line, makes them due.
 use Rattle.std.proofs.Common.{◌≡◌, ◌≢◌, ◌∙◌, ℕ, ◌+◌, ◌<◌, ◌≤◌, ◌==◌, ◌||◌, cond, Bool, false, true, List, Option, None, Some, length, get_or, set, take, refl, sym, ap, arith, subst, inl, inr, get_or-set_same, get_or-set_other}
-use Rattle.std.proofs.lemmas.Bool.{cases_eq, cases_lt, eq-eqb, ne_eqb}
+use Rattle.std.proofs.lemmas.Bool.{cases_eq, cases_lt, eq-eqb, false≢true, ne_eqb}
 use Rattle.std.proofs.lemmas.List.{get_or_past, length-set, set_past, take_all}
 use Rattle.std.proofs.lemmas.Option.{get_or_from_slice_get, slice_get-get_or, slice_get_within}
 use Rattle.std.proofs.lemmas.List.Sums.{sum_by_more, sum_by-take-le}
@@ -13,12 +13,13 @@ use Rattle.sysv_parking.specs.Keys.{line_of, slot_in}
 use Rattle.sysv_parking.specs.Parking.{AreInLines, Parking, in_line, item_at, key_at, line_at, why_at}
 use Rattle.sysv_parking.specs.Lines.{NotesAll, NotesChange, NotesLine}
 
--- Each call whose place is below this one is due.
+-- Each call whose place is below this one is due. No other place is due for more reasons.
 pub record MarksAll (place : ℕ) (old new : Parking) : Type 0 where
   pub keys : new.keys ≡ old.keys
   pub lines : new.lines ≡ old.lines
   pub long : length new.why ≡ length old.keys
   pub there : (other : ℕ) (key : Key) → other < place → key_at old other ≡ Some key → why_at new other ≡ by_all
+  pub elsewhere : (other : ℕ) → key_at old other ≡ None → why_at new other ≡ why_at old other
 
 -- Each call at the slot whose place is below this one is due. No other call is due for more reasons.
 pub record MarksSlot (slot place : ℕ) (old new : Parking) : Type 0 where
@@ -62,6 +63,7 @@ all_none old new same long = record {
   lines = ap (λ p. p.lines) same;
   long = ap (λ p. length p.why) same ∙ long;
   there = λ other key less some. absurd (omega arith);
+  elsewhere = λ other none. ap (λ p. why_at p other) same;
 }
 
 pub all_keep : (place : ℕ) (old new : Parking) → key_at old place ≡ None → MarksAll place old new → MarksAll (place + 1) old new
@@ -73,11 +75,13 @@ all_keep place old new none marks = record {
     | inl same ↦ let e : key_at old other ≡ None = ap (key_at old) same ∙ none in absurd (cc (e, some))
     | inr differ ↦ marks.there other key (omega arith) some
   ];
+  elsewhere = marks.elsewhere;
 }
 
 pub all_more : (place : ℕ) (old new newer : Parking) (why : Why) → newer.keys ≡ new.keys → newer.lines ≡ new.lines →
-    newer.why ≡ set new.why place why → why ≡ by_all → MarksAll place old new → MarksAll (place + 1) old newer
-all_more place old new newer why keys lines whys all marks = record {
+    newer.why ≡ set new.why place why → why ≡ by_all → is_some (key_at old place) ≡ true → MarksAll place old new →
+    MarksAll (place + 1) old newer
+all_more place old new newer why keys lines whys all has marks = record {
   keys = keys ∙ marks.keys;
   lines = lines ∙ marks.lines;
   long = ap length whys ∙ length-set new.why place why ∙ marks.long;
@@ -90,6 +94,11 @@ all_more place old new newer why keys lines whys all marks = record {
         ap (λ ws. get_or ws other not_due) whys ∙ marked_there new.why place other why differ
         ∙ marks.there other key (omega arith) some
   ];
+  elsewhere = λ other none.
+    ap (λ ws. get_or ws other not_due) whys
+    ∙ marked_there new.why place other why
+      (λ same. false≢true (sym (ap is_some (sym (ap (key_at old) same) ∙ none)) ∙ has))
+    ∙ marks.elsewhere other none;
 }
 
 pub all_noted : (place : ℕ) (old new : Parking) → length old.keys ≤ place → MarksAll place old new → NotesAll old new
@@ -97,6 +106,7 @@ all_noted place old new past marks = record {
   keys = marks.keys;
   lines = marks.lines;
   there = λ other key some. let w = within old.keys other key some in marks.there other key (omega arith) some;
+  elsewhere = marks.elsewhere;
 }
 
 pub slot_none : (slot : ℕ) (old new : Parking) → new ≡ old → length old.why ≡ length old.keys → MarksSlot slot 0 old new

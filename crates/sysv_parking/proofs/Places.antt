@@ -1,7 +1,7 @@
 -- The places in the lines of parked calls, as one is put into a line or taken out.
 use Rattle.std.proofs.Common.{◌≡◌, ◌≢◌, ◌∙◌, ℕ, ◌+◌, ◌*◌, ◌<◌, ◌≤◌, ◌==◌, cond, not, Bool, true, false, List, [], ◌∷◌, ◌++◌, Option, None, Some, length, map, get_or, set, take, drop, zero, suc, refl, sym, ap, arith, subst, inl, inr, get_or-set_same, get_or-set_other, drop-cons}
 use Rattle.std.specs.List.{count_by, filter, remove}
-use Rattle.std.proofs.lemmas.Bool.{cases_eq, cases_lt, eq-eqb, ne_eqb}
+use Rattle.std.proofs.lemmas.Bool.{cases_Bool, cases_eq, cases_lt, eq-eqb, ne_eqb}
 use Rattle.std.proofs.lemmas.List.{append-nil, get_or-map, get_or-replicate, get_or_past, length-map, length-replicate, map-set, set-get_or, take-append-drop}
 use Rattle.std.specs.Option.{OnSome}
 use Rattle.std.specs.Prelude.{replicate}
@@ -234,3 +234,15 @@ none_counted why n is = let e : count_by is_due why ≡ n * 0 =
 
 pub set_elsewhere : {A : Type 0} (xs : List A) (i j : ℕ) (new d : A) → j ≢ i → get_or (set xs i new) j d ≡ get_or xs j d
 set_elsewhere xs i j new d differ = get_or-set_other xs i j new d differ
+
+-- A place is due if any is counted.
+pub some_counted : (why : List Why) → 0 < count_by is_due why → (place : ℕ) × (is_due (get_or why place not_due) ≡ true)
+some_counted [] some = absurd (omega arith)
+some_counted (w ∷ why) some = elim (cases_Bool (is_due w)) [
+  inl this ↦ (0, this) |
+  inr other ↦
+    let e = sum_by-cons (λ (x : Why). cond {A = ℕ} (is_due x) 1 0) w why in
+    let z : cond {A = ℕ} (is_due w) 1 0 ≡ 0 = ap (λ (b : Bool). cond {A = ℕ} b 1 0) other in
+    let rest = some_counted why (omega arith) in
+    (suc rest.0, rest.1)
+]

@@ -48,7 +48,7 @@ impl Model for Lines {
 }
 
 impl Lines {
-    ghost use Rattle.sysv_parking.specs.Lines.{AreEmpty, Enters, NoneIsDue, NotesAll, NotesChange, NotesLine, OnlyMakesDue, Takes};
+    ghost use Rattle.sysv_parking.specs.Lines.{AreEmpty, Enters, NoneIsDue, NotesAll, NotesChange, NotesLine, SomeIsDue, Takes};
 
     /// Allocates empty lines for this number of places. Returns `None` if memory is refused.
     pub fn open(alloc: Global, places: usize) -> Option<Lines>
@@ -196,7 +196,8 @@ impl Lines {
 
     /// Returns whether a place is due.
     pub fn has_due(&self) -> bool
-        ensures { result ≡ false → NoneIsDue self.now }
+        ensures none { result ≡ false → NoneIsDue self.now }
+        ensures some { result ≡ true → SomeIsDue self.now }
     {
         self.due_count > 0
     }
