@@ -1,7 +1,7 @@
 -- Which calls are due as a loop over the places, or over a line, makes them due.
-use Rattle.std.proofs.Common.{◌≡◌, ◌≢◌, ◌∙◌, ℕ, ◌+◌, ◌<◌, ◌≤◌, ◌==◌, ◌||◌, cond, Bool, false, true, List, Option, None, Some, length, get_or, set, take, refl, sym, ap, arith, subst, inl, inr, get_or-set_same, get_or-set_other}
+use Rattle.std.proofs.Common.{◌≡◌, ◌≢◌, ◌∙◌, ℕ, ◌+◌, ◌<◌, ◌≤◌, ◌==◌, ◌||◌, cond, Bool, false, true, List, Option, None, Some, length, get_or, set, take, refl, sym, ap, arith, inl, inr, get_or-set_same, get_or-set_other}
 use Rattle.std.proofs.lemmas.Bool.{cases_eq, cases_lt, eq-eqb, false≢true, ne_eqb}
-use Rattle.std.proofs.lemmas.List.{get_or_past, length-set, set_past, take_all}
+use Rattle.std.proofs.lemmas.List.{get_or_past, length-set, take_all}
 use Rattle.std.proofs.lemmas.Option.{get_or_from_slice_get, slice_get-get_or, slice_get_within}
 use Rattle.std.proofs.lemmas.List.Sums.{sum_by_more, sum_by-take-le}
 use Rattle.std.specs.Prelude.{is_some}
@@ -43,14 +43,16 @@ pub record MarksLine (line index : ℕ) (old new : Parking) : Type 0 where
   pub elsewhere : (other : ℕ) → times other (take index (line_at old line)) ≡ 0 → why_at new other ≡ why_at old other
 
 -- A place with a key is within the places.
-pub within : (keys : List (Option Key)) (place : ℕ) (key : Key) → get_or keys place None ≡ Some key → place < length keys
+pub within : (keys : List (Option Key)) (place : ℕ) (key : Key) → get_or keys place None ≡ Some key →
+    place < length keys
 within keys place key some = elim (cases_lt place (length keys)) [
   | inl low ↦ low
   | inr past ↦ let none = get_or_past keys place None past in absurd (cc (none, some))
 ]
 
 -- What one place is due for after one was made due.
-pub marked_here : (why : List Why) (place : ℕ) (new : Why) → place < length why → get_or (set why place new) place not_due ≡ new
+pub marked_here : (why : List Why) (place : ℕ) (new : Why) → place < length why →
+    get_or (set why place new) place not_due ≡ new
 marked_here why place new low = get_or-set_same why place new not_due low
 
 pub marked_there : (why : List Why) (place other : ℕ) (new : Why) → other ≢ place →
@@ -66,7 +68,8 @@ all_none old new same long = record {
   elsewhere = λ other none. ap (λ p. why_at p other) same;
 }
 
-pub all_keep : (place : ℕ) (old new : Parking) → key_at old place ≡ None → MarksAll place old new → MarksAll (place + 1) old new
+pub all_keep : (place : ℕ) (old new : Parking) → key_at old place ≡ None → MarksAll place old new →
+    MarksAll (place + 1) old new
 all_keep place old new none marks = record {
   keys = marks.keys;
   lines = marks.lines;
@@ -87,7 +90,9 @@ all_more place old new newer why keys lines whys all has marks = record {
   long = ap length whys ∙ length-set new.why place why ∙ marks.long;
   there = λ other key less some. elim (cases_eq other place) [
     | inl same ↦
-        let low : place < length new.why = let w = within old.keys other key some in let e = marks.long in omega arith in
+        let w = within old.keys other key some in
+        let long = marks.long in
+        let low : place < length new.why = omega arith in
         ap (λ ws. get_or ws other not_due) whys ∙ ap (λ n. get_or (set new.why place why) n not_due) same
         ∙ marked_here new.why place why low ∙ all
     | inr differ ↦
@@ -95,10 +100,10 @@ all_more place old new newer why keys lines whys all has marks = record {
         ∙ marks.there other key (omega arith) some
   ];
   elsewhere = λ other none.
-    ap (λ ws. get_or ws other not_due) whys
-    ∙ marked_there new.why place other why
+      ap (λ ws. get_or ws other not_due) whys
+      ∙ marked_there new.why place other why
       (λ same. false≢true (sym (ap is_some (sym (ap (key_at old) same) ∙ none)) ∙ has))
-    ∙ marks.elsewhere other none;
+      ∙ marks.elsewhere other none;
 }
 
 pub all_noted : (place : ℕ) (old new : Parking) → length old.keys ≤ place → MarksAll place old new → NotesAll old new
@@ -145,9 +150,12 @@ slot_more slot place key old new newer keys lines whys is at marks =
       long = ap length whys ∙ length-set new.why place (both (why_at new place) (why_changed key)) ∙ marks.long;
       there = λ other key' less some at'. elim (cases_eq other place) [
         | inl same ↦
-            let low : place < length new.why = let w = within old.keys place key is in let e = marks.long in omega arith in
+            let w = within old.keys place key is in
+            let long = marks.long in
+            let low : place < length new.why = omega arith in
             let alike : key ≡ key' = let e = ap (key_at old) same in cc (is, some, e) in
-            ap (λ ws. get_or ws other not_due) whys ∙ ap (λ n. get_or (set new.why place (both (why_at new place) (why_changed key))) n not_due) same
+            ap (λ ws. get_or ws other not_due) whys
+            ∙ ap (λ n. get_or (set new.why place (both (why_at new place) (why_changed key))) n not_due) same
             ∙ marked_here new.why place (both (why_at new place) (why_changed key)) low
             ∙ ap (λ w. both w (why_changed key)) (marks.later place (omega arith) ∙ sym (ap (why_at old) same))
             ∙ ap (λ k. both (why_at old other) (why_changed k)) alike
@@ -265,8 +273,8 @@ line_keep line index old new none marks =
       lines = marks.lines;
       long = marks.long;
       in_lines = marks.in_lines;
-      there = λ other one. let e : times other (take (index + 1) (line_at old line)) ≡ times other (take index (line_at old line)) = ap (times other) same in marks.there other (omega arith);
-      elsewhere = λ other zero. let e : times other (take (index + 1) (line_at old line)) ≡ times other (take index (line_at old line)) = ap (times other) same in marks.elsewhere other (omega arith);
+      there = λ other one. let e = ap (times other) same in marks.there other (omega (arith, e));
+      elsewhere = λ other zero. let e = ap (times other) same in marks.elsewhere other (omega (arith, e));
     }
 
 pub line_more : (line index place : ℕ) (old new newer : Parking) → newer.keys ≡ new.keys →

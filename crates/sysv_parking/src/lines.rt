@@ -289,7 +289,8 @@ fn changed(key: Key) -> Why
 
 /// Appends the place to a line. Returns `false` if memory is refused, or there is no such line.
 fn append(lines: &mut Vec<VecDeque<usize>>, line: usize, place: usize) -> bool
-    ensures appended { result ≡ true → Appends line place (places_in lines.old) (places_in lines.new) }
+    ensures appended { result ≡ true
+        → Appends line place (places_in lines.old) (places_in lines.new) }
     ensures refused { result ≡ false → places_in lines.new ≡ places_in lines.old }
 {
     match lines.get_mut(line) {

@@ -2,8 +2,6 @@
 use Rattle.std.proofs.Common.{◌<◌, arith, subst}
 use Rattle.std.proofs.lemmas.Bool.{ltb-true}
 use Rattle.sysv_parking.specs.Lines.{SomeIsDue}
-use Rattle.sysv_parking.specs.Parking.{Parking}
-use Rattle.sysv_parking.specs.Due.{is_due}
 use Rattle.sysv_parking.proofs.Places.{some_counted}
 use Rattle.sysv_parking.proofs.lines.Lines.has_due.Goals as goal
 

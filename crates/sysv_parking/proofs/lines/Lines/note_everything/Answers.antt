@@ -1,5 +1,5 @@
 -- Each place is passed, and made due if it has a key.
-use Rattle.std.proofs.Common.{◌≡◌, ◌∙◌, None, Some, length, get_or, refl, sym, ap, arith}
+use Rattle.std.proofs.Common.{◌≡◌, ◌∙◌, None, length, get_or, refl, sym, ap, arith}
 use Rattle.std.specs.Prelude.{is_some}
 use Rattle.sysv_parking.specs.Due.{both, by_all}
 use Rattle.sysv_parking.specs.Parking.{key_at, why_at}
@@ -19,7 +19,9 @@ pub loop-place-preserved : goal.loop-place-preserved
 loop-place-preserved c = elim c.if-is_some.branch [
   | then-is_some w ↦ rw w.self-is (all_more c.loop-place.place c.args.self.now c.loop-place.self w.make_due.new.self
       (both (why_at c.loop-place.self c.loop-place.place) by_all) w.make_due.ensures.same.0
-      w.make_due.ensures.same.1 w.make_due.ensures.why (all_twice (why_at c.loop-place.self c.loop-place.place)) (ap is_some (is c) ∙ sym c.is_some.ensures ∙ w.if-is_some.true) c.loop-place.invariant)
+      w.make_due.ensures.same.1 w.make_due.ensures.why (all_twice (why_at c.loop-place.self c.loop-place.place))
+      (ap is_some (is c) ∙ sym c.is_some.ensures ∙ w.if-is_some.true)
+      c.loop-place.invariant)
   | else-is_some w ↦ rw w.self-is (all_keep c.loop-place.place c.args.self.now c.loop-place.self
       (is c ∙ is_none c.key.result (sym c.is_some.ensures ∙ w.if-is_some.false))
       c.loop-place.invariant)
