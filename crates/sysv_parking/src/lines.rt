@@ -52,7 +52,9 @@ impl Lines {
 
     /// Allocates empty lines for this number of places. Returns `None` if memory is refused.
     pub fn open(alloc: Global, places: usize) -> Option<Lines>
-        ensures { IfSome result AreEmpty }
+        ensures empty { IfSome result AreEmpty }
+        ensures places { IfSome result (λ lines. (length lines.keys ≡ places)
+            × (length lines.why ≡ places)) }
     {
         Some(Lines {
             alloc,
