@@ -98,7 +98,10 @@ client_send T B ghosts t = view_send (client_inside.the_row T B ghosts) _ _ _ _
                     search crossing depth 10,
                     (
                       search crossing depth 10,
-                      (search crossing depth 10, (search crossing depth 10, (search crossing depth 10, tt))),
+                      (
+                        search crossing depth 10,
+                        (search crossing depth 10, (search crossing depth 10, (search crossing depth 10, tt))),
+                      ),
                     ),
                   ),
                 ),
@@ -178,8 +181,11 @@ worker_send l R T W B ghosts r t w b =
                             (
                               options.the_send _ moment_send,
                               (
-                                search (crossing, spinning_send) depth 30,
-                                (search crossing depth 10, (search crossing depth 10, tt)),
+                                options.the_send _ moment_send,
+                                (
+                                  search (crossing, spinning_send) depth 30,
+                                  (search crossing depth 10, (search crossing depth 10, tt)),
+                                ),
                               ),
                             ),
                           ),

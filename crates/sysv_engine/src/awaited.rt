@@ -19,6 +19,7 @@ pub(crate) fn key_of(waiting: &Waiting, length: usize) -> Key {
             caller: caller(wait.receive.id, wait.receive.cred),
             selector: wait.receive.selector,
         },
+        Waiting::Get(_) => Key::Settled,
     }
 }
 

@@ -244,6 +244,14 @@ impl<'a, R: Wait, T: NonBlocking> Place<'a, R, T> {
         self.handler.blocks_in_use()
     }
 
+    /// Returns whether the client may have more bytes to read, although nothing reports them.
+    pub(crate) fn may_hold_more(&self) -> bool {
+        match &self.client {
+            Some(client) => client.may_hold_more(),
+            None => false,
+        }
+    }
+
     /// Returns whether there is a client.
     pub(crate) fn is_taken(&self) -> bool
         ensures { result ≡ is_some self.now.client }

@@ -1,5 +1,7 @@
 //! The event loop of a worker.
-ghost use Rattle.std.specs.Prelude.{◌≡◌};
+ghost use Rattle.std.specs.Prelude.{◌≡◌, ◌⊎◌, None};
+ghost use Rattle.sysv_parking.specs.Parking.{AreInLines, MovesOnly, key_at};
+ghost use Rattle.sysv_engine.specs.Heeding.{Heeds};
 ghost use Rattle.sysv_engine.specs.Places.{IsVacantAt, KeepsAll};
 
 use crate::changes::{Change, Changes};
@@ -12,8 +14,8 @@ use crate::worker::{Worker, sooner};
 use std::alloc::Global;
 use std::sync::Wait;
 use sysv_parking::{
-    BLOCKS_WORD, Calls, Found, Lines, LookedFor, SETTLED_WORD, Why, look_at_due, look_for_message,
-    room_word,
+    BLOCKS_WORD, Calls, Found, Key, Lines, LookedFor, SETTLED_WORD, Why, look_at_due,
+    look_for_message, room_word,
 };
 use sysv_seats::{NonBlocking, Notification};
 use sysv_service::Service;
@@ -64,8 +66,16 @@ impl<'a, 'c, R: Wait, T: NonBlocking + Drop, W: Watch<T>> Job<Worker<'a, R, T, W
 
 impl<'a, 'b, 'c, R: Wait, T: NonBlocking, W: Watch<T>> Calls<Serving<'b, 'c, R>>
     for Worker<'a, R, T, W> {
+    ghost use Rattle.std.specs.Prelude.{⊤, tt};
+    ghost use Rattle.sysv_parking.specs.Lines.{Takes};
+
     ghost keeps = { λ old new. KeepsAll T.incoming T.outgoing T.closes old.places.items
         new.places.items };
+
+    ghost parking = { λ worker. worker.lines };
+
+    // (what was looked at is not kept)
+    ghost looked = { λ worker place key found. ⊤ };
 
     fn lines(&self) -> &Lines {
         &self.lines
@@ -79,7 +89,18 @@ impl<'a, 'b, 'c, R: Wait, T: NonBlocking, W: Watch<T>> Calls<Serving<'b, 'c, R>>
         self.looks > 0
     }
 
-    fn look(&mut self, by: &Serving<'b, 'c, R>, place: usize, mtype: i64) -> Found {
+    fn look(&mut self, by: &Serving<'b, 'c, R>, place: usize, mtype: i64) -> Found
+        ensures look { ⊤ }
+        ensures looked { ⊤ }
+        ensures moves { MovesOnly place self.old.lines self.new.lines }
+        ensures in_lines { AreInLines self.new.lines }
+        ensures waits { result ≡ Found.Nothing
+            → key_at self.new.lines place ≡ key_at self.old.lines place }
+        ensures over { (result ≡ Found.Message) ⊎ (result ≡ Found.Over)
+            → key_at self.new.lines place ≡ None }
+        ensures keeps { KeepsAll T.incoming T.outgoing T.closes self.old.places.items
+            self.new.places.items }
+    {
         self.looks = self.looks.saturating_sub(1);
         by.wake(self, place, mtype)
     }
@@ -261,8 +282,9 @@ impl<'a, 'c, R: Wait> Serving<'a, 'c, R> {
 
     /// Continues a client's parked call, if it may go on.
     fn go_on<T: NonBlocking, W: Watch<T>>(&self, worker: &mut Worker<'_, R, T, W>, place: usize)
-        ensures { KeepsAll T.incoming T.outgoing T.closes worker.old.places.items
+        ensures keeps { KeepsAll T.incoming T.outgoing T.closes worker.old.places.items
             worker.new.places.items }
+        ensures lines { worker.new.lines ≡ worker.old.lines }
     {
         let before = worker.blocks_in_use(place);
         worker.go_on(place);
@@ -283,8 +305,9 @@ impl<'a, 'c, R: Wait> Serving<'a, 'c, R> {
 
     /// Puts a client where it belongs after an event.
     fn settle<T: NonBlocking, W: Watch<T>>(&self, worker: &mut Worker<'_, R, T, W>, place: usize)
-        ensures { KeepsAll T.incoming T.outgoing T.closes worker.old.places.items
+        ensures keeps { KeepsAll T.incoming T.outgoing T.closes worker.old.places.items
             worker.new.places.items }
+        ensures moves { MovesOnly place worker.old.lines worker.new.lines }
     {
         self.line_up(worker, place);
         if worker.is_over(place) {
@@ -293,14 +316,16 @@ impl<'a, 'c, R: Wait> Serving<'a, 'c, R> {
         }
         worker.await_more(place);
         worker.set_time(place, self.server.patience());
+        worker.look_again(place);
     }
 
     /// Puts a client into the line of what its parked call waits for, and out of any other line. A
     /// call that enters a line is looked at once more, since what it waits for may have come before
     /// that was known.
     fn line_up<T: NonBlocking, W: Watch<T>>(&self, worker: &mut Worker<'_, R, T, W>, place: usize)
-        ensures { KeepsAll T.incoming T.outgoing T.closes worker.old.places.items
+        ensures keeps { KeepsAll T.incoming T.outgoing T.closes worker.old.places.items
             worker.new.places.items }
+        ensures moves { MovesOnly place worker.old.lines worker.new.lines }
     {
         let mut looked = false;
         for _ in self.rt.forever() {
@@ -322,8 +347,9 @@ impl<'a, 'c, R: Wait> Serving<'a, 'c, R> {
         worker: &mut Worker<'_, R, T, W>,
         place: usize,
     ) -> bool
-        ensures { KeepsAll T.incoming T.outgoing T.closes worker.old.places.items
+        ensures keeps { KeepsAll T.incoming T.outgoing T.closes worker.old.places.items
             worker.new.places.items }
+        ensures moves { MovesOnly place worker.old.lines worker.new.lines }
     {
         let key = worker.key(place);
         if key == worker.lines.key(place) {
@@ -348,8 +374,9 @@ impl<'a, 'c, R: Wait> Serving<'a, 'c, R> {
         worker: &mut Worker<'_, R, T, W>,
         place: usize,
     )
-        ensures { KeepsAll T.incoming T.outgoing T.closes worker.old.places.items
+        ensures keeps { KeepsAll T.incoming T.outgoing T.closes worker.old.places.items
             worker.new.places.items }
+        ensures moves { MovesOnly place worker.old.lines worker.new.lines }
     {
         let Some(key) = worker.lines.key(place) else {
             return;
@@ -366,8 +393,9 @@ impl<'a, 'c, R: Wait> Serving<'a, 'c, R> {
 
     /// Closes a client whose session is over.
     fn close<T: NonBlocking, W: Watch<T>>(&self, worker: &mut Worker<'_, R, T, W>, place: usize)
-        ensures { KeepsAll T.incoming T.outgoing T.closes worker.old.places.items
+        ensures keeps { KeepsAll T.incoming T.outgoing T.closes worker.old.places.items
             worker.new.places.items }
+        ensures moves { MovesOnly place worker.old.lines worker.new.lines }
     {
         self.leave_line(worker, place);
         let Some(served) = worker.close(place) else {
@@ -441,7 +469,8 @@ impl<'a, 'c, R: Wait> Serving<'a, 'c, R> {
         worker: &mut Worker<'_, R, T, W>,
         change: Change,
     )
-        ensures { worker.new.places ≡ worker.old.places }
+        ensures places { worker.new.places ≡ worker.old.places }
+        ensures heeds { Heeds change worker.old.lines worker.new.lines }
     {
         match change {
             Change::Queue { slot } => worker.lines.note_change(slot),
@@ -494,7 +523,8 @@ impl<'a, 'c, R: Wait> Serving<'a, 'c, R> {
     /// Keeps what calls have changed since the last time, if calls that wait for it are parked, and
     /// counts the messages that moved.
     fn collect<T: NonBlocking, W: Watch<T>>(&self, worker: &mut Worker<'_, R, T, W>)
-        ensures { worker.new.places ≡ worker.old.places }
+        ensures places { worker.new.places ≡ worker.old.places }
+        ensures lines { worker.new.lines ≡ worker.old.lines }
     {
         let mut changes = Changes::NONE;
         let mut moved = Moved::NONE;
@@ -520,13 +550,15 @@ impl<'a, 'c, R: Wait> Serving<'a, 'c, R> {
         notification: Notification,
         changes: &mut Changes,
     )
-        ensures { worker.new.places ≡ worker.old.places }
+        ensures places { worker.new.places ≡ worker.old.places }
+        ensures lines { worker.new.lines ≡ worker.old.lines }
     {
         match notification {
             Notification::Arrived { slot, mtype } => self.keep_arrived(worker, slot, mtype),
             Notification::Freed { slot, .. } => changes.add(Change::Room { slot }),
             Notification::Released => changes.add(Change::Blocks),
             Notification::Changed { slot } => changes.add(Change::Queue { slot }),
+            Notification::Settled => changes.add(Change::Settled),
         }
     }
 
@@ -537,7 +569,8 @@ impl<'a, 'c, R: Wait> Serving<'a, 'c, R> {
         slot: usize,
         mtype: i64,
     )
-        ensures { worker.new.places ≡ worker.old.places }
+        ensures places { worker.new.places ≡ worker.old.places }
+        ensures lines { worker.new.lines ≡ worker.old.lines }
     {
         let rest = self.server.word(slot);
         if rest == 0 {
@@ -555,7 +588,8 @@ impl<'a, 'c, R: Wait> Serving<'a, 'c, R> {
         worker: &mut Worker<'_, R, T, W>,
         changes: &mut Changes,
     )
-        ensures { worker.new.places ≡ worker.old.places }
+        ensures places { worker.new.places ≡ worker.old.places }
+        ensures lines { worker.new.lines ≡ worker.old.lines }
     {
         for _ in self.rt.forever() {
             let Some(change) = changes.take() else {
@@ -573,7 +607,8 @@ impl<'a, 'c, R: Wait> Serving<'a, 'c, R> {
         workers: u64,
         change: Change,
     )
-        ensures { worker.new.places ≡ worker.old.places }
+        ensures places { worker.new.places ≡ worker.old.places }
+        ensures lines { worker.new.lines ≡ worker.old.lines }
     {
         let own = bit(worker.number);
         let mut rest = workers & !own;
@@ -675,27 +710,28 @@ impl<'a, 'c, R: Wait> Serving<'a, 'c, R> {
         place: usize,
         mtype: i64,
     ) -> Found
-        ensures { KeepsAll T.incoming T.outgoing T.closes worker.old.places.items
+        ensures keeps { KeepsAll T.incoming T.outgoing T.closes worker.old.places.items
             worker.new.places.items }
+        ensures moves { MovesOnly place worker.old.lines worker.new.lines }
+        ensures in_lines { AreInLines worker.new.lines }
+        ensures waits { result ≡ Found.Nothing
+            → key_at worker.new.lines place ≡ key_at worker.old.lines place }
+        ensures over { (result ≡ Found.Message) ⊎ (result ≡ Found.Over)
+            → key_at worker.new.lines place ≡ None }
     {
         let before = worker.lines.key(place);
         self.go_on(worker, place);
-        let waits = worker.key(place).is_some();
         let has_taken = worker.tools.has_taken(mtype);
-        if !waits {
+        if worker.key(place).is_none() {
             worker.drain(place);
         }
         self.settle(worker, place);
         self.collect(worker);
-        match (waits, has_taken) {
-            (true, _) if before == worker.lines.key(place) => Found::Nothing,
-            (true, _) => Found::Else,
-            (false, true) => Found::Message,
-            (false, false) => Found::Over,
-        }
+        found(before, worker.lines.key(place), has_taken)
     }
 
-    /// Closes each client whose time is over, if it may be over for some.
+    /// Closes each client whose time is over, if it may be over for some, and reads again from those
+    /// that may have more bytes.
     fn look_at_times<T: NonBlocking, W: Watch<T>>(&self, worker: &mut Worker<'_, R, T, W>)
         ensures { KeepsAll T.incoming T.outgoing T.closes worker.old.places.items
             worker.new.places.items }
@@ -707,13 +743,15 @@ impl<'a, 'c, R: Wait> Serving<'a, 'c, R> {
             return;
         }
         worker.check = None;
+        worker.again = None;
         for place in 0..worker.places.len() {
             self.look_at_time(worker, place);
         }
         self.spread(worker);
     }
 
-    /// Closes a client whose time is over, unless something has come for it that was not read yet.
+    /// Reads from a client that may have more bytes although nothing reports them, and closes one
+    /// whose time is over, unless something has come for it that was not read yet.
     fn look_at_time<T: NonBlocking, W: Watch<T>>(
         &self,
         worker: &mut Worker<'_, R, T, W>,
@@ -725,7 +763,7 @@ impl<'a, 'c, R: Wait> Serving<'a, 'c, R> {
         if !worker.is_taken(place) {
             return;
         }
-        if is_over(worker.due(place)) {
+        if is_over(worker.due(place)) || worker.may_hold_more(place) {
             self.report(worker, &Ready::unasked(place));
         }
         let due = worker.due(place);
@@ -762,4 +800,18 @@ fn next_of(workers: u64, from: usize) -> usize {
     let later = workers & !before;
     let among = if later == 0 { workers } else { later };
     among.trailing_zeros() as usize
+}
+
+/// Returns what a look at a call found that waited for `before` and now waits for `after`, if it
+/// does. `has_taken` is whether it took a message of the type for which it was looked at.
+fn found(before: Option<Key>, after: Option<Key>, has_taken: bool) -> Found
+    ensures waits { result ≡ Found.Nothing → after ≡ before }
+    ensures over { (result ≡ Found.Message) ⊎ (result ≡ Found.Over) → after ≡ None }
+{
+    match after {
+        None if has_taken => Found::Message,
+        None => Found::Over,
+        Some(_) if after == before => Found::Nothing,
+        Some(_) => Found::Else,
+    }
 }

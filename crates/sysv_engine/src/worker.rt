@@ -26,6 +26,9 @@ const SHARE_OF_CHANGES: usize = 2;
 /// its own clients' requests.
 const LOOKS: u32 = 64;
 
+/// The time after a read that may not have returned all bytes until the next one, in milliseconds.
+const AGAIN_MILLIS: u32 = 20;
+
 /// The number of places of which one wait reports events at most.
 const MOST_READY: usize = 256;
 
@@ -52,6 +55,9 @@ pub(crate) struct Worker<'a, R: Wait, T: NonBlocking, W> {
     pub(crate) answered: u64,
     /// When to look for clients whose time is over.
     pub(crate) check: Option<Moment>,
+    /// When to read again from clients that may have more bytes although nothing reports them, if
+    /// there may be such clients.
+    pub(crate) again: Option<Moment>,
     /// Whether the worker looks for events before it sleeps.
     pub(crate) spinning: Spinning,
     /// The numbers of its envelopes and of its changes, modulo 2^64.
@@ -145,6 +151,7 @@ impl<'a, R: Wait, T: NonBlocking, W: Watch<T>> Worker<'a, R, T, W> {
             tools,
             answered: 1,
             check: None,
+            again: None,
             spinning: Spinning::new(),
             messages: 0,
             changed: 0,
@@ -171,6 +178,7 @@ impl<'a, R: Wait, T: NonBlocking, W: Watch<T>> Worker<'a, R, T, W> {
             tools,
             answered: _,
             check: _,
+            again: _,
             spinning: _,
             messages: _,
             changed: _,
@@ -285,8 +293,9 @@ impl<'a, R: Wait, T: NonBlocking, W: Watch<T>> Worker<'a, R, T, W> {
     /// Has the client learn what the watch reports of it.
     #[tactic(auto, using(crate::proofs::PlaceLists::keeps_at))]
     pub(crate) fn note(&mut self, ready: &Ready)
-        ensures { KeepsAll T.incoming T.outgoing T.closes self.old.places.items
+        ensures keeps { KeepsAll T.incoming T.outgoing T.closes self.old.places.items
             self.new.places.items }
+        ensures lines { self.new.lines ≡ self.old.lines }
     {
         if let Some(there) = self.places.get_mut(ready.place) {
             there.note(ready);
@@ -307,8 +316,9 @@ impl<'a, R: Wait, T: NonBlocking, W: Watch<T>> Worker<'a, R, T, W> {
     /// Continues the client's parked call, if it may go on.
     #[tactic(auto, using(crate::proofs::PlaceLists::keeps_at))]
     pub(crate) fn go_on(&mut self, place: usize)
-        ensures { KeepsAll T.incoming T.outgoing T.closes self.old.places.items
+        ensures keeps { KeepsAll T.incoming T.outgoing T.closes self.old.places.items
             self.new.places.items }
+        ensures lines { self.new.lines ≡ self.old.lines }
     {
         if let Some(there) = self.places.get_mut(place) {
             there.go_on(&mut self.tools);
@@ -318,8 +328,9 @@ impl<'a, R: Wait, T: NonBlocking, W: Watch<T>> Worker<'a, R, T, W> {
     /// Gives the client's connection as many bytes of the replies as it takes now.
     #[tactic(auto, using(crate::proofs::PlaceLists::keeps_at))]
     pub(crate) fn drain(&mut self, place: usize)
-        ensures { KeepsAll T.incoming T.outgoing T.closes self.old.places.items
+        ensures keeps { KeepsAll T.incoming T.outgoing T.closes self.old.places.items
             self.new.places.items }
+        ensures lines { self.new.lines ≡ self.old.lines }
     {
         if let Some(there) = self.places.get_mut(place) {
             there.drain();
@@ -329,8 +340,9 @@ impl<'a, R: Wait, T: NonBlocking, W: Watch<T>> Worker<'a, R, T, W> {
     /// Ends the client because of a limit.
     #[tactic(auto, using(crate::proofs::PlaceLists::keeps_at))]
     pub(crate) fn cut(&mut self, place: usize)
-        ensures { KeepsAll T.incoming T.outgoing T.closes self.old.places.items
+        ensures keeps { KeepsAll T.incoming T.outgoing T.closes self.old.places.items
             self.new.places.items }
+        ensures lines { self.new.lines ≡ self.old.lines }
     {
         if let Some(there) = self.places.get_mut(place) {
             there.cut();
@@ -340,8 +352,9 @@ impl<'a, R: Wait, T: NonBlocking, W: Watch<T>> Worker<'a, R, T, W> {
     /// Closes the client, and returns what its session did.
     #[tactic(auto, using(crate::proofs::PlaceLists::keeps_at))]
     pub(crate) fn close(&mut self, place: usize) -> Option<Served>
-        ensures { KeepsAll T.incoming T.outgoing T.closes self.old.places.items
+        ensures keeps { KeepsAll T.incoming T.outgoing T.closes self.old.places.items
             self.new.places.items }
+        ensures lines { self.new.lines ≡ self.old.lines }
     {
         let Some(there) = self.places.get_mut(place) else {
             return None;
@@ -352,8 +365,9 @@ impl<'a, R: Wait, T: NonBlocking, W: Watch<T>> Worker<'a, R, T, W> {
     /// Has the watch report when the client's connection may take bytes, if some wait for it, and
     /// puts the place into the line of those that have more to do, if the client has.
     pub(crate) fn await_more(&mut self, place: usize)
-        ensures { KeepsAll T.incoming T.outgoing T.closes self.old.places.items
+        ensures keeps { KeepsAll T.incoming T.outgoing T.closes self.old.places.items
             self.new.places.items }
+        ensures lines { self.new.lines ≡ self.old.lines }
     {
         self.await_room(place);
         self.await_turn(place);
@@ -362,8 +376,9 @@ impl<'a, R: Wait, T: NonBlocking, W: Watch<T>> Worker<'a, R, T, W> {
     /// Has the watch report when the client's connection may take bytes, if some wait for it.
     #[tactic(auto, using(crate::proofs::PlaceLists::keeps_at))]
     fn await_room(&mut self, place: usize)
-        ensures { KeepsAll T.incoming T.outgoing T.closes self.old.places.items
+        ensures keeps { KeepsAll T.incoming T.outgoing T.closes self.old.places.items
             self.new.places.items }
+        ensures lines { self.new.lines ≡ self.old.lines }
     {
         if let Some(there) = self.places.get_mut(place) {
             there.await_room(&mut self.watch, place);
@@ -373,8 +388,9 @@ impl<'a, R: Wait, T: NonBlocking, W: Watch<T>> Worker<'a, R, T, W> {
     /// Puts the place into the line of those that have more to do, if the client has.
     #[tactic(auto, using(crate::proofs::PlaceLists::keeps_at))]
     fn await_turn(&mut self, place: usize)
-        ensures { KeepsAll T.incoming T.outgoing T.closes self.old.places.items
+        ensures keeps { KeepsAll T.incoming T.outgoing T.closes self.old.places.items
             self.new.places.items }
+        ensures lines { self.new.lines ≡ self.old.lines }
     {
         let Some(there) = self.places.get_mut(place) else {
             return;
@@ -397,11 +413,31 @@ impl<'a, R: Wait, T: NonBlocking, W: Watch<T>> Worker<'a, R, T, W> {
         Some(place)
     }
 
+    /// Returns whether the client may have more bytes to read, although nothing reports them.
+    pub(crate) fn may_hold_more(&self, place: usize) -> bool {
+        match self.places.get(place) {
+            Some(there) => there.may_hold_more(),
+            None => false,
+        }
+    }
+
+    /// Has the worker look soon whether the client has more bytes to read, if it may have some that
+    /// nothing reports.
+    pub(crate) fn look_again(&mut self, place: usize)
+        ensures { (self.new.places ≡ self.old.places) × (self.new.lines ≡ self.old.lines) }
+    {
+        if self.again.is_none() && self.may_hold_more(place) {
+            self.again = Some(Moment::now().plus_millis(AGAIN_MILLIS));
+            self.check = sooner(self.check, self.again);
+        }
+    }
+
     /// Sets when the client's time is over.
     #[tactic(auto, using(crate::proofs::PlaceLists::keeps_at))]
     pub(crate) fn set_time(&mut self, place: usize, patience: Patience)
-        ensures { KeepsAll T.incoming T.outgoing T.closes self.old.places.items
+        ensures keeps { KeepsAll T.incoming T.outgoing T.closes self.old.places.items
             self.new.places.items }
+        ensures lines { self.new.lines ≡ self.old.lines }
     {
         if patience == Patience::UNBOUNDED {
             return;

@@ -1,5 +1,6 @@
 -- How many places are in the lines of each word, as one is put into a line or taken out.
-use Rattle.std.proofs.Common.{◌≡◌, ◌≢◌, ◌∙◌, ℕ, ◌-◌, ◌*◌, ◌^◌, ◌<◌, cond, List, Option, None, Some, length, get_or, set, sym, ap, arith, inl, inr, get_or-set_same, get_or-set_other}
+use Rattle.std.proofs.Common.{◌≡◌, ◌≢◌, ◌∙◌, ℕ, ◌-◌, ◌*◌, ◌^◌, ◌<◌, cond, List, Option, None, Some, length, get_or, set}
+use Rattle.std.proofs.Common.{sym, ap, arith, inl, inr, get_or-set_same, get_or-set_other}
 use Rattle.std.specs.Prelude.{replicate}
 use Rattle.std.specs.List.{count_by}
 use Rattle.std.proofs.lemmas.Bool.{cases_eq}

@@ -8,7 +8,8 @@ use Rattle.sysv_parking.specs.contracts.due.Why as why
 use Rattle.sysv_parking.specs.contracts.key.Key as key
 use Rattle.sysv_parking.specs.contracts.lines.Lines as lines
 
-ruleset crossing = (sendable, crosses, options.the_send, options.the_field_send, declared_send, as_row_send, heaps.the_send)
+ruleset crossing =
+    (sendable, crosses, options.the_send, options.the_field_send, declared_send, as_row_send, heaps.the_send)
 
 key_send : IsSend key.the_row
 key_send = search crossing depth 40

@@ -1,8 +1,11 @@
 -- The places in the lines of parked calls, as one is put into a line or taken out.
-use Rattle.std.proofs.Common.{◌≡◌, ◌≢◌, ◌∙◌, ℕ, ◌+◌, ◌*◌, ◌<◌, ◌≤◌, ◌==◌, cond, not, Bool, true, List, [], ◌∷◌, ◌++◌, Option, None, Some, length, map, get_or, set, take, drop, zero, suc, refl, sym, ap, arith, subst, inl, inr, get_or-set_same, get_or-set_other, drop-cons}
+use Rattle.std.proofs.Common.{◌≡◌, ◌≢◌, ◌∙◌, ℕ, ◌+◌, ◌*◌, ◌<◌, ◌≤◌, ◌==◌, cond, not, Bool, true, List, [], ◌∷◌, ◌++◌}
+use Rattle.std.proofs.Common.{Option, None, Some, length, map, get_or, set, take, drop, zero, suc, refl, sym, ap, arith}
+use Rattle.std.proofs.Common.{subst, inl, inr, get_or-set_same, get_or-set_other, drop-cons}
 use Rattle.std.specs.List.{count_by, remove}
 use Rattle.std.proofs.lemmas.Bool.{cases_Bool, cases_eq, cases_lt, eq-eqb, ne_eqb}
-use Rattle.std.proofs.lemmas.List.{append-nil, get_or-map, get_or-replicate, get_or_past, length-map, length-replicate, map-set, set-get_or, take-append-drop}
+use Rattle.std.proofs.lemmas.List.{append-nil, get_or-map, get_or-replicate, get_or_past, length-map, length-replicate}
+use Rattle.std.proofs.lemmas.List.{map-set, set-get_or, take-append-drop}
 use Rattle.std.specs.Option.{OnSome}
 use Rattle.std.specs.Prelude.{replicate}
 use Rattle.std.proofs.lemmas.List.Folds.{sum_by-replicate}
@@ -39,7 +42,8 @@ without_here : (place : ℕ) (xs : List ℕ) (i : ℕ) → IsAt place xs i →
     without place (drop i xs) ≡ without place (drop (suc i) xs)
 without_here place xs i there =
     ap (without place) (drop-cons xs i 0 there.0)
-    ∙ ap (λ (b : Bool). cond (not b) (get_or xs i 0 ∷ without place (drop (suc i) xs)) (without place (drop (suc i) xs)))
+    ∙ ap (λ (b : Bool).
+    cond (not b) (get_or xs i 0 ∷ without place (drop (suc i) xs)) (without place (drop (suc i) xs)))
     (eq-eqb (get_or xs i 0) place there.1)
 
 without_one : (place : ℕ) (xs : List ℕ) (i : ℕ) → IsAt place xs i → without place (remove xs i) ≡ without place xs

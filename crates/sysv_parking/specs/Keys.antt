@@ -11,7 +11,8 @@ use Rattle.sysv_rules.specs.Qualifies.{Qualifies}
 use Rattle.sysv_parking.specs.declared.key.Caller.{Caller}
 use Rattle.sysv_parking.specs.declared.key.Key.{Key}
 use Rattle.sysv_parking.specs.declared.key.Key.TheVariants.{Message, Room, Blocks, Settled}
-use Rattle.sysv_parking.specs.declared.key.TheConstants.{BLOCKS_LINE, SETTLED_LINE, SPREAD, SLOT_SPREAD, BLOCKS_WORD, SETTLED_WORD}
+use Rattle.sysv_parking.specs.declared.key.TheConstants.{BLOCKS_LINE, SETTLED_LINE, SPREAD, SLOT_SPREAD, BLOCKS_WORD}
+use Rattle.sysv_parking.specs.declared.key.TheConstants.{SETTLED_WORD}
 
 -- Whose call it is, unless it is a get.
 abbrev pub caller_of : Key → Option Caller
@@ -51,6 +52,12 @@ line_room slot = bounded_sum (3 * SLOTS) slot
 abbrev pub line_exact : ℕ → ℤ → ℕ
 line_exact slot mtype = bounded_sum (4 * SLOTS) (hash_of slot mtype)
 
+abbrev pub line_blocks : ℕ
+line_blocks = BLOCKS_LINE
+
+abbrev pub line_settled : ℕ
+line_settled = SETTLED_LINE
+
 -- The line of a receive with this selector at a slot.
 abbrev pub line_for : ℕ → Selector → ℕ
 line_for slot Any = line_any slot
@@ -62,8 +69,8 @@ line_for slot (Exactly mtype) = line_exact slot mtype
 abbrev pub line_of : Key → ℕ
 line_of (Message caller selector) = line_for (slot_of_id caller.id) selector
 line_of (Room caller length) = line_room (slot_of_id caller.id)
-line_of (Blocks caller length) = BLOCKS_LINE
-line_of Settled = SETTLED_LINE
+line_of (Blocks caller length) = line_blocks
+line_of Settled = line_settled
 
 -- The word of the calls that wait for the same count.
 abbrev pub word_of : Key → ℕ

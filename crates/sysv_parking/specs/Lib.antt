@@ -4,3 +4,4 @@ pub mod Places
 pub mod Due
 pub mod Barriers
 pub mod Lines
+pub mod Looks

@@ -1,5 +1,6 @@
 -- What happens to the lines of parked calls (this project's profile).
-use Rattle.std.specs.Prelude.{◌≡◌, ◌≢◌, ◌++◌, ℕ, true, false, [], ◌∷◌, Option, None, Some, length, slice_index, slice_set, map}
+use Rattle.std.specs.Prelude.{◌≡◌, ◌≢◌, ◌++◌, ℕ, true, false, [], ◌∷◌, Option, None, Some, length, slice_index}
+use Rattle.std.specs.Prelude.{slice_set, map}
 use Rattle.std.specs.List.{count_by}
 use Rattle.sysv_parking.specs.declared.due.Why.{Why}
 use Rattle.sysv_parking.specs.declared.key.Key.{Key}

@@ -1,6 +1,8 @@
 -- The parked calls of a worker (this project's profile). A call is known by its place.
-use Rattle.std.specs.Prelude.{◌≡◌, ◌≢◌, ◌==◌, ℕ, Bool, false, not, List, [], Option, None, Some, cond, slice_get, slice_index_or}
+use Rattle.std.specs.Prelude.{◌≡◌, ◌≢◌, ◌==◌, ℕ, Bool, false, not, List, [], Option, None, Some, cond, slice_get}
+use Rattle.std.specs.Prelude.{refl, slice_index_or}
 use Rattle.std.specs.List.{count_by, filter}
+use Rattle.std.proofs.Common.{◌∙◌}
 use Rattle.sysv_lists.specs.Numbers.{times}
 use Rattle.sysv_parking.specs.declared.due.Why.{Why}
 use Rattle.sysv_parking.specs.declared.key.Key.{Key}
@@ -54,3 +56,14 @@ is_of_word word (Some key) = word_of key == word
 -- The number of places in the lines of a word.
 abbrev pub parked_at : Parking → ℕ → ℕ
 parked_at parking word = count_by (is_of_word word) parking.keys
+
+pub moves_none : (place : ℕ) (parking : Parking) → MovesOnly place parking parking
+moves_none place parking = record { keys = λ other ne. refl; lines = λ line. refl; why = λ other ne. refl }
+
+pub moves_on : (place : ℕ) (first second third : Parking) → MovesOnly place first second →
+    MovesOnly place second third → MovesOnly place first third
+moves_on place first second third one two = record {
+  keys = λ other ne. two.keys other ne ∙ one.keys other ne;
+  lines = λ line. two.lines line ∙ one.lines line;
+  why = λ other ne. two.why other ne ∙ one.why other ne;
+}

@@ -8,10 +8,12 @@
 mod barriers;
 mod calls;
 mod due;
+mod found;
 mod key;
 mod lines;
 
-pub use calls::{Calls, Found, LookedFor, look_at_due, look_for_message};
+pub use calls::{Calls, look_at_due, look_for_message};
 pub use due::Why;
+pub use found::{Found, LookedFor};
 pub use key::{BLOCKS_WORD, Caller, Key, SETTLED_WORD, WORDS, room_word};
 pub use lines::Lines;

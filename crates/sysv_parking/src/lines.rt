@@ -84,7 +84,8 @@ impl Lines {
 
     /// Returns the place at this index of a line, if there is one.
     pub(crate) fn at(&self, line: usize, index: usize) -> Option<usize>
-        ensures { result ≡ item_at (line_at self.now line) index }
+        ensures item { result ≡ item_at (line_at self.now line) index }
+        ensures in_lines { AreInLines self.now }
     {
         self.lines.get(line)?.get(index).copied()
     }
