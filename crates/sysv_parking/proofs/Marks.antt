@@ -1,9 +1,9 @@
 -- Which calls are due as a loop over the places, or over a line, makes them due.
 use Rattle.std.proofs.Common.{◌≡◌, ◌≢◌, ◌∙◌, ℕ, ◌+◌, ◌<◌, ◌≤◌, ◌==◌, ◌||◌, cond, Bool, false, true, List, Option, None}
-use Rattle.std.proofs.Common.{Some, length, get_or, set, take, refl, sym, ap, arith, subst, inl, inr, get_or-set_same}
+use Rattle.std.proofs.Common.{Some, length, get_or, set, take, refl, sym, ap, arith, inl, inr, get_or-set_same}
 use Rattle.std.proofs.Common.{get_or-set_other}
-use Rattle.std.proofs.lemmas.Bool.{cases_eq, cases_lt, eq-eqb, ne_eqb}
-use Rattle.std.proofs.lemmas.List.{get_or_past, length-set, set_past, take_all}
+use Rattle.std.proofs.lemmas.Bool.{cases_eq, cases_lt, eq-eqb, false≢true, ne_eqb}
+use Rattle.std.proofs.lemmas.List.{get_or_past, length-set, take_all}
 use Rattle.std.proofs.lemmas.Option.{get_or_from_slice_get, slice_get-get_or, slice_get_within}
 use Rattle.std.proofs.lemmas.List.Sums.{sum_by_more, sum_by-take-le}
 use Rattle.std.specs.Prelude.{is_some}
@@ -15,12 +15,13 @@ use Rattle.sysv_parking.specs.Keys.{line_of, slot_in}
 use Rattle.sysv_parking.specs.Parking.{AreInLines, Parking, in_line, item_at, key_at, line_at, why_at}
 use Rattle.sysv_parking.specs.Lines.{NotesAll, NotesChange, NotesLine}
 
--- Each call whose place is below this one is due.
+-- Each call whose place is below this one is due. No other place is due for more reasons.
 pub record MarksAll (place : ℕ) (old new : Parking) : Type 0 where
   pub keys : new.keys ≡ old.keys
   pub lines : new.lines ≡ old.lines
   pub long : length new.why ≡ length old.keys
   pub there : (other : ℕ) (key : Key) → other < place → key_at old other ≡ Some key → why_at new other ≡ by_all
+  pub elsewhere : (other : ℕ) → key_at old other ≡ None → why_at new other ≡ why_at old other
 
 -- Each call at the slot whose place is below this one is due. No other call is due for more reasons.
 pub record MarksSlot (slot place : ℕ) (old new : Parking) : Type 0 where
@@ -66,6 +67,7 @@ all_none old new same long = record {
   lines = ap (λ p. p.lines) same;
   long = ap (λ p. length p.why) same ∙ long;
   there = λ other key less some. absurd (omega arith);
+  elsewhere = λ other none. ap (λ p. why_at p other) same;
 }
 
 pub all_keep : (place : ℕ) (old new : Parking) → key_at old place ≡ None → MarksAll place old new →
@@ -78,24 +80,32 @@ all_keep place old new none marks = record {
     | inl same ↦ let e : key_at old other ≡ None = ap (key_at old) same ∙ none in absurd (cc (e, some))
     | inr differ ↦ marks.there other key (omega arith) some
   ];
+  elsewhere = marks.elsewhere;
 }
 
 pub all_more : (place : ℕ) (old new newer : Parking) (why : Why) → newer.keys ≡ new.keys → newer.lines ≡ new.lines →
-    newer.why ≡ set new.why place why → why ≡ by_all → MarksAll place old new → MarksAll (place + 1) old newer
-all_more place old new newer why keys lines whys all marks = record {
+    newer.why ≡ set new.why place why → why ≡ by_all → is_some (key_at old place) ≡ true → MarksAll place old new →
+    MarksAll (place + 1) old newer
+all_more place old new newer why keys lines whys all has marks = record {
   keys = keys ∙ marks.keys;
   lines = lines ∙ marks.lines;
   long = ap length whys ∙ length-set new.why place why ∙ marks.long;
   there = λ other key less some. elim (cases_eq other place) [
     | inl same ↦
-        let low : place < length new.why =
-        let w = within old.keys other key some in let e = marks.long in omega arith in
+        let w = within old.keys other key some in
+        let long = marks.long in
+        let low : place < length new.why = omega arith in
         ap (λ ws. get_or ws other not_due) whys ∙ ap (λ n. get_or (set new.why place why) n not_due) same
         ∙ marked_here new.why place why low ∙ all
     | inr differ ↦
         ap (λ ws. get_or ws other not_due) whys ∙ marked_there new.why place other why differ
         ∙ marks.there other key (omega arith) some
   ];
+  elsewhere = λ other none.
+      ap (λ ws. get_or ws other not_due) whys
+      ∙ marked_there new.why place other why
+      (λ same. false≢true (sym (ap is_some (sym (ap (key_at old) same) ∙ none)) ∙ has))
+      ∙ marks.elsewhere other none;
 }
 
 pub all_noted : (place : ℕ) (old new : Parking) → length old.keys ≤ place → MarksAll place old new → NotesAll old new
@@ -103,6 +113,7 @@ all_noted place old new past marks = record {
   keys = marks.keys;
   lines = marks.lines;
   there = λ other key some. let w = within old.keys other key some in marks.there other key (omega arith) some;
+  elsewhere = marks.elsewhere;
 }
 
 pub slot_none : (slot : ℕ) (old new : Parking) → new ≡ old → length old.why ≡ length old.keys → MarksSlot slot 0 old new
@@ -141,8 +152,9 @@ slot_more slot place key old new newer keys lines whys is at marks =
       long = ap length whys ∙ length-set new.why place (both (why_at new place) (why_changed key)) ∙ marks.long;
       there = λ other key' less some at'. elim (cases_eq other place) [
         | inl same ↦
-            let low : place < length new.why =
-            let w = within old.keys place key is in let e = marks.long in omega arith in
+            let w = within old.keys place key is in
+            let long = marks.long in
+            let low : place < length new.why = omega arith in
             let alike : key ≡ key' = let e = ap (key_at old) same in cc (is, some, e) in
             ap (λ ws. get_or ws other not_due) whys
             ∙ ap (λ n. get_or (set new.why place (both (why_at new place) (why_changed key))) n not_due) same
@@ -263,14 +275,8 @@ line_keep line index old new none marks =
       lines = marks.lines;
       long = marks.long;
       in_lines = marks.in_lines;
-      there = λ other one.
-          let e : times other (take (index + 1) (line_at old line)) ≡ times other (take index (line_at old line)) =
-          ap (times other) same in
-          marks.there other (omega arith);
-      elsewhere = λ other zero.
-          let e : times other (take (index + 1) (line_at old line)) ≡ times other (take index (line_at old line)) =
-          ap (times other) same in
-          marks.elsewhere other (omega arith);
+      there = λ other one. let e = ap (times other) same in marks.there other (omega (arith, e));
+      elsewhere = λ other zero. let e = ap (times other) same in marks.elsewhere other (omega (arith, e));
     }
 
 pub line_more : (line index place : ℕ) (old new newer : Parking) → newer.keys ≡ new.keys →

@@ -1,9 +1,9 @@
 -- The places in the lines of parked calls, as one is put into a line or taken out.
-use Rattle.std.proofs.Common.{◌≡◌, ◌≢◌, ◌∙◌, ℕ, ◌+◌, ◌*◌, ◌<◌, ◌≤◌, ◌==◌, cond, not, Bool, true, false, List, [], ◌∷◌}
-use Rattle.std.proofs.Common.{◌++◌, Option, None, Some, length, map, get_or, set, take, drop, zero, suc, refl, sym, ap}
-use Rattle.std.proofs.Common.{arith, subst, inl, inr, get_or-set_same, get_or-set_other, drop-cons}
-use Rattle.std.specs.List.{count_by, filter, remove}
-use Rattle.std.proofs.lemmas.Bool.{cases_eq, cases_lt, eq-eqb, ne_eqb}
+use Rattle.std.proofs.Common.{◌≡◌, ◌≢◌, ◌∙◌, ℕ, ◌+◌, ◌*◌, ◌<◌, ◌≤◌, ◌==◌, cond, not, Bool, true, List, [], ◌∷◌, ◌++◌}
+use Rattle.std.proofs.Common.{Option, None, Some, length, map, get_or, set, take, drop, zero, suc, refl, sym, ap, arith}
+use Rattle.std.proofs.Common.{subst, inl, inr, get_or-set_same, get_or-set_other, drop-cons}
+use Rattle.std.specs.List.{count_by, remove}
+use Rattle.std.proofs.lemmas.Bool.{cases_Bool, cases_eq, cases_lt, eq-eqb, ne_eqb}
 use Rattle.std.proofs.lemmas.List.{append-nil, get_or-map, get_or-replicate, get_or_past, length-map, length-replicate}
 use Rattle.std.proofs.lemmas.List.{map-set, set-get_or, take-append-drop}
 use Rattle.std.specs.Option.{OnSome}
@@ -91,7 +91,12 @@ module _ (keys : List (Option Key)) (lines : List (List ℕ)) (place : ℕ) (key
   here : (line : ℕ) → line ≡ line_of key → line_of key < length lines →
       get_or (set lines (line_of key) longer) line [] ≡ longer
   here line same wide =
-      ap (λ n. get_or (set lines (line_of key) longer) n []) same ∙ get_or-set_same lines (line_of key) longer [] wide
+      ap (λ n. get_or (set lines (line_of key) longer) n []) same
+      ∙ get_or-set_same lines (line_of key) longer [] wide
+
+  key_here : place < length keys → (p : ℕ) → p ≡ place → get_or (set keys place (Some key)) p None ≡ Some key
+  key_here low p this =
+      ap (λ n. get_or (set keys place (Some key)) n None) this ∙ get_or-set_same keys place (Some key) None low
 
   same_sum : {a b : ℕ} → a ≡ b → a + 0 ≡ b
   same_sum e = omega arith
@@ -109,8 +114,7 @@ module _ (keys : List (Option Key)) (lines : List (List ℕ)) (place : ℕ) (key
       let zero_was : in_line (get_or keys p None) (line_of key) ≡ 0 =
       ap (λ n. in_line (get_or keys n None) (line_of key)) this ∙ ap (λ k. in_line k (line_of key)) none in
       let now = in_line_has (get_or (set keys place (Some key)) p None) key line
-      (ap (λ n. get_or (set keys place (Some key)) n None) this ∙ get_or-set_same keys place (Some key) None low)
-      (sym same) in
+      (key_here low p this) (sym same) in
       omega arith
 
   pub entered_in_lines : place < length keys → line_of key < length lines → get_or keys place None ≡ None →
@@ -126,13 +130,12 @@ module _ (keys : List (Option Key)) (lines : List (List ℕ)) (place : ℕ) (key
           ∙ ap (λ l. in_line (get_or keys p None) l) (sym same)
           ∙ sym (ap (λ k. in_line k line) (get_or-set_other keys place p (Some key) None other))
     ]
-    | inr differ ↦ ap (times p) (get_or-set_other lines (line_of key) line longer [] differ) ∙ in_lines line p
+    | inr differ ↦ ap (times p) (get_or-set_other lines (line_of key) line longer [] differ)
+        ∙ in_lines line p
         ∙ elim (cases_eq p place) [
           | inl this ↦ ap (λ n. in_line (get_or keys n None) line) this ∙ ap (λ k. in_line k line) none
               ∙ sym (ap (λ (b : Bool). cond {A = ℕ} b 1 0) (ne_eqb (line_of key) line (λ q. differ (sym q))))
-              ∙ sym (ap (λ k. in_line k line)
-              (ap (λ n. get_or (set keys place (Some key)) n None) this
-              ∙ get_or-set_same keys place (Some key) None low))
+              ∙ sym (ap (λ k. in_line k line) (key_here low p this))
           | inr other ↦ sym (ap (λ k. in_line k line) (get_or-set_other keys place p (Some key) None other))
         ]
   ]
@@ -148,6 +151,9 @@ module _ (keys : List (Option Key)) (lines : List (List ℕ)) (place : ℕ) (key
 -- What becomes of the lines as a place is taken out of the line of its key.
 module _ (keys : List (Option Key)) (lines new : List (List ℕ)) (place : ℕ) (key : Key)
     (removes : Removes (line_of key) place lines new) where
+  key_gone : place < length keys → (p : ℕ) → p ≡ place → get_or (set keys place None) p None ≡ None
+  key_gone low p this = ap (λ n. get_or (set keys place None) n None) this ∙ get_or-set_same keys place None None low
+
   left_it : place < length keys → get_or keys place None ≡ Some key →
       ((line p : ℕ) → times p (get_or lines line []) ≡ in_line (get_or keys p None) line) →
       (line p : ℕ) → p ≡ place → times p (get_or new line []) ≡ in_line (get_or (set keys place None) p None) line
@@ -155,14 +161,13 @@ module _ (keys : List (Option Key)) (lines new : List (List ℕ)) (place : ℕ) 
       ap (λ n. times n (get_or new line [])) this
       ∙ elim (cases_eq line (line_of key)) [
         | inl same ↦ ap (λ l. times place (get_or new l [])) same
-            ∙ removes.there.once (in_lines (line_of key) place
-            ∙ in_line_has (get_or keys place None) key (line_of key) some refl)
+            ∙ removes.there.once
+            (in_lines (line_of key) place ∙ in_line_has (get_or keys place None) key (line_of key) some refl)
         | inr differ ↦ ap (times place) (removes.elsewhere line differ) ∙ in_lines line place
             ∙ ap (λ k. in_line k line) some
             ∙ ap (λ (b : Bool). cond {A = ℕ} b 1 0) (ne_eqb (line_of key) line (λ q. differ (sym q)))
       ]
-      ∙ sym (ap (λ k. in_line k line)
-      (ap (λ n. get_or (set keys place None) n None) this ∙ get_or-set_same keys place None None low))
+      ∙ sym (ap (λ k. in_line k line) (key_gone low p this))
 
   pub left_in_lines : place < length keys → get_or keys place None ≡ Some key →
       ((line p : ℕ) → times p (get_or lines line []) ≡ in_line (get_or keys p None) line) →
@@ -251,3 +256,15 @@ none_counted why n is = let e : count_by is_due why ≡ n * 0 =
 
 pub set_elsewhere : {A : Type 0} (xs : List A) (i j : ℕ) (new d : A) → j ≢ i → get_or (set xs i new) j d ≡ get_or xs j d
 set_elsewhere xs i j new d differ = get_or-set_other xs i j new d differ
+
+-- A place is due if any is counted.
+pub some_counted : (why : List Why) → 0 < count_by is_due why → (place : ℕ) × (is_due (get_or why place not_due) ≡ true)
+some_counted [] some = absurd (omega arith)
+some_counted (w ∷ why) some = elim (cases_Bool (is_due w)) [
+  | inl this ↦ (0, this)
+  | inr other ↦
+      let e = sum_by-cons (λ (x : Why). cond {A = ℕ} (is_due x) 1 0) w why in
+      let z : cond {A = ℕ} (is_due w) 1 0 ≡ 0 = ap (λ (b : Bool). cond {A = ℕ} b 1 0) other in
+      let rest = some_counted why (omega arith) in
+      (suc rest.0, rest.1)
+]

@@ -1,6 +1,6 @@
 -- What happens to the lines of parked calls (this project's profile).
-use Rattle.std.specs.Prelude.{◌≡◌, ◌≢◌, ◌++◌, ℕ, Bool, true, false, List, [], ◌∷◌, Option, None, Some, length}
-use Rattle.std.specs.Prelude.{slice_index, slice_set, map}
+use Rattle.std.specs.Prelude.{◌≡◌, ◌≢◌, ◌++◌, ℕ, true, false, [], ◌∷◌, Option, None, Some, length, slice_index}
+use Rattle.std.specs.Prelude.{slice_set, map}
 use Rattle.std.specs.List.{count_by}
 use Rattle.sysv_parking.specs.declared.due.Why.{Why}
 use Rattle.sysv_parking.specs.declared.key.Key.{Key}
@@ -39,12 +39,6 @@ pub record Enters (place : ℕ) (key : Key) (old new : Parking) : Type 0 where
   pub lines : new.lines ≡ slice_set old.lines (line_of key) (line_at old (line_of key) ++ place ∷ [])
   pub why : new.why ≡ old.why
 
--- These are due for more reasons, and nothing else changed.
-pub record OnlyMakesDue (old new : Parking) : Type 0 where
-  pub keys : new.keys ≡ old.keys
-  pub lines : new.lines ≡ old.lines
-  pub more : (place : ℕ) → both (why_at old place) (why_at new place) ≡ why_at new place
-
 -- Each call at the queue of this slot is due, since it was set or removed. No other call is due for
 -- more reasons.
 pub record NotesChange (slot : ℕ) (old new : Parking) : Type 0 where
@@ -65,11 +59,12 @@ pub record NotesLine (line : ℕ) (old new : Parking) : Type 0 where
   pub elsewhere : (place : ℕ) → ((key : Key) → key_at old place ≡ Some key → line_of key ≢ line) →
       why_at new place ≡ why_at old place
 
--- Each parked call is due, whatever happened.
+-- Each parked call is due, whatever happened. No other place is due for more reasons.
 pub record NotesAll (old new : Parking) : Type 0 where
   pub keys : new.keys ≡ old.keys
   pub lines : new.lines ≡ old.lines
   pub there : (place : ℕ) (key : Key) → key_at old place ≡ Some key → why_at new place ≡ by_all
+  pub elsewhere : (place : ℕ) → key_at old place ≡ None → why_at new place ≡ why_at old place
 
 -- A place that was due is not due any more. It was due for these reasons.
 pub record TakesDue (place : ℕ) (why : Why) (old new : Parking) : Type 0 where
@@ -82,6 +77,10 @@ pub record TakesDue (place : ℕ) (why : Why) (old new : Parking) : Type 0 where
 -- No place is due.
 abbrev pub NoneIsDue : Parking → Type 0
 NoneIsDue parking = (place : ℕ) → is_due (why_at parking place) ≡ false
+
+-- A place is due.
+abbrev pub SomeIsDue : Parking → Type 0
+SomeIsDue parking = (place : ℕ) × (is_due (why_at parking place) ≡ true)
 
 -- What was taken of the places that are due.
 abbrev pub Takes : Option (ℕ × Why) → Parking → Parking → Type 0

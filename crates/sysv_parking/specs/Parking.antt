@@ -1,13 +1,12 @@
 -- The parked calls of a worker (this project's profile). A call is known by its place.
-use Rattle.std.specs.Prelude.{◌≡◌, ◌≢◌, ◌==◌, ℕ, Bool, true, false, not, List, [], Option, None, Some, cond, slice_get}
-use Rattle.std.specs.Prelude.{slice_index_or}
-use Rattle.std.specs.Prelude.{refl}
+use Rattle.std.specs.Prelude.{◌≡◌, ◌≢◌, ◌==◌, ℕ, Bool, false, not, List, [], Option, None, Some, cond, slice_get}
+use Rattle.std.specs.Prelude.{refl, slice_index_or}
 use Rattle.std.specs.List.{count_by, filter}
 use Rattle.std.proofs.Common.{◌∙◌}
 use Rattle.sysv_lists.specs.Numbers.{times}
 use Rattle.sysv_parking.specs.declared.due.Why.{Why}
 use Rattle.sysv_parking.specs.declared.key.Key.{Key}
-use Rattle.sysv_parking.specs.Due.{is_due, not_due}
+use Rattle.sysv_parking.specs.Due.{not_due}
 use Rattle.sysv_parking.specs.Keys.{line_of, word_of}
 
 -- What the call of each place waits for, if it is in a line; the places in each line, in the order

@@ -1,6 +1,6 @@
 -- The places in the lines of parked calls, as one is put into a line or taken out (this project's
 -- profile).
-use Rattle.std.specs.Prelude.{◌≡◌, ◌≢◌, ◌++◌, ◌+◌, ◌<◌, ℕ, List, [], ◌∷◌, Vec, length, map, slice_index, slice_index_or}
+use Rattle.std.specs.Prelude.{◌≡◌, ◌≢◌, ◌++◌, ◌<◌, ℕ, List, [], ◌∷◌, Vec, length, map, slice_index, slice_index_or}
 use Rattle.std.specs.Prelude.{slice_set}
 use Rattle.std.specs.declared.collections.VecDeque.{VecDeque}
 use Rattle.sysv_lists.specs.Numbers.{times}

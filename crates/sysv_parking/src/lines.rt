@@ -48,11 +48,13 @@ impl Model for Lines {
 }
 
 impl Lines {
-    ghost use Rattle.sysv_parking.specs.Lines.{AreEmpty, Enters, NoneIsDue, NotesAll, NotesChange, NotesLine, OnlyMakesDue, Takes};
+    ghost use Rattle.sysv_parking.specs.Lines.{AreEmpty, Enters, NoneIsDue, NotesAll, NotesChange, NotesLine, SomeIsDue, Takes};
 
     /// Allocates empty lines for this number of places. Returns `None` if memory is refused.
     pub fn open(alloc: Global, places: usize) -> Option<Lines>
-        ensures { IfSome result AreEmpty }
+        ensures empty { IfSome result AreEmpty }
+        ensures places { IfSome result (λ lines. (length lines.keys ≡ places)
+            × (length lines.why ≡ places)) }
     {
         Some(Lines {
             alloc,
@@ -197,7 +199,8 @@ impl Lines {
 
     /// Returns whether a place is due.
     pub fn has_due(&self) -> bool
-        ensures { result ≡ false → NoneIsDue self.now }
+        ensures none { result ≡ false → NoneIsDue self.now }
+        ensures some { result ≡ true → SomeIsDue self.now }
     {
         self.due_count > 0
     }
@@ -289,7 +292,8 @@ fn changed(key: Key) -> Why
 
 /// Appends the place to a line. Returns `false` if memory is refused, or there is no such line.
 fn append(lines: &mut Vec<VecDeque<usize>>, line: usize, place: usize) -> bool
-    ensures appended { result ≡ true → Appends line place (places_in lines.old) (places_in lines.new) }
+    ensures appended { result ≡ true
+        → Appends line place (places_in lines.old) (places_in lines.new) }
     ensures refused { result ≡ false → places_in lines.new ≡ places_in lines.old }
 {
     match lines.get_mut(line) {

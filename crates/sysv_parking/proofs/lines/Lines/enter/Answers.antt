@@ -1,7 +1,6 @@
 -- The place is put into the line of its key.
-use Rattle.std.proofs.Common.{◌≡◌, ◌≢◌, ◌∙◌, ◌<◌, ◌++◌, ◌∷◌, ℕ, None, Some, [], length, get_or, set, refl, sym, ap}
-use Rattle.std.proofs.Common.{subst, arith}
-use Rattle.std.proofs.lemmas.List.{length-map, length-set}
+use Rattle.std.proofs.Common.{◌≡◌, ◌∙◌, List, ◌<◌, ℕ, None, Some, [], length, get_or, set, sym, ap, subst, arith}
+use Rattle.std.proofs.lemmas.List.{length-set}
 use Rattle.sysv_lists.specs.Numbers.{times}
 use Rattle.sysv_parking.specs.Keys.{bounded_sum, line_of}
 use Rattle.sysv_parking.specs.Parking.{Parking, key_at, line_at, why_at, without}
@@ -16,6 +15,10 @@ module _ (c : goal.After-count_more) where
   appends = subst
       (λ (n : ℕ). Appends n c.args.place (places_in c.self.inside.lines) (places_in c.append.new.lines))
       c.line.ensures (c.append.ensures.appended c.if-not-append.false)
+
+  -- The counts, with one place more of a word.
+  abbrev counted : ℕ → List ℕ
+  counted word = set c.self.inside.counts.items word (bounded_sum (get_or c.self.inside.counts.items word 0) 1)
 
   none : get_or c.self.inside.keys.items c.args.place None ≡ None
   none = ap (λ (p : Parking). key_at p c.args.place) c.self.view_is ∙ sym c.key.ensures.key
@@ -32,14 +35,10 @@ invariant_of-self-2 c = record {
   places = c.self.invariant.places ∙ sym (length-set c.self.inside.keys.items c.args.place (Some c.args.key));
   words = ap length c.count_more.ensures ∙ length-set c.self.inside.counts.items c.word.result
       (bounded_sum (get_or c.self.inside.counts.items c.word.result 0) 1) ∙ c.self.invariant.words;
-  counts = λ word.
-      ap (λ ns. get_or ns word 0)
-      (c.count_more.ensures
-      ∙ ap (λ n. set c.self.inside.counts.items n (bounded_sum (get_or c.self.inside.counts.items n 0) 1))
-      c.word.ensures)
+  counts = λ word. ap (λ ns. get_or ns word 0) (c.count_more.ensures ∙ ap (counted c) c.word.ensures)
       ∙ counted_more c.self.inside.keys.items c.self.inside.counts.items c.args.place c.args.key (low c) (none c)
-      (omega (arith, c.self.inside.keys.ok, c.self.inside.keys.small)) c.self.invariant.words c.self.invariant.counts
-      word;
+      (omega (arith, c.self.inside.keys.ok, c.self.inside.keys.small))
+      c.self.invariant.words c.self.invariant.counts word;
   due = c.self.invariant.due;
 }
 

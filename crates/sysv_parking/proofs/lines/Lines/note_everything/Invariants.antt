@@ -1,8 +1,4 @@
 -- Each call is due whose place was passed.
-use Rattle.std.proofs.Common.{◌≡◌, ℕ, ◌<◌, Some, length}
-use Rattle.sysv_parking.specs.declared.key.Key.{Key}
-use Rattle.sysv_parking.specs.Due.{by_all}
-use Rattle.sysv_parking.specs.Parking.{key_at, why_at}
 use Rattle.sysv_parking.proofs.Marks.{MarksAll}
 use Rattle.sysv_parking.proofs.lines.Lines.note_everything.Given as goal
 

@@ -1,5 +1,5 @@
 -- Each place in the line is passed, and made due.
-use Rattle.std.proofs.Common.{◌≡◌, ◌∙◌, Some, None, [], length, get_or, refl, sym, subst, ap, arith}
+use Rattle.std.proofs.Common.{◌≡◌, ◌∙◌, [], length, get_or, refl, sym, subst, ap, arith}
 use Rattle.sysv_parking.specs.Parking.{AreInLines, item_at, line_at}
 use Rattle.sysv_parking.proofs.Marks.{line_none, line_more, line_keep, line_noted}
 use Rattle.sysv_parking.proofs.lines.Lines.note_line.Goals as goal
@@ -12,8 +12,9 @@ loop-index-init c = line_none c.args.line c.args.self.now c.args.self.now refl
 
 module _ (c : goal.Joined-at) where
   is : item_at (line_at c.args.self.now c.args.line) c.loop-index.index ≡ c.at.result
-  is = ap (λ ls. item_at (get_or ls c.args.line []) c.loop-index.index) (sym c.loop-index.invariant.lines)
-      ∙ sym c.at.ensures.item
+  is =
+      ap (λ ls. item_at (get_or ls c.args.line []) c.loop-index.index) (sym c.loop-index.invariant.lines)
+      ∙ sym c.at.ensures
 
 pub loop-index-preserved : goal.loop-index-preserved
 loop-index-preserved c = elim c.match-at.branch [

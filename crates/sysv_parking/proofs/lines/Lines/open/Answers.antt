@@ -22,9 +22,15 @@ invariant_of-result c = record {
   due = none_counted c.in_ok-none_due.field-0.items c.args.places c.in_ok-none_due.ensures;
 }
 
-pub returns : goal.returns
-returns c = record {
+pub returns-clause-empty : goal.returns-clause-empty
+returns-clause-empty c = record {
   keys = λ place. all_default c.in_ok-no_keys.field-0.items c.args.places place None c.in_ok-no_keys.ensures;
   lines = c.in_ok-empty_lines.ensures;
   why = λ place. all_default c.in_ok-none_due.field-0.items c.args.places place not_due c.in_ok-none_due.ensures;
 }
+
+pub returns-clause-places : goal.returns-clause-places
+returns-clause-places c = (
+  ap length c.in_ok-no_keys.ensures ∙ length-replicate {A = Option Key} c.args.places None,
+  ap length c.in_ok-none_due.ensures ∙ length-replicate c.args.places not_due,
+)
