@@ -14,7 +14,7 @@ module _ (c : goal.Joined-at) where
   is : item_at (line_at c.args.self.now c.args.line) c.loop-index.index ≡ c.at.result
   is =
       ap (λ ls. item_at (get_or ls c.args.line []) c.loop-index.index) (sym c.loop-index.invariant.lines)
-      ∙ sym c.at.ensures
+      ∙ sym c.at.ensures.item
 
 pub loop-index-preserved : goal.loop-index-preserved
 loop-index-preserved c = elim c.match-at.branch [
