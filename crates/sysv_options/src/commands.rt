@@ -1,9 +1,7 @@
 //! The command line: a table of commands, and its translation for clap.
 use clap::{Arg, ArgAction, ArgGroup, Command};
 use std::alloc::{AllocError, Global};
-
-/// The program's version.
-const VERSION: &str = "0.2.0";
+use sysv_server::VERSION;
 
 /// The end of the help of the whole program.
 const SESSION: &str = "\
@@ -15,7 +13,7 @@ understood, 3 if the time of --wait is over.
 
 Example:
   $ sysvmsg serve ./q &
-  sysvmsg: serving ./q, up to 1011 sessions at once, 1024 blocks
+  sysvmsg: serving ./q, up to 1011 sessions at once, 1024 messages of 64 bytes
   $ sysvmsg snd ./q 7 hello --type 5
   $ sysvmsg ipcs ./q
   key             msqid      owner perms  bytes messages
@@ -120,7 +118,7 @@ As many clients are served at once as there are descriptors, up to 16384; more w
 
 Example:
   $ sysvmsg serve ./q --mode 660 &
-  sysvmsg: serving ./q, up to 1011 sessions at once, 1024 blocks",
+  sysvmsg: serving ./q, up to 1011 sessions at once, 1024 messages of 64 bytes",
     arguments: &[
         (
             "path",
