@@ -828,7 +828,7 @@ fn is_for(before: Option<Key>, key: Key) -> bool
     ensures { result ≡ true → before ≡ Some key }
 {
     match before {
-        Some(before) => before == key,
+        Some(before) => before.is_same(key),
         None => false,
     }
 }

@@ -1,5 +1,5 @@
 //! What parked calls wait for.
-ghost use Rattle.std.specs.Prelude.{◌≡◌, ◌==◌, Some, IsTrue, ◌↔◌};
+ghost use Rattle.std.specs.Prelude.{◌≡◌, ◌==◌, Some, IsTrue, ◌↔◌, true};
 ghost use Rattle.sysv_parking.specs.Keys.{bounded_sum, hash_of, line_any, line_except, line_exact, line_of, line_room, line_up_to, slot_in, word_of};
 
 use sysv_keys::{SLOTS, slot_of_id};
@@ -99,6 +99,37 @@ impl Key {
             Key::Message { caller, .. } | Key::Room { caller, .. } | Key::Blocks { caller, .. } =>
                 slot_of_id(caller.id) == slot,
             Key::Settled => false,
+        }
+    }
+
+    /// Returns whether both calls wait for the same.
+    pub fn is_same(self, other: Key) -> bool
+        ensures { result ≡ true → self ≡ other }
+    {
+        match (self, other) {
+            (
+                Key::Message { caller, selector },
+                Key::Message {
+                    caller: one,
+                    selector: requested,
+                },
+            ) => caller == one && selector == requested,
+            (
+                Key::Room { caller, length },
+                Key::Room {
+                    caller: one,
+                    length: size,
+                },
+            ) => { caller == one && length == size }
+            (
+                Key::Blocks { caller, length },
+                Key::Blocks {
+                    caller: one,
+                    length: size,
+                },
+            ) => { caller == one && length == size }
+            (Key::Settled, Key::Settled) => true,
+            _ => false,
         }
     }
 
