@@ -1,9 +1,10 @@
 //! The parked calls of a worker, by what they wait for.
 
 use std::alloc::Global;
-use sysv_keys::SLOTS;
+use sysv_keys::{SLOTS, slot_of_id};
 use sysv_model::Selector;
 use sysv_seats::{Awaited, Waiting};
+use sysv_service::SendWait;
 
 /// The number of bits of the hash of a slot and an exact type.
 const HASH_BITS: u32 = 12;
@@ -24,8 +25,8 @@ pub(crate) enum Key {
     Message { slot: usize, selector: Selector },
     /// Room at a slot for a frame of this length.
     Room { slot: usize, length: usize },
-    /// Blocks for a frame of this length.
-    Blocks { length: usize },
+    /// Blocks for a frame of this length, which goes to the queue of a slot.
+    Blocks { slot: usize, length: usize },
 }
 
 impl Key {
@@ -37,15 +38,19 @@ impl Key {
                 selector: waiting.selector().unwrap_or(Selector::Any),
             },
             Awaited::Freed { slot } => Key::Room { slot, length },
-            Awaited::Released => Key::Blocks { length },
+            Awaited::Released => Key::Blocks {
+                slot: slot_for(waiting),
+                length,
+            },
         }
     }
 
-    /// Returns whether the call waits at this slot.
+    /// Returns whether the call is one at the queue of this slot.
     pub(crate) fn is_at(self, at: usize) -> bool {
         match self {
-            Key::Message { slot, .. } | Key::Room { slot, .. } => slot == at,
-            Key::Blocks { .. } => false,
+            Key::Message { slot, .. } | Key::Room { slot, .. } | Key::Blocks { slot, .. } => {
+                slot == at
+            }
         }
     }
 
@@ -258,4 +263,14 @@ impl Lines {
 fn hash(slot: usize, mtype: i64) -> usize {
     let mixed = (mtype.unsigned_abs() ^ (slot as u64).rotate_left(48)).wrapping_mul(SPREAD);
     (mixed >> (u64::BITS - HASH_BITS)) as usize
+}
+
+/// Returns the slot of the queue at which a call waits.
+fn slot_for(waiting: &Waiting) -> usize {
+    match *waiting {
+        Waiting::Send(SendWait::Room { send, .. } | SendWait::Blocks { send, .. }) => {
+            slot_of_id(send.id)
+        }
+        Waiting::Receive(wait) => slot_of_id(wait.receive.id),
+    }
 }

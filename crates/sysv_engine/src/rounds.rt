@@ -434,7 +434,8 @@ impl<'a, 'c, R: Wait> Serving<'a, 'c, R> {
             Notification::Freed { slot, .. } => self.server.word(room_word(slot)),
             Notification::Released => self.server.word(BLOCKS_WORD),
             Notification::Changed { slot } => self.server.word(slot)
-                | self.server.word(room_word(slot)),
+                | self.server.word(room_word(slot))
+                | self.server.word(BLOCKS_WORD),
         }
     }
 
@@ -739,7 +740,7 @@ fn may_name(key: Option<Key>, at: usize, mtype: i64) -> bool {
 /// Returns the length of the frame of a send that waits for this.
 fn length_of(key: Option<Key>) -> usize {
     match key {
-        Some(Key::Room { length, .. } | Key::Blocks { length }) => length,
+        Some(Key::Room { length, .. } | Key::Blocks { length, .. }) => length,
         _ => 0,
     }
 }
