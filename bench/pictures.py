@@ -85,7 +85,7 @@ height="{height:.0f}" role="img" aria-labelledby="title desc" font-family="DejaV
 class Wide:
     """The picture of all figures: groups of sections of bars that begin at the peer's speed, on a logarithmic axis."""
 
-    WIDTH, LEFT, RIGHT, EDGE = 860, 270, 110, 20
+    WIDTH, LEFT, RIGHT, EDGE = 920, 330, 110, 20
     ROW, BAR = 22, 14
 
     def __init__(self, ratios):
