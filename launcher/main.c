@@ -10,6 +10,7 @@
 #include <unistd.h>
 
 #include "children.h"
+#include "options.h"
 #include "run.h"
 
 static const char usage[] =
@@ -18,7 +19,7 @@ static const char usage[] =
 
 static const char help[] =
     "\n"
-    "Runs `sysvmsg serve` with these options (`sysvmsg serve --help` lists them),\n"
+    "Runs `sysvmsg serve` with these options (`sysvmsg serve --help` describes them),\n"
     "--until-eof and, unless they are given, --drain 5 and --blocks 65536. SIGTERM or\n"
     "SIGINT shuts it down gracefully: it refuses new clients, waits for its sessions,\n"
     "at most as long as --drain states, prints its counts and removes its sockets. A\n"
@@ -34,9 +35,16 @@ static const char help[] =
     "  $ sysvmsg-serve ./q --mode 660\n"
     "  $ sysvmsg-serve --with ./q -- make test\n";
 
+static void print_usage(FILE *stream)
+{
+    fputs(usage, stream);
+    options_print(stream);
+}
+
 static _Noreturn void refuse(const char *why)
 {
-    fprintf(stderr, "sysvmsg-serve: %s\n%s", why, usage);
+    fprintf(stderr, "sysvmsg-serve: %s\n", why);
+    print_usage(stderr);
     exit(NOT_UNDERSTOOD);
 }
 
@@ -84,6 +92,9 @@ static struct request read_words(char **words)
         request = (struct request){.path = words[0], .options = words + 1};
     if (*request.path == '\0' || *request.path == '-')
         refuse("the path comes first, and begins with no -");
+    char why[WHY_BYTES];
+    if (!options_are_valid(request.options, why))
+        refuse(why);
     return request;
 }
 
@@ -91,7 +102,7 @@ int main(int count, char **words)
 {
     fill_standard_streams();
     if (count == 2 && is_one_of(words[1], "-h", "--help")) {
-        fputs(usage, stdout);
+        print_usage(stdout);
         fputs(help, stdout);
         return 0;
     }

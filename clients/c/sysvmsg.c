@@ -6,6 +6,7 @@
 #include <stdlib.h>
 #include <string.h>
 
+#include "caller_memory.h"
 #include "connection.h"
 #include "frames.h"
 #include "requests.h"
@@ -35,7 +36,7 @@ static int outcome(int error)
 /* Opens what has a peer. Returns NULL with errno set if that fails. */
 static struct sysvmsg *opened(struct sysvmsg *server, const char *path, int milliseconds)
 {
-    int error = peer_set_path(&server->peer, path) ? 0 : ENAMETOOLONG;
+    int error = !path ? EFAULT : peer_set_path(&server->peer, path) ? 0 : ENAMETOOLONG;
     if (error == 0)
         error = connection_open(&server->peer, milliseconds, &server->connection);
     if (error == 0)
@@ -100,6 +101,8 @@ EXPORTED int sysvmsg_snd(
     int64_t type;
     if (size > TEXT_MAX)
         return outcome(EINVAL);
+    if (!is_readable(message))
+        return outcome(EFAULT);
     memcpy(&type, message, sizeof type);
     return outcome(request_snd(server->connection, queue, type, (const char *)message + sizeof type,
         size, wait_flag(milliseconds), milliseconds));
@@ -109,6 +112,9 @@ EXPORTED ssize_t sysvmsg_rcv(struct sysvmsg *server, int queue, void *message, s
     int64_t type, int flags, int milliseconds)
 {
     size_t got;
+    /* (a message that has no place is not taken) */
+    if (!is_readable(message))
+        return outcome(EFAULT);
     flags = (flags & (SYSVMSG_NOERROR | SYSVMSG_EXCEPT)) | wait_flag(milliseconds);
     int error = request_rcv(server->connection, queue, message, size < TEXT_MAX ? size : TEXT_MAX,
         type, flags, milliseconds, &got);
@@ -119,16 +125,21 @@ EXPORTED int sysvmsg_stat(struct sysvmsg *server, int queue, struct sysvmsg_stat
 {
     struct queue_stat found;
     int error = request_stat(server->connection, queue, &found);
-    if (error == 0)
-        *stat = (struct sysvmsg_stat){found.key, found.uid, found.gid, found.cuid, found.cgid,
-            found.mode, found.cbytes, found.qnum, found.qbytes, found.lspid, found.lrpid,
-            found.stime, found.rtime, found.ctime};
-    return outcome(error);
+    if (error != 0)
+        return outcome(error);
+    struct sysvmsg_stat shown = {found.key, found.uid, found.gid, found.cuid, found.cgid,
+        found.mode, found.cbytes, found.qnum, found.qbytes, found.lspid, found.lrpid, found.stime,
+        found.rtime, found.ctime};
+    return outcome(copy_to_caller(stat, &(struct iovec){&shown, sizeof shown}, 1));
 }
 
 EXPORTED int sysvmsg_set(struct sysvmsg *server, int queue, const struct sysvmsg_set *set)
 {
-    struct queue_set wanted = {set->uid, set->gid, set->mode, set->qbytes};
+    struct sysvmsg_set given;
+    int error = copy_from_caller(&(struct iovec){&given, sizeof given}, 1, set);
+    if (error != 0)
+        return outcome(error);
+    struct queue_set wanted = {given.uid, given.gid, given.mode, given.qbytes};
     return outcome(request_set(server->connection, queue, &wanted));
 }
 
@@ -145,7 +156,8 @@ EXPORTED int sysvmsg_row(struct sysvmsg *server, int slot, struct sysvmsg_row *r
         return outcome(error);
     if (!found.present)
         return 0;
-    *row =
-        (struct sysvmsg_row){found.id, found.key, found.uid, found.mode, found.cbytes, found.qnum};
-    return 1;
+    struct sysvmsg_row shown = {
+        found.id, found.key, found.uid, found.mode, found.cbytes, found.qnum};
+    error = copy_to_caller(row, &(struct iovec){&shown, sizeof shown}, 1);
+    return error ? outcome(error) : 1;
 }

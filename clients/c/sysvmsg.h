@@ -1,7 +1,7 @@
 /* A client of sysvmsg servers: System V message queues over a Unix socket.
  *
- * Calls return -1 and set errno if they fail. Link with -lsysvmsg -pthread. docs/clients-c.md has
- * an example. */
+ * Calls return -1 and set errno if they fail: EFAULT if the memory of an argument is missing. Link
+ * with -lsysvmsg -pthread. libsysvmsg(3) has an example. */
 #ifndef SYSVMSG_H
 #define SYSVMSG_H
 
@@ -59,8 +59,8 @@ struct sysvmsg;
 
 /* Connects to the server at a path, as this process's effective user and group, within a number of
  * milliseconds or SYSVMSG_NO_LIMIT. Returns NULL and sets errno to that of the connect, to
- * ENAMETOOLONG, EMFILE if the process has 1,024 connections, ETIMEDOUT, or EIO if the server sent
- * no valid reply. */
+ * EFAULT, ENAMETOOLONG, EMFILE if the process has 1,024 connections, ETIMEDOUT, or EIO if the
+ * server sent no valid reply. */
 struct sysvmsg *sysvmsg_open(const char *path, int milliseconds);
 
 /* The same, as another user and group. The server does not check them. */

@@ -328,6 +328,27 @@ static void try_no_server(void)
     CHECK(!sysvmsg_open(long_path, 1000) && errno == ENAMETOOLONG);
 }
 
+/* Memory that is missing is reported, and no message is taken or sent for it. */
+static void try_faults(void)
+{
+    struct sysvmsg *server = open_server();
+    int queue = sysvmsg_get(server, KEY, SYSVMSG_CREAT | 0600);
+    void *missing[] = {NULL, (void *)1};
+    CHECK(!sysvmsg_open(NULL, 1000) && errno == EFAULT);
+    CHECK(send_text(server, queue, 1, "kept", 10000) == 0);
+    for (size_t i = 0; i < sizeof missing / sizeof *missing; i++) {
+        CHECK(sysvmsg_snd(server, queue, missing[i], 5, 10000) == -1 && errno == EFAULT);
+        CHECK(sysvmsg_rcv(server, queue, missing[i], 5, 0, 0, 10000) == -1 && errno == EFAULT);
+        CHECK(sysvmsg_stat(server, queue, missing[i]) == -1 && errno == EFAULT);
+        CHECK(sysvmsg_set(server, queue, missing[i]) == -1 && errno == EFAULT);
+        CHECK(sysvmsg_row(server, 0, missing[i]) == -1 && errno == EFAULT);
+    }
+    CHECK(receives(server, queue, 0, "kept"));
+    struct sysvmsg_stat stat;
+    CHECK(sysvmsg_stat(server, queue, &stat) == 0 && stat.qnum == 0);
+    sysvmsg_close(server);
+}
+
 /* A connection that is closed leaves room for another one, and too many are refused. */
 static void try_many(void)
 {
@@ -347,7 +368,8 @@ int main(int count, char **words)
         void (*part)(void);
     } parts[] = {{"limits", try_limits}, {"races", try_races}, {"threads", try_threads},
         {"fork", try_fork}, {"signal", try_signal}, {"cancel", try_cancel},
-        {"no-place", try_no_place}, {"no-server", try_no_server}, {"many", try_many}};
+        {"no-place", try_no_place}, {"no-server", try_no_server}, {"faults", try_faults},
+        {"many", try_many}};
     if (count < 3)
         return 2;
     path = words[2];

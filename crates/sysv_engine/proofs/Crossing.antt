@@ -23,16 +23,13 @@ use Rattle.sysv_seats.specs.contracts.tools.Tools as tools
 use Rattle.sysv_seats.specs.contracts.zero.Zero as zero
 use Rattle.sysv_seats.specs.contracts.zero.ZeroClock.TheImpl as clock
 use Rattle.sysv_seats.specs.declared.non_blocking.NonBlocking.{Ghosts}
+use Rattle.sysv_parking.proofs.Crossing.{lines_send}
 use Rattle.sysv_seats.proofs.parked.Parked.TheSendSync.{the_send as parked_send}
 use Rattle.sysv_session.proofs.session.Session.TheSendSync.{the_send as session_send}
 use Rattle.sysv_seats.proofs.zero.Zero.TheSendSync.{the_sync as zero_sync}
 use Rattle.sysv_engine.specs.contracts.server_state.ServerState as server
 use Rattle.sysv_engine.specs.contracts.server_state.Envelope as envelope
-use Rattle.sysv_engine.specs.contracts.parked_calls.Key as key
-use Rattle.sysv_engine.specs.contracts.parked_calls.Line as line
-use Rattle.sysv_engine.specs.contracts.parked_calls.Lines as lines
-use Rattle.sysv_engine.specs.contracts.parked_calls.Link as link
-use Rattle.sysv_engine.specs.contracts.parked_calls.SlotLines as slot_lines
+use Rattle.sysv_engine.specs.contracts.changes.Changes as changes
 use Rattle.sysv_engine.specs.contracts.moment.Moment as moment
 use Rattle.sysv_engine.specs.contracts.place.Place as place
 use Rattle.sysv_engine.specs.contracts.place.Place.TheInside as place_inside
@@ -101,7 +98,10 @@ client_send T B ghosts t = view_send (client_inside.the_row T B ghosts) _ _ _ _
                     search crossing depth 10,
                     (
                       search crossing depth 10,
-                      (search crossing depth 10, (search crossing depth 10, (search crossing depth 10, tt))),
+                      (
+                        search crossing depth 10,
+                        (search crossing depth 10, (search crossing depth 10, (search crossing depth 10, tt))),
+                      ),
                     ),
                   ),
                 ),
@@ -135,26 +135,8 @@ place_send l R T B ghosts r t b = view_send (place_inside.the_row l R T B ghosts
       ),
     ))
 
-line_send : IsSend line.the_row
-line_send = search crossing depth 30
-
-slot_lines_send : IsSend slot_lines.the_row
-slot_lines_send = search (crossing, line_send) depth 30
-
-key_send : IsSend key.the_row
-key_send = search crossing depth 40
-
-link_send : IsSend link.the_row
-link_send = search (crossing, key_send) depth 40
-
-lines_send : IsSend lines.the_row
-lines_send = declared_send lines.the_type (
-  search (crossing, slot_lines_send) depth 30,
-  (
-    search (crossing, line_send) depth 30,
-    (line_send, (search (crossing, link_send) depth 30, (search crossing depth 30, tt))),
-  ),
-)
+changes_send : IsSend changes.the_row
+changes_send = search crossing depth 30
 
 ready_send : IsSend ready.the_row
 ready_send = search crossing depth 30
@@ -189,14 +171,23 @@ worker_send l R T W B ghosts r t w b =
                   (
                     search (crossing, envelope_send) depth 30,
                     (
-                      tools_send,
+                      search (crossing, changes_send) depth 30,
                       (
                         search crossing depth 10,
                         (
-                          options.the_send _ moment_send,
+                          tools_send,
                           (
-                            search (crossing, spinning_send) depth 30,
-                            (search crossing depth 10, (search crossing depth 10, tt)),
+                            search crossing depth 10,
+                            (
+                              options.the_send _ moment_send,
+                              (
+                                options.the_send _ moment_send,
+                                (
+                                  search (crossing, spinning_send) depth 30,
+                                  (search crossing depth 10, (search crossing depth 10, tt)),
+                                ),
+                              ),
+                            ),
                           ),
                         ),
                       ),

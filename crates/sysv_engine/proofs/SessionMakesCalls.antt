@@ -62,14 +62,21 @@ module _ (may : ℕ → Type 0) (may_leave : Type 0) (any : EachRunIsAtAnyMoment
       Asks may may_leave version cred ask text old outcome given new → Makes ask text old outcome given new
   makes (Hello other) text old outcome given new asked = absurd asked
   makes (Get key flags) text old outcome given new asked =
-      let did = asked.0 in
-      record {
-        calls = only old (Msgget key flags) 0 did.2.0 (Over did.1);
-        rests = (tt, tt);
-        works = λ start made.
-            one_call may any cred (Msgget key flags) 0 start old made did.2.0 (Over did.1) new did.2.1;
-        asks = λ made. ((did.0, did.1, (did.2.0, did.2.1, refl), did.3, did.4), asked.1);
-      }
+      let call = Msgget key flags in
+      elim asked.0 [
+        | inl did ↦ record {
+          calls = only old call 0 did.2.0 (Over did.1);
+          rests = (tt, tt);
+          works = λ start made. one_call may any cred call 0 start old made did.2.0 (Over did.1) new did.2.1;
+          asks = λ made. (inl (did.0, did.1, (did.2.0, did.2.1, refl), did.3, did.4), asked.1);
+        }
+        | inr left ↦ record {
+          calls = only old call 0 left.0.2.0 (Waits left.0.1);
+          rests = (tt, tt);
+          works = λ start made. one_call may any cred call 0 start old made left.0.2.0 (Waits left.0.1) new left.0.2.1;
+          asks = λ made. (inr ((left.0.0, left.0.1, (left.0.2.0, left.0.2.1, refl)), left.1), asked.1);
+        }
+      ]
   makes (Snd id mtype flags) text old outcome given new asked =
       let sends = asked.0 in
       let call = Msgsnd id mtype flags text in

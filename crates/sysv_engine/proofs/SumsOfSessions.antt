@@ -1,13 +1,13 @@
 -- Sums of sums.
 use Rattle.std.proofs.Common.{◌≡◌, ◌∙◌, ℕ, ◌+◌, ◌≤◌, ◌<◌, List, [], ◌∷◌, ◌++◌, map, length, Option, ap, refl, sym}
-use Rattle.std.proofs.Common.{arith}
+use Rattle.std.proofs.Common.{arith, subst}
 use Rattle.std.specs.Prelude.{◌^◌, ◌-◌}
 use Rattle.std.specs.List.{sum_by}
 use Rattle.std.proofs.lemmas.List.{map-append}
 use Rattle.std.proofs.lemmas.List.Sums.{sum_by-append, sum_by-cons, sum_by_push}
 use Rattle.sysv_session.specs.declared.served.Served.{Served}
 use Rattle.sysv_engine.specs.declared.sums.Sums.{Sums}
-use Rattle.sysv_engine.specs.Added.{capped, added, all_added, one_session, IsBalanced}
+use Rattle.sysv_engine.specs.Added.{capped, added, all_added, nothing, one_session, IsBalanced}
 use Rattle.sysv_engine.specs.Handled.{one_refused, refused_of, sums_of}
 use Rattle.sysv_engine.specs.Converses.{tally_of}
 
@@ -73,6 +73,17 @@ pub record Adding (all : List Sums) (s : Sums) (rest : List Sums) : Type 0 where
 
 cap_le : (n : ℕ) → capped n ≤ 2 ^ 64 - 1
 cap_le n = omega arith
+
+cap_again : (n : ℕ) → capped (0 + capped n) ≡ capped n
+cap_again n = omega arith
+
+-- At first nothing was added.
+pub adding_none : (all : List Sums) (s : Sums) → s ≡ nothing → Adding all s all
+adding_none all s is = subst (λ (t : Sums). Adding all t all) (sym is) (record {
+  adds = sums_are (added nothing (all_added all)) (all_added all) (cap_again _) (cap_again _) (cap_again _)
+      (cap_again _);
+  small = record { sessions = omega arith; taken = omega arith; written = omega arith; lost = omega arith };
+})
 
 moved : (f : Sums → ℕ) (s x : Sums) (rest : List Sums) →
     capped (capped (f s + f x) + capped (sum_by f rest)) ≡ capped (f s + capped (sum_by f (rest ++ x ∷ [])))

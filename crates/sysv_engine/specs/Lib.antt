@@ -12,3 +12,4 @@ pub mod OneRun
 pub mod Serving
 pub mod Headline
 pub mod Places
+pub mod Heeding

@@ -1,9 +1,9 @@
 //! What a worker counts for those who look at the server.
 
-use crate::server_state::{BLOCKS_WORD, WORDS, room_word};
 use std::alloc::Global;
 use std::sync::atomic::{AtomicU64, Ordering};
 use sysv_keys::SLOTS;
+use sysv_parking::{BLOCKS_WORD, WORDS, room_word};
 use sysv_queue::Tally;
 use sysv_seats::Notification;
 
@@ -98,7 +98,7 @@ fn word_of(notification: Notification) -> Option<usize> {
     match notification {
         Notification::Arrived { slot, .. } => Some(slot),
         Notification::Freed { slot, .. } => Some(room_word(slot)),
-        Notification::Released | Notification::Changed { .. } => None,
+        Notification::Released | Notification::Changed { .. } | Notification::Settled => None,
     }
 }
 

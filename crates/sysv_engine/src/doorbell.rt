@@ -5,6 +5,9 @@ use libc::{close, read, write};
 /// What a ring adds to the counter behind the doorbell's descriptor.
 const ONE: u64 = 1;
 
+/// The number of times that a ring is tried.
+const MOST_TRIES: u32 = 64;
+
 /// A doorbell. Its descriptor can be read from a ring until the doorbell is hushed.
 pub(crate) struct Doorbell {
     fd: i32,
@@ -22,9 +25,13 @@ impl Doorbell {
         self.fd
     }
 
-    /// Rings the doorbell.
+    /// Rings the doorbell, again if the system refuses that.
     pub(crate) fn ring(&self) {
-        write(self.fd, &ONE.to_ne_bytes());
+        for _ in 0..MOST_TRIES {
+            if write(self.fd, &ONE.to_ne_bytes()) > 0 {
+                return;
+            }
+        }
     }
 
     /// Ends the ringing.

@@ -1,9 +1,10 @@
 //! The engine of a server of message queues: any number of clients on a few workers.
 //!
 //! A worker is an event loop. It has a number of places, each with a pass of its own, and each
-//! place serves one client after another. A client is a value: its session does not wait, neither
-//! for its connection nor inside a call. A call that waits is parked, and its worker looks at it
-//! again when what it waits for may have come.
+//! place serves one client after another. A client is a value: its session waits neither for its
+//! connection nor for a count. A call that has to wait for a count is parked, and its worker looks
+//! at it again when what it waits for may have come. A worker waits inside a call only for turns at
+//! the gates of objects.
 //!
 //! `serve_connections` serves the connections of a source on a new service. All sessions share the
 //! service, which is the handler of each session: each request, except one for a row, is one call
@@ -11,6 +12,8 @@
 #![tactic(auto)]
 
 mod arrivals;
+mod awaited;
+mod changes;
 mod connections;
 mod counts;
 mod dealing;
@@ -18,7 +21,6 @@ mod doorbell;
 mod fault;
 mod laws;
 mod moment;
-mod parked_calls;
 mod place;
 mod rounds;
 mod rows;

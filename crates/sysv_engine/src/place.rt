@@ -6,8 +6,8 @@ ghost use Rattle.sysv_engine.specs.Added.{added, capped, nothing, one_session};
 ghost use Rattle.sysv_engine.specs.Handled.{one_refused};
 ghost use Rattle.sysv_engine.specs.Places.{KeepsPlace, TakesIn, taken_by};
 
+use crate::awaited::key_of;
 use crate::moment::Moment;
-use crate::parked_calls::Key;
 use crate::sums::Sums;
 use crate::terms::Patience;
 use crate::times::Times;
@@ -15,6 +15,7 @@ use crate::watch::{Ready, Watch};
 use std::alloc::Global;
 use std::marker::Model;
 use std::sync::Wait;
+use sysv_parking::Key;
 use sysv_seats::{Client, NonBlocking, ServiceHandler, Tools, ZERO, Zero};
 use sysv_service::{Pass, Service};
 use sysv_session::{End, Served};
@@ -201,19 +202,6 @@ impl<'a, R: Wait, T: NonBlocking> Place<'a, R, T> {
         }
     }
 
-    /// Leaves the parked call if the peer has shut down its writing: what has come since is not for
-    /// it.
-    pub(crate) fn leave_if_gone<W: Watch<T>>(&mut self, watch: &W)
-        ensures keeps { KeepsPlace T.incoming T.outgoing T.closes self.old self.new }
-    {
-        let Some(client) = &mut self.client else {
-            return;
-        };
-        if watch.has_left(client.connection()) {
-            client.leave();
-        }
-    }
-
     /// Continues the parked call, if it may go on.
     pub(crate) fn go_on(&mut self, tools: &mut Tools)
         ensures keeps { KeepsPlace T.incoming T.outgoing T.closes self.old self.new }
@@ -247,13 +235,21 @@ impl<'a, R: Wait, T: NonBlocking> Place<'a, R, T> {
     pub(crate) fn key(&self) -> Option<Key> {
         let client = self.client.as_ref()?;
         let waiting = client.waiting()?;
-        Some(Key::of(&waiting, client.parked_length()))
+        Some(key_of(&waiting, client.parked_length()))
     }
 
     /// Returns the number of blocks that calls at the place reserved and did not release, modulo
     /// 2^64.
     pub(crate) fn blocks_in_use(&self) -> u64 {
         self.handler.blocks_in_use()
+    }
+
+    /// Returns whether the client may have more bytes to read, although nothing reports them.
+    pub(crate) fn may_hold_more(&self) -> bool {
+        match &self.client {
+            Some(client) => client.may_hold_more(),
+            None => false,
+        }
     }
 
     /// Returns whether there is a client.

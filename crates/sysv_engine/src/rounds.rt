@@ -1,21 +1,29 @@
 //! The event loop of a worker.
-ghost use Rattle.std.specs.Prelude.{◌≡◌};
+ghost use Rattle.std.specs.Prelude.{◌≡◌, ◌⊎◌, None, Some, true};
+ghost use Rattle.sysv_parking.specs.Parking.{AreInLines, MovesOnly, key_at};
+ghost use Rattle.sysv_engine.specs.Heeding.{Heeds};
 ghost use Rattle.sysv_engine.specs.Places.{IsVacantAt, KeepsAll};
 
+use crate::changes::{Change, Changes};
 use crate::counts::Moved;
 use crate::moment::Moment;
-use crate::parked_calls::Key;
-use crate::server_state::{BLOCKS_WORD, Envelope, ServerState, bit, room_word};
+use crate::server_state::{Envelope, ServerState, bit};
 use crate::spinning::look;
 use crate::watch::{Ready, Watch};
 use crate::worker::{Worker, sooner};
 use std::alloc::Global;
 use std::sync::Wait;
-use sysv_rules::qualifies;
+use sysv_parking::{
+    BLOCKS_WORD, Calls, Found, Key, Lines, LookedFor, SETTLED_WORD, Why, look_at_due,
+    look_for_message, room_word,
+};
 use sysv_seats::{NonBlocking, Notification};
 use sysv_service::Service;
 use sysv_session::End;
 use sysv_workers::Job;
+
+/// The number of envelopes that a worker reads in a round.
+const MOST_ENVELOPES: u32 = 256;
 
 /// The job that serves the clients of a worker.
 ///
@@ -56,9 +64,63 @@ impl<'a, 'c, R: Wait, T: NonBlocking + Drop, W: Watch<T>> Job<Worker<'a, R, T, W
     }
 }
 
+impl<'a, 'c, R: Wait, T: NonBlocking, W: Watch<T>> Calls<Serving<'a, 'c, R>>
+    for Worker<'a, R, T, W> {
+    ghost use Rattle.std.specs.Prelude.{⊤};
+    ghost use Rattle.sysv_parking.specs.Lines.{Takes};
+
+    ghost keeps = { λ old new. KeepsAll T.incoming T.outgoing T.closes old.places.items
+        new.places.items };
+
+    ghost parking = { λ worker. worker.lines };
+
+    // (what was looked at is not kept)
+    ghost looked = { λ worker place key found. ⊤ };
+
+    fn lines(&self) -> &Lines
+        ensures { result.now ≡ self.now.lines }
+    {
+        &self.lines
+    }
+
+    fn take_due(&mut self) -> Option<(usize, Why)>
+        ensures takes { Takes result self.old.lines self.new.lines }
+        ensures looked { ⊤ }
+        ensures keeps { KeepsAll T.incoming T.outgoing T.closes self.old.places.items
+            self.new.places.items }
+    {
+        self.lines.take_due()
+    }
+
+    fn may_look(&self) -> bool {
+        self.looks > 0
+    }
+
+    fn look(&mut self, by: &Serving<'a, 'c, R>, place: usize, mtype: i64) -> Found
+        ensures look { ⊤ }
+        ensures looked { ⊤ }
+        ensures moves { MovesOnly place self.old.lines self.new.lines }
+        ensures in_lines { AreInLines self.new.lines }
+        ensures waits { result ≡ Found.Nothing
+            → key_at self.new.lines place ≡ key_at self.old.lines place }
+        ensures over { (result ≡ Found.Message) ⊎ (result ≡ Found.Over)
+            → key_at self.new.lines place ≡ None }
+        ensures keeps { KeepsAll T.incoming T.outgoing T.closes self.old.places.items
+            self.new.places.items }
+    {
+        self.looks = self.looks.saturating_sub(1);
+        by.wake(self, place, mtype)
+    }
+
+    ghost keeps_itself = { λ worker gates standings each. each };
+
+    ghost keeps_on = { λ x y z first then gates standings each.
+        then gates standings (first gates standings each) };
+}
+
 impl<'a, 'c, R: Wait> Serving<'a, 'c, R> {
     /// Serves the clients until a place is vacant, and returns it.
-    fn make_room<T: NonBlocking, W: Watch<T>>(&self, worker: &mut Worker<'_, R, T, W>) -> usize
+    fn make_room<T: NonBlocking, W: Watch<T>>(&self, worker: &mut Worker<'a, R, T, W>) -> usize
         ensures keeps { KeepsAll T.incoming T.outgoing T.closes worker.old.places.items
             worker.new.places.items }
         ensures vacant { IsVacantAt result worker.new.places.items }
@@ -73,7 +135,7 @@ impl<'a, 'c, R: Wait> Serving<'a, 'c, R> {
     }
 
     /// Serves the clients until the worker is to return.
-    fn serve<T: NonBlocking, W: Watch<T>>(&self, worker: &mut Worker<'_, R, T, W>)
+    fn serve<T: NonBlocking, W: Watch<T>>(&self, worker: &mut Worker<'a, R, T, W>)
         ensures { KeepsAll T.incoming T.outgoing T.closes worker.old.places.items
             worker.new.places.items }
     {
@@ -87,7 +149,7 @@ impl<'a, 'c, R: Wait> Serving<'a, 'c, R> {
 
     /// Returns whether the worker is to return: to take one more connection, or because there are
     /// no clients and no more connections come.
-    fn is_called<T: NonBlocking, W: Watch<T>>(&self, worker: &mut Worker<'_, R, T, W>) -> bool
+    fn is_called<T: NonBlocking, W: Watch<T>>(&self, worker: &mut Worker<'a, R, T, W>) -> bool
         ensures { KeepsAll T.incoming T.outgoing T.closes worker.old.places.items
             worker.new.places.items }
     {
@@ -99,17 +161,18 @@ impl<'a, 'c, R: Wait> Serving<'a, 'c, R> {
     }
 
     /// Waits for events, and serves each client that has some.
-    fn round<T: NonBlocking, W: Watch<T>>(&self, worker: &mut Worker<'_, R, T, W>)
+    fn round<T: NonBlocking, W: Watch<T>>(&self, worker: &mut Worker<'a, R, T, W>)
         ensures { KeepsAll T.incoming T.outgoing T.closes worker.old.places.items
             worker.new.places.items }
     {
         self.rest(worker);
-        for at in 0..worker.ready.len() {
-            let Some(ready) = worker.ready.get(at).copied() else {
-                break;
-            };
-            self.report(worker, &ready);
+        self.note_ready(worker);
+        worker.begin_looks();
+        if self.server.wake_up(worker.number) {
+            self.read_envelopes(worker);
         }
+        self.spread(worker);
+        self.serve_ready(worker);
         self.take_turns(worker);
         self.look_at_times(worker);
         if self.server.is_cut() {
@@ -118,24 +181,47 @@ impl<'a, 'c, R: Wait> Serving<'a, 'c, R> {
     }
 
     /// Waits until a client has an event, or something came for the worker.
-    fn rest<T: NonBlocking, W: Watch<T>>(&self, worker: &mut Worker<'_, R, T, W>)
-        ensures { KeepsAll T.incoming T.outgoing T.closes worker.old.places.items
-            worker.new.places.items }
+    fn rest<T: NonBlocking, W: Watch<T>>(&self, worker: &mut Worker<'a, R, T, W>)
+        ensures { worker.new.places ≡ worker.old.places }
     {
         if !self.spin(worker) {
             self.sleep(worker);
         }
-        if self.server.wake_up(worker.number) {
-            self.read_envelopes(worker);
+    }
+
+    /// Has the clients learn what the watch reports of them, before parked calls are looked at: a
+    /// client that has left gets no message.
+    fn note_ready<T: NonBlocking, W: Watch<T>>(&self, worker: &mut Worker<'a, R, T, W>)
+        ensures { KeepsAll T.incoming T.outgoing T.closes worker.old.places.items
+            worker.new.places.items }
+    {
+        for at in 0..worker.ready.len() {
+            let Some(ready) = worker.ready.get(at).copied() else {
+                break;
+            };
+            worker.note(&ready);
+        }
+    }
+
+    /// Serves the clients of which the watch reports events.
+    fn serve_ready<T: NonBlocking, W: Watch<T>>(&self, worker: &mut Worker<'a, R, T, W>)
+        ensures { KeepsAll T.incoming T.outgoing T.closes worker.old.places.items
+            worker.new.places.items }
+    {
+        for at in 0..worker.ready.len() {
+            let Some(ready) = worker.ready.get(at).copied() else {
+                break;
+            };
+            self.turn(worker, ready.place);
         }
     }
 
     /// Looks for events for some microseconds, if there are few clients and such looks were of use
     /// lately. Returns whether a client has an event, or something came for the worker.
-    fn spin<T: NonBlocking, W: Watch<T>>(&self, worker: &mut Worker<'_, R, T, W>) -> bool
+    fn spin<T: NonBlocking, W: Watch<T>>(&self, worker: &mut Worker<'a, R, T, W>) -> bool
         ensures { worker.new.places ≡ worker.old.places }
     {
-        let is_idle = worker.turns.is_empty() && !worker.is_empty();
+        let is_idle = !worker.is_empty() && !worker.has_more();
         if !is_idle || !self.server.has_few_clients() || !worker.spinning.is_due() {
             return false;
         }
@@ -150,12 +236,12 @@ impl<'a, 'c, R: Wait> Serving<'a, 'c, R> {
     }
 
     /// Sleeps until a client has an event, or something came for the worker. It does not sleep if
-    /// a client has more to do.
-    fn sleep<T: NonBlocking, W: Watch<T>>(&self, worker: &mut Worker<'_, R, T, W>)
+    /// there is more to do.
+    fn sleep<T: NonBlocking, W: Watch<T>>(&self, worker: &mut Worker<'a, R, T, W>)
         ensures { worker.new.places ≡ worker.old.places }
     {
         let may_sleep = self.server.fall_asleep(worker.number);
-        let limit = if may_sleep && worker.turns.is_empty() {
+        let limit = if may_sleep && !worker.has_more() {
             worker.check.map(Moment::left)
         } else {
             Some(0)
@@ -164,7 +250,7 @@ impl<'a, 'c, R: Wait> Serving<'a, 'c, R> {
     }
 
     /// Serves a client of which the watch reports an event.
-    fn report<T: NonBlocking, W: Watch<T>>(&self, worker: &mut Worker<'_, R, T, W>, ready: &Ready)
+    fn report<T: NonBlocking, W: Watch<T>>(&self, worker: &mut Worker<'a, R, T, W>, ready: &Ready)
         ensures { KeepsAll T.incoming T.outgoing T.closes worker.old.places.items
             worker.new.places.items }
     {
@@ -173,7 +259,7 @@ impl<'a, 'c, R: Wait> Serving<'a, 'c, R> {
     }
 
     /// Gives each client in the line of those that have more to do one turn.
-    fn take_turns<T: NonBlocking, W: Watch<T>>(&self, worker: &mut Worker<'_, R, T, W>)
+    fn take_turns<T: NonBlocking, W: Watch<T>>(&self, worker: &mut Worker<'a, R, T, W>)
         ensures { KeepsAll T.incoming T.outgoing T.closes worker.old.places.items
             worker.new.places.items }
     {
@@ -186,7 +272,7 @@ impl<'a, 'c, R: Wait> Serving<'a, 'c, R> {
     }
 
     /// Has a client take up and answer a share of what has arrived.
-    fn turn<T: NonBlocking, W: Watch<T>>(&self, worker: &mut Worker<'_, R, T, W>, place: usize)
+    fn turn<T: NonBlocking, W: Watch<T>>(&self, worker: &mut Worker<'a, R, T, W>, place: usize)
         ensures { KeepsAll T.incoming T.outgoing T.closes worker.old.places.items
             worker.new.places.items }
     {
@@ -197,13 +283,15 @@ impl<'a, 'c, R: Wait> Serving<'a, 'c, R> {
         worker.take_turn(place);
         self.count_blocks(worker, place, before);
         self.settle(worker, place);
+        worker.allow_looks();
         self.spread(worker);
     }
 
     /// Continues a client's parked call, if it may go on.
-    fn go_on<T: NonBlocking, W: Watch<T>>(&self, worker: &mut Worker<'_, R, T, W>, place: usize)
-        ensures { KeepsAll T.incoming T.outgoing T.closes worker.old.places.items
+    fn go_on<T: NonBlocking, W: Watch<T>>(&self, worker: &mut Worker<'a, R, T, W>, place: usize)
+        ensures keeps { KeepsAll T.incoming T.outgoing T.closes worker.old.places.items
             worker.new.places.items }
+        ensures lines { worker.new.lines ≡ worker.old.lines }
     {
         let before = worker.blocks_in_use(place);
         worker.go_on(place);
@@ -214,7 +302,7 @@ impl<'a, 'c, R: Wait> Serving<'a, 'c, R> {
     /// that they have released.
     fn count_blocks<T: NonBlocking, W: Watch<T>>(
         &self,
-        worker: &Worker<'_, R, T, W>,
+        worker: &Worker<'a, R, T, W>,
         place: usize,
         before: u64,
     ) {
@@ -223,9 +311,10 @@ impl<'a, 'c, R: Wait> Serving<'a, 'c, R> {
     }
 
     /// Puts a client where it belongs after an event.
-    fn settle<T: NonBlocking, W: Watch<T>>(&self, worker: &mut Worker<'_, R, T, W>, place: usize)
-        ensures { KeepsAll T.incoming T.outgoing T.closes worker.old.places.items
+    fn settle<T: NonBlocking, W: Watch<T>>(&self, worker: &mut Worker<'a, R, T, W>, place: usize)
+        ensures keeps { KeepsAll T.incoming T.outgoing T.closes worker.old.places.items
             worker.new.places.items }
+        ensures moves { MovesOnly place worker.old.lines worker.new.lines }
     {
         self.line_up(worker, place);
         if worker.is_over(place) {
@@ -234,14 +323,16 @@ impl<'a, 'c, R: Wait> Serving<'a, 'c, R> {
         }
         worker.await_more(place);
         worker.set_time(place, self.server.patience());
+        worker.look_again(place);
     }
 
     /// Puts a client into the line of what its parked call waits for, and out of any other line. A
     /// call that enters a line is looked at once more, since what it waits for may have come before
     /// that was known.
-    fn line_up<T: NonBlocking, W: Watch<T>>(&self, worker: &mut Worker<'_, R, T, W>, place: usize)
-        ensures { KeepsAll T.incoming T.outgoing T.closes worker.old.places.items
+    fn line_up<T: NonBlocking, W: Watch<T>>(&self, worker: &mut Worker<'a, R, T, W>, place: usize)
+        ensures keeps { KeepsAll T.incoming T.outgoing T.closes worker.old.places.items
             worker.new.places.items }
+        ensures moves { MovesOnly place worker.old.lines worker.new.lines }
     {
         let mut looked = false;
         for _ in self.rt.forever() {
@@ -257,14 +348,15 @@ impl<'a, 'c, R: Wait> Serving<'a, 'c, R> {
 
     /// Puts a client into the line of what its parked call waits for, unless it is there, and has
     /// the call go on if it may. Returns whether it entered a line: then its call may wait for
-    /// something else.
+    /// something else. If memory for the line is refused, the call is due.
     fn enter_line<T: NonBlocking, W: Watch<T>>(
         &self,
-        worker: &mut Worker<'_, R, T, W>,
+        worker: &mut Worker<'a, R, T, W>,
         place: usize,
     ) -> bool
-        ensures { KeepsAll T.incoming T.outgoing T.closes worker.old.places.items
+        ensures keeps { KeepsAll T.incoming T.outgoing T.closes worker.old.places.items
             worker.new.places.items }
+        ensures moves { MovesOnly place worker.old.lines worker.new.lines }
     {
         let key = worker.key(place);
         if key == worker.lines.key(place) {
@@ -274,7 +366,9 @@ impl<'a, 'c, R: Wait> Serving<'a, 'c, R> {
         let Some(key) = key else {
             return false;
         };
-        worker.lines.enter(place, key);
+        if !worker.lines.enter(place, key) {
+            return false;
+        }
         self.count_parked(worker, key.word());
         self.server.mark(key.word(), worker.number);
         self.go_on(worker, place);
@@ -284,11 +378,12 @@ impl<'a, 'c, R: Wait> Serving<'a, 'c, R> {
     /// Takes a place out of its line, if it is in one.
     fn leave_line<T: NonBlocking, W: Watch<T>>(
         &self,
-        worker: &mut Worker<'_, R, T, W>,
+        worker: &mut Worker<'a, R, T, W>,
         place: usize,
     )
-        ensures { KeepsAll T.incoming T.outgoing T.closes worker.old.places.items
+        ensures keeps { KeepsAll T.incoming T.outgoing T.closes worker.old.places.items
             worker.new.places.items }
+        ensures moves { MovesOnly place worker.old.lines worker.new.lines }
     {
         let Some(key) = worker.lines.key(place) else {
             return;
@@ -298,15 +393,16 @@ impl<'a, 'c, R: Wait> Serving<'a, 'c, R> {
     }
 
     /// Has the number of the worker's calls that are parked under this word be known.
-    fn count_parked<T: NonBlocking, W: Watch<T>>(&self, worker: &Worker<'_, R, T, W>, word: usize) {
+    fn count_parked<T: NonBlocking, W: Watch<T>>(&self, worker: &Worker<'a, R, T, W>, word: usize) {
         let count = worker.lines.count(word);
         self.server.set_parked(worker.number, word, count);
     }
 
     /// Closes a client whose session is over.
-    fn close<T: NonBlocking, W: Watch<T>>(&self, worker: &mut Worker<'_, R, T, W>, place: usize)
-        ensures { KeepsAll T.incoming T.outgoing T.closes worker.old.places.items
+    fn close<T: NonBlocking, W: Watch<T>>(&self, worker: &mut Worker<'a, R, T, W>, place: usize)
+        ensures keeps { KeepsAll T.incoming T.outgoing T.closes worker.old.places.items
             worker.new.places.items }
+        ensures moves { MovesOnly place worker.old.lines worker.new.lines }
     {
         self.leave_line(worker, place);
         let Some(served) = worker.close(place) else {
@@ -321,49 +417,97 @@ impl<'a, 'c, R: Wait> Serving<'a, 'c, R> {
         self.server.close(worker.number, &served.tally);
     }
 
-    /// Reads what came for the worker from other workers.
-    fn read_envelopes<T: NonBlocking, W: Watch<T>>(&self, worker: &mut Worker<'_, R, T, W>)
+    /// Reads what came for the worker from other workers, as far as its share of looks goes.
+    fn read_envelopes<T: NonBlocking, W: Watch<T>>(&self, worker: &mut Worker<'a, R, T, W>)
         ensures { KeepsAll T.incoming T.outgoing T.closes worker.old.places.items
             worker.new.places.items }
     {
-        for _ in self.rt.forever() {
-            let Some(envelope) = self.server.envelope(self.rt, worker.number) else {
+        self.server.take_changes(worker.number, &mut worker.changes);
+        for _ in 0..MOST_ENVELOPES {
+            if worker.looks == 0 {
                 break;
+            }
+            let Some(envelope) = self.server.envelope(self.rt, worker.number) else {
+                return;
             };
             self.heed(worker, envelope);
-            self.spread(worker);
         }
-        if self.server.has_lost(worker.number) {
-            self.look_at_all(worker);
-            self.spread(worker);
-        }
+        // (there may be more: the worker does not sleep before it has looked)
+        self.server.stay_awake(worker.number);
     }
 
-    /// Looks at the parked calls that what calls have changed may end, here and in other workers.
-    fn spread<T: NonBlocking, W: Watch<T>>(&self, worker: &mut Worker<'_, R, T, W>)
+    /// Heeds what has changed, here and in other workers, as far as the worker's share of looks
+    /// goes. What is left is heeded in the next round.
+    fn spread<T: NonBlocking, W: Watch<T>>(&self, worker: &mut Worker<'a, R, T, W>)
         ensures { KeepsAll T.incoming T.outgoing T.closes worker.old.places.items
             worker.new.places.items }
     {
         self.collect(worker);
         for _ in self.rt.forever() {
-            let Some(envelope) = worker.envelopes.pop_front() else {
+            self.heed_changes(worker);
+            if worker.looks == 0 {
                 return;
-            };
-            self.send_off(worker, envelope);
+            }
+            if worker.lines.has_due() {
+                look_at_due(self, worker);
+            } else if let Some(envelope) = worker.envelopes.pop_front() {
+                self.send_off(worker, envelope);
+            } else {
+                return;
+            }
         }
     }
 
-    /// Looks at the parked calls that the notification of an envelope of this worker may end, here
-    /// first or, in turn, in another worker first.
+    /// Makes the parked calls due that changes may end.
+    fn heed_changes<T: NonBlocking, W: Watch<T>>(&self, worker: &mut Worker<'a, R, T, W>)
+        ensures { worker.new.places ≡ worker.old.places }
+    {
+        for _ in self.rt.forever() {
+            let Some(change) = worker.changes.take() else {
+                return;
+            };
+            self.heed_change(worker, change);
+        }
+    }
+
+    /// Makes the parked calls due that a change may end.
+    fn heed_change<T: NonBlocking, W: Watch<T>>(
+        &self,
+        worker: &mut Worker<'a, R, T, W>,
+        change: Change,
+    )
+        ensures places { worker.new.places ≡ worker.old.places }
+        ensures heeds { Heeds change worker.old.lines worker.new.lines }
+    {
+        match change {
+            Change::Queue { slot } => worker.lines.note_change(slot),
+            Change::Room { slot } => {
+                worker.lines.note_room(slot);
+                self.unmark(worker, room_word(slot));
+            }
+            Change::Blocks => {
+                worker.lines.note_blocks();
+                self.unmark(worker, BLOCKS_WORD);
+            }
+            Change::Settled => {
+                worker.lines.note_settled();
+                self.unmark(worker, SETTLED_WORD);
+            }
+            Change::Anything => worker.lines.note_everything(),
+        }
+    }
+
+    /// Looks at the receives that may take the message of an envelope of this worker, here first or,
+    /// in turn, in another worker first.
     fn send_off<T: NonBlocking, W: Watch<T>>(
         &self,
-        worker: &mut Worker<'_, R, T, W>,
+        worker: &mut Worker<'a, R, T, W>,
         envelope: Envelope,
     )
         ensures { KeepsAll T.incoming T.outgoing T.closes worker.old.places.items
             worker.new.places.items }
     {
-        let turn = worker.next_first(&envelope.notification);
+        let turn = worker.next_first();
         let first = self.first_for(&envelope, worker.number, turn);
         if first == worker.number {
             self.heed(worker, envelope);
@@ -372,8 +516,7 @@ impl<'a, 'c, R: Wait> Serving<'a, 'c, R> {
         }
     }
 
-    /// Returns the worker that looks first at the parked calls that the notification of an envelope
-    /// may end.
+    /// Returns the worker that looks first at the receives that may take the message of an envelope.
     ///
     /// The fastest way is the worker that wrote the envelope. But sometimes it is another worker's
     /// turn: else the clients of one worker might have all, and those of the others wait.
@@ -386,10 +529,11 @@ impl<'a, 'c, R: Wait> Serving<'a, 'c, R> {
 
     /// Keeps what calls have changed since the last time, if calls that wait for it are parked, and
     /// counts the messages that moved.
-    fn collect<T: NonBlocking, W: Watch<T>>(&self, worker: &mut Worker<'_, R, T, W>)
-        ensures { KeepsAll T.incoming T.outgoing T.closes worker.old.places.items
-            worker.new.places.items }
+    fn collect<T: NonBlocking, W: Watch<T>>(&self, worker: &mut Worker<'a, R, T, W>)
+        ensures places { worker.new.places ≡ worker.old.places }
+        ensures lines { worker.new.lines ≡ worker.old.lines }
     {
+        let mut changes = Changes::NONE;
         let mut moved = Moved::NONE;
         for _ in self.rt.forever() {
             let Some(notification) = worker.tools.take_notification() else {
@@ -399,257 +543,203 @@ impl<'a, 'c, R: Wait> Serving<'a, 'c, R> {
                 self.server.count(worker.number, moved);
                 moved = Moved::first(notification);
             }
-            self.keep(worker, notification);
+            self.keep(worker, notification, &mut changes);
         }
         self.server.count(worker.number, moved);
+        self.tell_all(worker, &mut changes);
     }
 
-    /// Keeps what a call has changed, if calls that wait for it are parked.
+    /// Keeps what a call has changed: a message that has arrived, if receives that may take it are
+    /// parked, or else a change.
     fn keep<T: NonBlocking, W: Watch<T>>(
         &self,
-        worker: &mut Worker<'_, R, T, W>,
+        worker: &mut Worker<'a, R, T, W>,
         notification: Notification,
+        changes: &mut Changes,
     )
-        ensures { KeepsAll T.incoming T.outgoing T.closes worker.old.places.items
-            worker.new.places.items }
+        ensures places { worker.new.places ≡ worker.old.places }
+        ensures lines { worker.new.lines ≡ worker.old.lines }
     {
-        let rest = self.parked_for(notification);
+        match notification {
+            Notification::Arrived { slot, mtype } => self.keep_arrived(worker, slot, mtype),
+            Notification::Freed { slot, .. } => changes.add(Change::Room { slot }),
+            Notification::Released => changes.add(Change::Blocks),
+            Notification::Changed { slot } => changes.add(Change::Queue { slot }),
+            Notification::Settled => changes.add(Change::Settled),
+        }
+    }
+
+    /// Keeps a message that has arrived, if receives are parked at its queue.
+    fn keep_arrived<T: NonBlocking, W: Watch<T>>(
+        &self,
+        worker: &mut Worker<'a, R, T, W>,
+        slot: usize,
+        mtype: i64,
+    )
+        ensures places { worker.new.places ≡ worker.old.places }
+        ensures lines { worker.new.lines ≡ worker.old.lines }
+    {
+        let rest = self.server.word(slot);
         if rest == 0 {
             return;
         }
-        let envelope = Envelope {
-            notification,
-            rest,
-            least: usize::MAX,
-        };
+        let envelope = Envelope { slot, mtype, rest };
         if worker.envelopes.push_back(envelope).is_err() {
-            self.server.send_everything();
+            self.tell_each(worker, self.server.everyone(), Change::Anything);
         }
     }
 
-    /// Returns which workers have parked calls that such a notification may end.
-    fn parked_for(&self, notification: Notification) -> u64 {
-        match notification {
-            Notification::Arrived { slot, .. } => self.server.word(slot),
-            Notification::Freed { slot, .. } => self.server.word(room_word(slot)),
-            Notification::Released => self.server.word(BLOCKS_WORD),
-            Notification::Changed { slot } => self.server.word(slot)
-                | self.server.word(room_word(slot)),
+    /// Tells of all these changes.
+    fn tell_all<T: NonBlocking, W: Watch<T>>(
+        &self,
+        worker: &mut Worker<'a, R, T, W>,
+        changes: &mut Changes,
+    )
+        ensures places { worker.new.places ≡ worker.old.places }
+        ensures lines { worker.new.lines ≡ worker.old.lines }
+    {
+        for _ in self.rt.forever() {
+            let Some(change) = changes.take() else {
+                return;
+            };
+            self.tell_each(worker, self.parked_for(change), change);
         }
     }
 
-    /// Looks at the parked calls that the notification of an envelope may end, and passes it on.
+    /// Tells each of these workers of a change. This one heeds it at once or, in turn, after the
+    /// others: else its own clients might have all that becomes free.
+    fn tell_each<T: NonBlocking, W: Watch<T>>(
+        &self,
+        worker: &mut Worker<'a, R, T, W>,
+        workers: u64,
+        change: Change,
+    )
+        ensures places { worker.new.places ≡ worker.old.places }
+        ensures lines { worker.new.lines ≡ worker.old.lines }
+    {
+        let own = bit(worker.number);
+        let mut rest = workers & !own;
+        for _ in 0..self.server.workers() {
+            if rest == 0 {
+                break;
+            }
+            self.server.tell(rest.trailing_zeros() as usize, change);
+            rest &= rest.wrapping_sub(1);
+        }
+        if workers & own == 0 {
+            return;
+        }
+        if workers != own && worker.is_last() {
+            self.server.tell(worker.number, change);
+        } else {
+            worker.changes.add(change);
+        }
+    }
+
+    /// Returns which workers have parked calls that such a change may end.
+    fn parked_for(&self, change: Change) -> u64 {
+        match change {
+            Change::Queue { slot } => self.server.word(slot)
+                | self.server.word(room_word(slot))
+                | self.server.word(BLOCKS_WORD),
+            Change::Room { slot } => self.server.word(room_word(slot)),
+            Change::Blocks => self.server.word(BLOCKS_WORD),
+            Change::Settled => self.server.word(SETTLED_WORD),
+            Change::Anything => self.server.everyone(),
+        }
+    }
+
+    /// Looks at the receives of this worker that may take the message of an envelope, and passes it
+    /// on unless one took it. If the worker's share of looks is used up, it comes back.
     fn heed<T: NonBlocking, W: Watch<T>>(
         &self,
-        worker: &mut Worker<'_, R, T, W>,
+        worker: &mut Worker<'a, R, T, W>,
         mut envelope: Envelope,
     )
         ensures { KeepsAll T.incoming T.outgoing T.closes worker.old.places.items
             worker.new.places.items }
     {
         let own = bit(worker.number);
-        let is_here = envelope.rest & own != 0;
+        if envelope.rest & own != 0 {
+            match look_for_message(self, worker, envelope.slot, envelope.mtype) {
+                LookedFor::Taken => return,
+                LookedFor::Gone => {}
+                LookedFor::Unwanted => self.unmark(worker, envelope.slot),
+                LookedFor::Short => {
+                    self.put_off(worker, envelope);
+                    return;
+                }
+            }
+        }
         envelope.rest &= !own;
-        let is_done = is_here && self.look_for(worker, &mut envelope);
-        if !is_done {
-            self.pass_on(worker.number.wrapping_add(1), envelope);
+        self.pass_on(worker.number.wrapping_add(1), envelope);
+    }
+
+    /// Keeps an envelope for the next round.
+    fn put_off<T: NonBlocking, W: Watch<T>>(
+        &self,
+        worker: &mut Worker<'a, R, T, W>,
+        envelope: Envelope,
+    )
+        ensures { worker.new.places ≡ worker.old.places }
+    {
+        if worker.envelopes.push_front(envelope).is_err() {
+            self.tell_each(worker, self.server.everyone(), Change::Anything);
         }
     }
 
-    /// Gives an envelope to the first worker that has not had it, from the one of this number on,
-    /// or to all of them.
+    /// Gives an envelope to the first worker that has not had it, from the one of this number on.
     fn pass_on(&self, from: usize, mut envelope: Envelope) {
         for _ in 0..self.server.workers() {
             if envelope.rest == 0 {
                 return;
             }
             let next = next_of(envelope.rest, from);
-            envelope.rest &= !bit(next);
-            let is_for_all = matches!(envelope.notification, Notification::Changed { .. });
-            let rest = envelope.rest;
-            if is_for_all {
-                envelope.rest = 0;
-            }
-            envelope.rest |= bit(next);
-            let is_sent = self.server.send(self.rt, next, envelope);
-            envelope.rest = rest;
-            if is_sent && !is_for_all {
+            if self.server.send(self.rt, next, envelope) {
                 return;
             }
-        }
-    }
-
-    /// Looks at the parked calls of this worker that the notification of an envelope may end.
-    /// Returns whether no other worker is to look.
-    fn look_for<T: NonBlocking, W: Watch<T>>(
-        &self,
-        worker: &mut Worker<'_, R, T, W>,
-        envelope: &mut Envelope,
-    ) -> bool
-        ensures { KeepsAll T.incoming T.outgoing T.closes worker.old.places.items
-            worker.new.places.items }
-    {
-        match envelope.notification {
-            Notification::Arrived { slot, mtype } => self.look_for_message(worker, slot, mtype),
-            Notification::Freed { slot, .. } => {
-                let first = worker.lines.senders(slot);
-                self.look_for_room(worker, first, &mut envelope.least);
-                self.unmark(worker, room_word(slot));
-                false
-            }
-            Notification::Released => {
-                let first = worker.lines.reservers();
-                self.look_for_room(worker, first, &mut envelope.least);
-                self.unmark(worker, BLOCKS_WORD);
-                false
-            }
-            Notification::Changed { slot } => {
-                self.look_at(worker, slot);
-                false
-            }
+            envelope.rest &= !bit(next);
         }
     }
 
     /// Says that no calls are parked under this word, if that is so.
-    fn unmark<T: NonBlocking, W: Watch<T>>(&self, worker: &Worker<'_, R, T, W>, word: usize) {
+    fn unmark<T: NonBlocking, W: Watch<T>>(&self, worker: &Worker<'a, R, T, W>, word: usize) {
         if worker.lines.count(word) == 0 {
             self.server.unmark(word, worker.number);
         }
     }
 
-    /// Looks at the receives that may name a message of this type, until one takes such a message
-    /// or finds none. Returns whether one took such a message.
-    fn look_for_message<T: NonBlocking, W: Watch<T>>(
-        &self,
-        worker: &mut Worker<'_, R, T, W>,
-        slot: usize,
-        mtype: i64,
-    ) -> bool
-        ensures { KeepsAll T.incoming T.outgoing T.closes worker.old.places.items
-            worker.new.places.items }
-    {
-        for first in worker.lines.receivers(slot, mtype) {
-            match self.look_along(worker, first, slot, mtype) {
-                Found::Nothing => return false,
-                Found::Message => return true,
-                Found::Other => {}
-            }
-        }
-        self.unmark(worker, slot);
-        false
-    }
-
-    /// Looks at the receives of a line that may name a message of this type.
-    fn look_along<T: NonBlocking, W: Watch<T>>(
-        &self,
-        worker: &mut Worker<'_, R, T, W>,
-        first: Option<usize>,
-        slot: usize,
-        mtype: i64,
-    ) -> Found
-        ensures { KeepsAll T.incoming T.outgoing T.closes worker.old.places.items
-            worker.new.places.items }
-    {
-        let mut at = first;
-        for _ in self.rt.forever() {
-            let Some(place) = at else {
-                return Found::Other;
-            };
-            at = worker.lines.after(place);
-            if !may_name(worker.lines.key(place), slot, mtype) {
-                continue;
-            }
-            match self.wake(worker, place, mtype) {
-                Found::Other => {}
-                found => return found,
-            }
-        }
-        Found::Other
-    }
-
-    /// Looks at the sends of a line, but at none whose frame is as long as one that has already
-    /// found no room.
-    fn look_for_room<T: NonBlocking, W: Watch<T>>(
-        &self,
-        worker: &mut Worker<'_, R, T, W>,
-        first: Option<usize>,
-        least: &mut usize,
-    )
-        ensures { KeepsAll T.incoming T.outgoing T.closes worker.old.places.items
-            worker.new.places.items }
-    {
-        let mut at = first;
-        for _ in self.rt.forever() {
-            let Some(place) = at else {
-                return;
-            };
-            at = worker.lines.after(place);
-            let key = worker.lines.key(place);
-            let length = length_of(key);
-            if length < *least {
-                self.wake(worker, place, 0);
-                if worker.lines.key(place) == key {
-                    *least = length;
-                }
-            }
-        }
-    }
-
-    /// Looks at all parked calls at a slot.
-    fn look_at<T: NonBlocking, W: Watch<T>>(&self, worker: &mut Worker<'_, R, T, W>, slot: usize)
-        ensures { KeepsAll T.incoming T.outgoing T.closes worker.old.places.items
-            worker.new.places.items }
-    {
-        for place in 0..worker.places.len() {
-            if worker.lines.key(place).is_some_and(|key| key.is_at(slot)) {
-                self.wake(worker, place, 0);
-            }
-        }
-    }
-
-    /// Looks at all parked calls.
-    fn look_at_all<T: NonBlocking, W: Watch<T>>(&self, worker: &mut Worker<'_, R, T, W>)
-        ensures { KeepsAll T.incoming T.outgoing T.closes worker.old.places.items
-            worker.new.places.items }
-    {
-        for place in 0..worker.places.len() {
-            if worker.lines.key(place).is_some() {
-                self.wake(worker, place, 0);
-            }
-        }
-    }
-
-    /// Looks whether the parked call of a client may go on, unless its peer has gone. Returns what
-    /// it found, if a notification came that a message of this type has arrived.
+    /// Looks whether the parked call of a client may go on. Returns what it found, if it is looked
+    /// at because a message of this type has arrived.
     fn wake<T: NonBlocking, W: Watch<T>>(
         &self,
-        worker: &mut Worker<'_, R, T, W>,
+        worker: &mut Worker<'a, R, T, W>,
         place: usize,
         mtype: i64,
     ) -> Found
-        ensures { KeepsAll T.incoming T.outgoing T.closes worker.old.places.items
+        ensures keeps { KeepsAll T.incoming T.outgoing T.closes worker.old.places.items
             worker.new.places.items }
+        ensures moves { MovesOnly place worker.old.lines worker.new.lines }
+        ensures in_lines { AreInLines worker.new.lines }
+        ensures waits { result ≡ Found.Nothing
+            → key_at worker.new.lines place ≡ key_at worker.old.lines place }
+        ensures over { (result ≡ Found.Message) ⊎ (result ≡ Found.Over)
+            → key_at worker.new.lines place ≡ None }
     {
-        worker.leave_if_gone(place);
+        let before = worker.lines.key(place);
         self.go_on(worker, place);
-        if worker.key(place).is_some() {
-            self.settle(worker, place);
-            self.collect(worker);
-            return Found::Nothing;
+        let has_taken = worker.tools.has_taken(mtype);
+        if worker.key(place).is_none() {
+            worker.drain(place);
         }
-        worker.drain(place);
         self.settle(worker, place);
-        let found = if worker.tools.has_taken(mtype) {
-            Found::Message
-        } else {
-            Found::Other
-        };
         self.collect(worker);
-        found
+        found(before, worker.lines.key(place), has_taken)
     }
 
-    /// Closes each client whose time is over, if it may be over for some.
-    fn look_at_times<T: NonBlocking, W: Watch<T>>(&self, worker: &mut Worker<'_, R, T, W>)
+    /// Closes each client whose time is over, if it may be over for some, and reads again from those
+    /// that may have more bytes.
+    fn look_at_times<T: NonBlocking, W: Watch<T>>(&self, worker: &mut Worker<'a, R, T, W>)
         ensures { KeepsAll T.incoming T.outgoing T.closes worker.old.places.items
             worker.new.places.items }
     {
@@ -660,16 +750,18 @@ impl<'a, 'c, R: Wait> Serving<'a, 'c, R> {
             return;
         }
         worker.check = None;
+        worker.again = None;
         for place in 0..worker.places.len() {
             self.look_at_time(worker, place);
         }
         self.spread(worker);
     }
 
-    /// Closes a client whose time is over, unless something has come for it that was not read yet.
+    /// Reads from a client that may have more bytes although nothing reports them, and closes one
+    /// whose time is over, unless something has come for it that was not read yet.
     fn look_at_time<T: NonBlocking, W: Watch<T>>(
         &self,
-        worker: &mut Worker<'_, R, T, W>,
+        worker: &mut Worker<'a, R, T, W>,
         place: usize,
     )
         ensures { KeepsAll T.incoming T.outgoing T.closes worker.old.places.items
@@ -678,7 +770,7 @@ impl<'a, 'c, R: Wait> Serving<'a, 'c, R> {
         if !worker.is_taken(place) {
             return;
         }
-        if is_over(worker.due(place)) {
+        if is_over(worker.due(place)) || worker.may_hold_more(place) {
             self.report(worker, &Ready::unasked(place));
         }
         let due = worker.due(place);
@@ -691,7 +783,7 @@ impl<'a, 'c, R: Wait> Serving<'a, 'c, R> {
     }
 
     /// Closes all clients.
-    fn cut_all<T: NonBlocking, W: Watch<T>>(&self, worker: &mut Worker<'_, R, T, W>)
+    fn cut_all<T: NonBlocking, W: Watch<T>>(&self, worker: &mut Worker<'a, R, T, W>)
         ensures { KeepsAll T.incoming T.outgoing T.closes worker.old.places.items
             worker.new.places.items }
     {
@@ -702,17 +794,6 @@ impl<'a, 'c, R: Wait> Serving<'a, 'c, R> {
             }
         }
     }
-}
-
-/// What a look at a parked call found.
-#[derive(Clone, Copy, PartialEq, Eq)]
-enum Found {
-    /// The call still waits.
-    Nothing,
-    /// The call is over, and took a message of the type that had arrived.
-    Message,
-    /// The call is over otherwise.
-    Other,
 }
 
 /// Returns whether this moment has come.
@@ -728,18 +809,26 @@ fn next_of(workers: u64, from: usize) -> usize {
     among.trailing_zeros() as usize
 }
 
-/// Returns whether a receive that waits for this may name a message of this type at this slot.
-fn may_name(key: Option<Key>, at: usize, mtype: i64) -> bool {
-    match key {
-        Some(Key::Message { slot, selector }) => slot == at && qualifies(selector, mtype),
-        _ => false,
+/// Returns what a look at a call found that waited for `before` and now waits for `after`, if it
+/// does. `has_taken` is whether it took a message of the type for which it was looked at.
+fn found(before: Option<Key>, after: Option<Key>, has_taken: bool) -> Found
+    ensures waits { result ≡ Found.Nothing → after ≡ before }
+    ensures over { (result ≡ Found.Message) ⊎ (result ≡ Found.Over) → after ≡ None }
+{
+    match after {
+        None if has_taken => Found::Message,
+        None => Found::Over,
+        Some(key) if is_for(before, key) => Found::Nothing,
+        Some(_) => Found::Else,
     }
 }
 
-/// Returns the length of the frame of a send that waits for this.
-fn length_of(key: Option<Key>) -> usize {
-    match key {
-        Some(Key::Room { length, .. } | Key::Blocks { length }) => length,
-        _ => 0,
+/// Returns whether a call waited for this.
+fn is_for(before: Option<Key>, key: Key) -> bool
+    ensures { result ≡ true → before ≡ Some key }
+{
+    match before {
+        Some(before) => before.is_same(key),
+        None => false,
     }
 }

@@ -4,6 +4,7 @@ ghost use Rattle.std.specs.Prelude.{◌≡◌, ◌≤◌, IfSome, vec_len};
 ghost use Rattle.sysv_keys.specs.declared.identifier.TheConstants.{SLOTS as slot_count};
 ghost use Rattle.sysv_engine.specs.Counting.{IsNothing};
 
+use crate::changes::{Change, Changes, ToldChanges};
 use crate::counts::{Counted, Counts, Moved, SlotCounts, zeros};
 use crate::doorbell::Doorbell;
 use crate::moment::{Moment, NO_DESCRIPTOR, await_doorbell};
@@ -13,15 +14,8 @@ use std::alloc::Global;
 use std::sync::Wait;
 use std::sync::atomic::{AtomicBool, AtomicU64, Ordering};
 use sysv_keys::SLOTS;
+use sysv_parking::WORDS;
 use sysv_queue::Tally;
-use sysv_seats::Notification;
-
-/// The word of the sends that wait for blocks. Before it are the words of the receives at each
-/// slot, and then those of the sends at each slot.
-pub(crate) const BLOCKS_WORD: usize = 2 * SLOTS;
-
-/// The number of words that say which workers have parked calls.
-pub(crate) const WORDS: usize = BLOCKS_WORD + 1;
 
 /// The number of bits in a word, and so of workers that a word can name.
 const BITS: usize = 64;
@@ -33,14 +27,15 @@ const ENVELOPES: usize = 512;
 /// processor of its own.
 const FEW_CLIENTS: u64 = 2;
 
-/// A notification for other workers.
+/// A message that has arrived at a queue, and for which receives are looked at.
 #[derive(Clone, Copy)]
 pub(crate) struct Envelope {
-    pub(crate) notification: Notification,
+    /// The slot of the queue.
+    pub(crate) slot: usize,
+    /// The type of the message.
+    pub(crate) mtype: i64,
     /// The workers that have not had it, a bit for each. The receiver of an envelope passes it on.
     pub(crate) rest: u64,
-    /// The length of the shortest frame of a send that has already found no room.
-    pub(crate) least: usize,
 }
 
 /// How a worker is reached.
@@ -52,8 +47,8 @@ struct Post {
     /// Whether something came for the worker since it looked.
     rung: AtomicBool,
     envelopes: ArrayQueue<Envelope>,
-    /// Whether envelopes were lost, so that all parked calls are to be looked at.
-    everything: AtomicBool,
+    /// What else has changed for the worker's parked calls.
+    changes: ToldChanges,
     /// The number of connections that the worker was told to take.
     coming: AtomicU64,
     /// The number of clients of the worker that were closed.
@@ -188,16 +183,27 @@ impl ServerState {
         }
     }
 
+    /// Says that a worker may have more to look at.
+    pub(crate) fn stay_awake(&self, worker: usize) {
+        if let Some(post) = self.posts.get(worker) {
+            post.rung.store(true, Ordering::SeqCst);
+        }
+    }
+
+    /// Returns all workers, a bit for each.
+    pub(crate) fn everyone(&self) -> u64 {
+        bit(self.posts.len()).wrapping_sub(1)
+    }
+
     /// Returns the next envelope of a worker.
     pub(crate) fn envelope(&self, rt: &impl Wait, worker: usize) -> Option<Envelope> {
         self.posts.get(worker)?.envelopes.pop(rt)
     }
 
-    /// Returns whether envelopes of the worker were lost since the last call.
-    pub(crate) fn has_lost(&self, worker: usize) -> bool {
-        match self.posts.get(worker) {
-            Some(post) => post.has_lost(),
-            None => false,
+    /// Moves what else has changed for a worker's parked calls to the changes that it has to heed.
+    pub(crate) fn take_changes(&self, worker: usize, changes: &mut Changes) {
+        if let Some(post) = self.posts.get(worker) {
+            post.changes.move_to(changes);
         }
     }
 
@@ -211,10 +217,10 @@ impl ServerState {
         }
     }
 
-    /// Has all workers look at all their parked calls.
-    pub(crate) fn send_everything(&self) {
-        for post in &self.posts {
-            post.send_everything();
+    /// Tells a worker of a change.
+    pub(crate) fn tell(&self, worker: usize, change: Change) {
+        if let Some(post) = self.posts.get(worker) {
+            post.tell(change);
         }
     }
 
@@ -455,7 +461,7 @@ impl Post {
             asleep: AtomicBool::new(false),
             rung: AtomicBool::new(false),
             envelopes: ArrayQueue::new(alloc, ENVELOPES).ok()?,
-            everything: AtomicBool::new(false),
+            changes: ToldChanges::open(alloc)?,
             coming: AtomicU64::new(0),
             closed: AtomicU64::new(0),
             counts: Counts::open(alloc)?,
@@ -491,25 +497,20 @@ impl Post {
         self.wake_up();
     }
 
-    /// Returns whether envelopes were lost since the last call.
-    fn has_lost(&self) -> bool {
-        self.everything.load(Ordering::SeqCst) && self.everything.swap(false, Ordering::SeqCst)
-    }
-
     /// Gives the worker an envelope. Returns whether there was room for it. If there was none, the
     /// worker looks at all its parked calls.
     fn send(&self, rt: &impl Wait, envelope: Envelope) -> bool {
         let kept = self.envelopes.push(rt, envelope).is_ok();
         if !kept {
-            self.everything.store(true, Ordering::SeqCst);
+            self.changes.add(Change::Anything);
         }
         self.ring();
         kept
     }
 
-    /// Has the worker look at all its parked calls.
-    fn send_everything(&self) {
-        self.everything.store(true, Ordering::SeqCst);
+    /// Tells the worker of a change.
+    fn tell(&self, change: Change) {
+        self.changes.add(change);
         self.ring();
     }
 }
@@ -523,11 +524,6 @@ fn open_posts(alloc: Global, workers: usize) -> Option<Vec<Post>>
         posts.push(Post::open(alloc)?).ok()?;
     }
     Some(posts)
-}
-
-/// Returns the word of the sends that wait for room at a slot.
-pub(crate) fn room_word(slot: usize) -> usize {
-    SLOTS.saturating_add(slot)
 }
 
 /// Returns the bit of a worker.

@@ -1,9 +1,8 @@
 //! What reports which clients have events.
 ghost use Rattle.std.specs.Prelude.{◌≡◌, IfSome, vec_len};
 
-use crate::moment::{asking, pause};
+use crate::moment::pause;
 use crate::server_state::ServerState;
-use libc::net::{POLLRDHUP, poll};
 use mio::unix::SourceFd;
 use mio::{Events, Interest, Poll, Token};
 use std::alloc::Global;
@@ -54,10 +53,6 @@ pub trait Watch<T> {
 
     /// Has the place reported also when the connection may take bytes, or not any more.
     fn await_room(&mut self, connection: &T, place: usize, awaits: bool);
-
-    /// Returns whether the peer has shut down its writing, or the connection has failed, as far as
-    /// the system knows now.
-    fn has_left(&self, connection: &T) -> bool;
 
     /// Waits until a place has an event or the doorbell is rung, for at most `limit` milliseconds,
     /// and puts what is reported into `ready`. It may return early.
@@ -112,10 +107,6 @@ impl<T: AsRawFd> Watch<T> for Polled {
             .poll
             .registry()
             .reregister(&mut SourceFd(&fd), Token(place), interest);
-    }
-
-    fn has_left(&self, connection: &T) -> bool {
-        poll(&mut [asking(connection.as_raw_fd(), POLLRDHUP)], 0) > 0
     }
 
     fn look(&mut self, ready: &mut Vec<Ready>) {
@@ -181,10 +172,6 @@ impl<T> Watch<T> for Rounds {
     }
 
     fn await_room(&mut self, _connection: &T, _place: usize, _awaits: bool) {}
-
-    fn has_left(&self, _connection: &T) -> bool {
-        false
-    }
 
     fn wait(&mut self, limit: Option<u64>, ready: &mut Vec<Ready>) {
         ready.clear();

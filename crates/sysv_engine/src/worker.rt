@@ -2,8 +2,8 @@
 ghost use Rattle.std.specs.Prelude.{◌≡◌, ◌≤◌, vec_len, vec_capacity, [], IfSome};
 ghost use Rattle.sysv_engine.specs.Places.{AdoptsOne, IsVacantAt, KeepsAll};
 
+use crate::changes::Changes;
 use crate::moment::Moment;
-use crate::parked_calls::{Key, Lines};
 use crate::place::Place;
 use crate::server_state::Envelope;
 use crate::spinning::Spinning;
@@ -12,14 +12,22 @@ use crate::watch::{Ready, Watch};
 use std::alloc::Global;
 use std::collections::VecDeque;
 use std::sync::Wait;
-use sysv_seats::{NonBlocking, Notification, Tools};
+use sysv_parking::{Key, Lines};
+use sysv_seats::{NonBlocking, Tools};
 use sysv_session::Served;
 
-/// Of this number of envelopes about room, one goes to another worker first.
-const SHARE_OF_ROOM: usize = 2;
-
-/// Of this number of envelopes about messages, one goes to another worker first.
+/// Of this number of messages that have arrived, one goes to another worker first.
 const SHARE_OF_MESSAGES: usize = 8;
+
+/// Of this number of changes, other workers heed one first.
+const SHARE_OF_CHANGES: usize = 2;
+
+/// The number of parked calls that a worker looks at in a round, beside those at which it looks for
+/// its own clients' requests.
+const LOOKS: u32 = 64;
+
+/// The time after a read that may not have returned all bytes until the next one, in milliseconds.
+const AGAIN_MILLIS: u32 = 20;
 
 /// The number of places of which one wait reports events at most.
 const MOST_READY: usize = 256;
@@ -36,18 +44,25 @@ pub(crate) struct Worker<'a, R: Wait, T: NonBlocking, W> {
     pub(crate) lines: Lines,
     /// The places that have more to do.
     pub(crate) turns: VecDeque<usize>,
-    /// What calls may have changed, and was not looked at yet.
+    /// Messages that have arrived, for which no receive was looked at yet.
     pub(crate) envelopes: VecDeque<Envelope>,
+    /// What else has changed, and was not heeded yet.
+    pub(crate) changes: Changes,
+    /// The number of looks at parked calls that the worker may still make in this round.
+    pub(crate) looks: u32,
     pub(crate) tools: Tools,
     /// The number of connections that the worker was told to take, and has taken or goes to take.
     pub(crate) answered: u64,
     /// When to look for clients whose time is over.
     pub(crate) check: Option<Moment>,
+    /// When to read again from clients that may have more bytes although nothing reports them, if
+    /// there may be such clients.
+    pub(crate) again: Option<Moment>,
     /// Whether the worker looks for events before it sleeps.
     pub(crate) spinning: Spinning,
-    /// The numbers of its envelopes about room and about messages, modulo 2^64.
-    rooms: usize,
+    /// The numbers of its envelopes and of its changes, modulo 2^64.
     messages: usize,
+    changed: usize,
 }
 
 /// The tools of a worker, and room for its places.
@@ -131,12 +146,15 @@ impl<'a, R: Wait, T: NonBlocking, W: Watch<T>> Worker<'a, R, T, W> {
             lines,
             turns,
             envelopes,
+            changes: Changes::NONE,
+            looks: LOOKS,
             tools,
             answered: 1,
             check: None,
+            again: None,
             spinning: Spinning::new(),
-            rooms: 0,
             messages: 0,
+            changed: 0,
         }
     }
 
@@ -155,32 +173,57 @@ impl<'a, R: Wait, T: NonBlocking, W: Watch<T>> Worker<'a, R, T, W> {
             lines: _,
             turns: _,
             envelopes: _,
+            changes: _,
+            looks: _,
             tools,
             answered: _,
             check: _,
+            again: _,
             spinning: _,
-            rooms: _,
             messages: _,
+            changed: _,
         } = self;
         (places, tools)
     }
 
     /// Counts an envelope that this worker writes. Returns whose turn it is to look first, counted
     /// on from turn to turn, or `None` for its own.
-    pub(crate) fn next_first(&mut self, notification: &Notification) -> Option<usize>
-        ensures { self.new.places ≡ self.old.places }
+    pub(crate) fn next_first(&mut self) -> Option<usize>
+        ensures { (self.new.places ≡ self.old.places) × (self.new.lines ≡ self.old.lines) }
     {
-        match notification {
-            Notification::Freed { .. } | Notification::Released => {
-                self.rooms = self.rooms.wrapping_add(1);
-                turn(self.rooms, SHARE_OF_ROOM)
-            }
-            Notification::Arrived { .. } => {
-                self.messages = self.messages.wrapping_add(1);
-                turn(self.messages, SHARE_OF_MESSAGES)
-            }
-            Notification::Changed { .. } => None,
-        }
+        self.messages = self.messages.wrapping_add(1);
+        turn(self.messages, SHARE_OF_MESSAGES)
+    }
+
+    /// Counts a change that this worker heeds. Returns whether other workers heed it first.
+    pub(crate) fn is_last(&mut self) -> bool
+        ensures { (self.new.places ≡ self.old.places) × (self.new.lines ≡ self.old.lines) }
+    {
+        self.changed = self.changed.wrapping_add(1);
+        turn(self.changed, SHARE_OF_CHANGES).is_some()
+    }
+
+    /// Begins a round: the worker may make as many looks again.
+    pub(crate) fn begin_looks(&mut self)
+        ensures { (self.new.places ≡ self.old.places) × (self.new.lines ≡ self.old.lines) }
+    {
+        self.looks = LOOKS;
+    }
+
+    /// Allows the looks that the requests of a client's turn may need.
+    pub(crate) fn allow_looks(&mut self)
+        ensures { (self.new.places ≡ self.old.places) × (self.new.lines ≡ self.old.lines) }
+    {
+        self.looks = self.looks.saturating_add(LOOKS);
+    }
+
+    /// Returns whether there is more to do: a client has, parked calls are due, or something has
+    /// changed that was not heeded.
+    pub(crate) fn has_more(&self) -> bool {
+        !self.turns.is_empty()
+            || self.lines.has_due()
+            || !self.changes.is_empty()
+            || !self.envelopes.is_empty()
     }
 
     /// Returns whether there are no clients.
@@ -250,8 +293,9 @@ impl<'a, R: Wait, T: NonBlocking, W: Watch<T>> Worker<'a, R, T, W> {
     /// Has the client learn what the watch reports of it.
     #[tactic(auto, using(crate::proofs::PlaceLists::keeps_at))]
     pub(crate) fn note(&mut self, ready: &Ready)
-        ensures { KeepsAll T.incoming T.outgoing T.closes self.old.places.items
+        ensures keeps { KeepsAll T.incoming T.outgoing T.closes self.old.places.items
             self.new.places.items }
+        ensures lines { self.new.lines ≡ self.old.lines }
     {
         if let Some(there) = self.places.get_mut(ready.place) {
             there.note(ready);
@@ -269,22 +313,12 @@ impl<'a, R: Wait, T: NonBlocking, W: Watch<T>> Worker<'a, R, T, W> {
         }
     }
 
-    /// Leaves the client's parked call if its peer has shut down its writing.
-    #[tactic(auto, using(crate::proofs::PlaceLists::keeps_at))]
-    pub(crate) fn leave_if_gone(&mut self, place: usize)
-        ensures { KeepsAll T.incoming T.outgoing T.closes self.old.places.items
-            self.new.places.items }
-    {
-        if let Some(there) = self.places.get_mut(place) {
-            there.leave_if_gone(&self.watch);
-        }
-    }
-
     /// Continues the client's parked call, if it may go on.
     #[tactic(auto, using(crate::proofs::PlaceLists::keeps_at))]
     pub(crate) fn go_on(&mut self, place: usize)
-        ensures { KeepsAll T.incoming T.outgoing T.closes self.old.places.items
+        ensures keeps { KeepsAll T.incoming T.outgoing T.closes self.old.places.items
             self.new.places.items }
+        ensures lines { self.new.lines ≡ self.old.lines }
     {
         if let Some(there) = self.places.get_mut(place) {
             there.go_on(&mut self.tools);
@@ -294,8 +328,9 @@ impl<'a, R: Wait, T: NonBlocking, W: Watch<T>> Worker<'a, R, T, W> {
     /// Gives the client's connection as many bytes of the replies as it takes now.
     #[tactic(auto, using(crate::proofs::PlaceLists::keeps_at))]
     pub(crate) fn drain(&mut self, place: usize)
-        ensures { KeepsAll T.incoming T.outgoing T.closes self.old.places.items
+        ensures keeps { KeepsAll T.incoming T.outgoing T.closes self.old.places.items
             self.new.places.items }
+        ensures lines { self.new.lines ≡ self.old.lines }
     {
         if let Some(there) = self.places.get_mut(place) {
             there.drain();
@@ -305,8 +340,9 @@ impl<'a, R: Wait, T: NonBlocking, W: Watch<T>> Worker<'a, R, T, W> {
     /// Ends the client because of a limit.
     #[tactic(auto, using(crate::proofs::PlaceLists::keeps_at))]
     pub(crate) fn cut(&mut self, place: usize)
-        ensures { KeepsAll T.incoming T.outgoing T.closes self.old.places.items
+        ensures keeps { KeepsAll T.incoming T.outgoing T.closes self.old.places.items
             self.new.places.items }
+        ensures lines { self.new.lines ≡ self.old.lines }
     {
         if let Some(there) = self.places.get_mut(place) {
             there.cut();
@@ -316,8 +352,9 @@ impl<'a, R: Wait, T: NonBlocking, W: Watch<T>> Worker<'a, R, T, W> {
     /// Closes the client, and returns what its session did.
     #[tactic(auto, using(crate::proofs::PlaceLists::keeps_at))]
     pub(crate) fn close(&mut self, place: usize) -> Option<Served>
-        ensures { KeepsAll T.incoming T.outgoing T.closes self.old.places.items
+        ensures keeps { KeepsAll T.incoming T.outgoing T.closes self.old.places.items
             self.new.places.items }
+        ensures lines { self.new.lines ≡ self.old.lines }
     {
         let Some(there) = self.places.get_mut(place) else {
             return None;
@@ -328,8 +365,9 @@ impl<'a, R: Wait, T: NonBlocking, W: Watch<T>> Worker<'a, R, T, W> {
     /// Has the watch report when the client's connection may take bytes, if some wait for it, and
     /// puts the place into the line of those that have more to do, if the client has.
     pub(crate) fn await_more(&mut self, place: usize)
-        ensures { KeepsAll T.incoming T.outgoing T.closes self.old.places.items
+        ensures keeps { KeepsAll T.incoming T.outgoing T.closes self.old.places.items
             self.new.places.items }
+        ensures lines { self.new.lines ≡ self.old.lines }
     {
         self.await_room(place);
         self.await_turn(place);
@@ -338,8 +376,9 @@ impl<'a, R: Wait, T: NonBlocking, W: Watch<T>> Worker<'a, R, T, W> {
     /// Has the watch report when the client's connection may take bytes, if some wait for it.
     #[tactic(auto, using(crate::proofs::PlaceLists::keeps_at))]
     fn await_room(&mut self, place: usize)
-        ensures { KeepsAll T.incoming T.outgoing T.closes self.old.places.items
+        ensures keeps { KeepsAll T.incoming T.outgoing T.closes self.old.places.items
             self.new.places.items }
+        ensures lines { self.new.lines ≡ self.old.lines }
     {
         if let Some(there) = self.places.get_mut(place) {
             there.await_room(&mut self.watch, place);
@@ -349,8 +388,9 @@ impl<'a, R: Wait, T: NonBlocking, W: Watch<T>> Worker<'a, R, T, W> {
     /// Puts the place into the line of those that have more to do, if the client has.
     #[tactic(auto, using(crate::proofs::PlaceLists::keeps_at))]
     fn await_turn(&mut self, place: usize)
-        ensures { KeepsAll T.incoming T.outgoing T.closes self.old.places.items
+        ensures keeps { KeepsAll T.incoming T.outgoing T.closes self.old.places.items
             self.new.places.items }
+        ensures lines { self.new.lines ≡ self.old.lines }
     {
         let Some(there) = self.places.get_mut(place) else {
             return;
@@ -373,11 +413,31 @@ impl<'a, R: Wait, T: NonBlocking, W: Watch<T>> Worker<'a, R, T, W> {
         Some(place)
     }
 
+    /// Returns whether the client may have more bytes to read, although nothing reports them.
+    pub(crate) fn may_hold_more(&self, place: usize) -> bool {
+        match self.places.get(place) {
+            Some(there) => there.may_hold_more(),
+            None => false,
+        }
+    }
+
+    /// Has the worker look soon whether the client has more bytes to read, if it may have some that
+    /// nothing reports.
+    pub(crate) fn look_again(&mut self, place: usize)
+        ensures { (self.new.places ≡ self.old.places) × (self.new.lines ≡ self.old.lines) }
+    {
+        if self.again.is_none() && self.may_hold_more(place) {
+            self.again = Some(Moment::now().plus_millis(AGAIN_MILLIS));
+            self.check = sooner(self.check, self.again);
+        }
+    }
+
     /// Sets when the client's time is over.
     #[tactic(auto, using(crate::proofs::PlaceLists::keeps_at))]
     pub(crate) fn set_time(&mut self, place: usize, patience: Patience)
-        ensures { KeepsAll T.incoming T.outgoing T.closes self.old.places.items
+        ensures keeps { KeepsAll T.incoming T.outgoing T.closes self.old.places.items
             self.new.places.items }
+        ensures lines { self.new.lines ≡ self.old.lines }
     {
         if patience == Patience::UNBOUNDED {
             return;

@@ -31,6 +31,7 @@ use Rattle.sysv_session.proofs.Arrived.{IsSettled, IsSettledEnd, takes_up_more}
 use Rattle.sysv_session.proofs.GoesOn.{greets, greet_ends, puts, put_ends, stops, takes_hello, takes_request}
 use Rattle.sysv_service.specs.declared.progress.Progress.{Progress}
 use Rattle.sysv_service.specs.declared.progress.Progress.TheVariants as progress
+use Rattle.sysv_steps.specs.declared.get.GetWait.{GetWait}
 use Rattle.sysv_steps.specs.declared.receive.ReceiveWait.{ReceiveWait}
 use Rattle.sysv_steps.specs.declared.send.SendWait.{SendWait}
 use Rattle.sysv_steps.specs.State.{Phase}
@@ -48,12 +49,12 @@ use Rattle.sysv_wire.specs.declared.request.Request.{Request}
 use Rattle.sysv_wire.specs.Requests.{ask_text, op_of, request_encoding}
 use Rattle.sysv_seats.specs.declared.parked.Parked.{Parked}
 use Rattle.sysv_seats.specs.declared.waiting.Waiting.{Waiting}
-use Rattle.sysv_seats.specs.declared.waiting.Waiting.TheVariants.{Send, Receive}
+use Rattle.sysv_seats.specs.declared.waiting.Waiting.TheVariants.{Send, Receive, Get}
 use Rattle.sysv_seats.specs.Asked.{asks_with}
 use Rattle.sysv_seats.specs.InPieces.{asks_any}
 use Rattle.sysv_seats.specs.Asked.{Asks}
 use Rattle.sysv_seats.specs.Parked.{GoesOn, HasBegun, IsReplied, IsWaitOf, MayProgress, Proceeds}
-use Rattle.sysv_seats.specs.Parked.{kind_in, receive_progress, send_progress}
+use Rattle.sysv_seats.specs.Parked.{kind_in, get_progress, receive_progress, send_progress}
 use Rattle.sysv_seats.specs.Replies.{done_reply, given_reply, id_reply, row_reply, stat_reply}
 use Rattle.sysv_seats.specs.Sits.{GreetsAs, HasAsked, HasFrame, HasStopped, IsAt, IsBehind, IsFree, IsPending, IsReady}
 use Rattle.sysv_seats.specs.Sits.{IsWaiting, ReadsNext, Sits, Sitting, is_early, is_wait_of}
@@ -101,6 +102,7 @@ front input bytes later encoding start size until is same whole frame =
 pub is_of : (ask : Ask) (waiting : Waiting) → IsWaitOf ask waiting → is_wait_of ask waiting ≡ true
 is_of (kind.Snd id mtype flags) (Send w) is = refl
 is_of (kind.Rcv id size mtype flags) (Receive w) is = refl
+is_of (kind.Get key flags) (Get w) is = refl
 is_of ask waiting is = absurd is
 
 -- A call that waits waits by a wait of its request.
@@ -192,8 +194,10 @@ asks_replied : (may : ℕ → Type 0) (version : Version) (cred : Cred) (ask : A
     Asks may ⊥ version cred ask text before outcome given after →
     HasReply outcome
 asks_replied may version cred (kind.Hello other) text before outcome given after asked = absurd asked
-asks_replied may version cred (kind.Get key flags) text before outcome given after asked =
-    subst HasReply (sym asked.0.4) (id_has version asked.0.0)
+asks_replied may version cred (kind.Get key flags) text before outcome given after (inl over, none) =
+    subst HasReply (sym over.4) (id_has version over.0)
+asks_replied may version cred (kind.Get key flags) text before outcome given after (inr left, none) =
+    absurd left.0.0
 asks_replied may version cred (kind.Snd id mtype flags) text before outcome given after
     ((released, mid, read, inl over), none) =
     subst HasReply (sym over.4) (done_has version op.Snd content.Snd over.0)
@@ -228,6 +232,10 @@ receive_has : (version : Version) (came : Progress ReceiveWait (Result Given Err
 receive_has version (progress.Waits w) = tt
 receive_has version (progress.Over told) = given_has version told
 
+get_has : (version : Version) (came : Progress GetWait (Result ℤ Errno)) → IsReplied (get_progress version came)
+get_has version (progress.Waits w) = tt
+get_has version (progress.Over told) = id_has version told
+
 proceeds_replied : (may : ℕ → Type 0) (version : Version) (waiting : Waiting) (text : List ℕ)
     (phase : Phase (kind_in waiting)) (before : Pass) (came : Progress Waiting RequestOutcome) (given : List ℕ)
     (after : Pass) → Proceeds may version waiting text phase before came given after → IsReplied came
@@ -235,6 +243,8 @@ proceeds_replied may version (Send w) text phase before came given after on =
     subst IsReplied (sym on.2) (send_has version on.0)
 proceeds_replied may version (Receive w) text phase before came given after on =
     subst IsReplied (sym on.2) (receive_has version on.0)
+proceeds_replied may version (Get w) text phase before came given after on =
+    subst IsReplied (sym on.2) (get_has version on.0)
 
 pub goes_replied : (may : ℕ → Type 0) (version : Version) (waiting : Waiting) (text : List ℕ) (before : Pass)
     (came : Progress Waiting RequestOutcome) (given : List ℕ) (after : Pass) →

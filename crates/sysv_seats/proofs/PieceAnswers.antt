@@ -1,4 +1,4 @@
--- What a handler may return for a send and a receive in pieces.
+-- What a handler may return for a get, a send and a receive in pieces.
 use Rattle.std.proofs.Common.{ℕ, ℤ, List, [], Result, Ok, Err, inl, inr, refl, sym, subst, arith}
 use Rattle.std.specs.Prelude.{⊤}
 use Rattle.sysv_model.specs.declared.errno.Errno.{Errno}
@@ -7,6 +7,7 @@ use Rattle.sysv_queue.specs.Delivery.{Given}
 use Rattle.sysv_session.specs.declared.handler.RequestOutcome.{RequestOutcome}
 use Rattle.sysv_service.specs.declared.progress.Progress.{Progress}
 use Rattle.sysv_service.specs.declared.progress.Progress.TheVariants as progress
+use Rattle.sysv_steps.specs.declared.get.GetWait.{GetWait}
 use Rattle.sysv_steps.specs.declared.receive.ReceiveWait.{ReceiveWait}
 use Rattle.sysv_steps.specs.declared.send.SendWait.{SendWait}
 use Rattle.sysv_service.specs.Ran.{Pass}
@@ -16,12 +17,18 @@ use Rattle.sysv_steps.specs.Call.{Receives}
 use Rattle.sysv_steps.specs.State.{State, Ending, Got, Refused}
 use Rattle.sysv_wire.specs.declared.frame.Version.{Version}
 use Rattle.sysv_wire.specs.declared.request.Ask.{Ask}
-use Rattle.sysv_wire.specs.declared.request.Ask.TheVariants.{Snd, Rcv}
+use Rattle.sysv_wire.specs.declared.request.Ask.TheVariants.{Get as AskGet, Snd, Rcv}
 use Rattle.sysv_seats.specs.declared.waiting.Waiting.{Waiting}
-use Rattle.sysv_seats.specs.declared.waiting.Waiting.TheVariants.{Send, Receive}
-use Rattle.sysv_seats.specs.Parked.{GoesOn, IsWaitOf, MayProgress, send_progress, receive_progress}
+use Rattle.sysv_seats.specs.declared.waiting.Waiting.TheVariants.{Send, Receive, Get}
+use Rattle.sysv_seats.specs.Parked.{GoesOn, IsWaitOf, MayProgress, get_progress, send_progress, receive_progress}
 use Rattle.sysv_seats.specs.Replies.{given_reply}
 use Rattle.sysv_session.specs.Answers.{MayAnswer}
+
+pub get_answers : (version : Version) (key : ℤ) (flags : Flags) (came : Progress GetWait (Result ℤ Errno)) →
+    MayProgress version (AskGet key flags) (get_progress version came) []
+get_answers version key flags (progress.Waits w) = tt
+get_answers version key flags (progress.Over (Ok id)) = (refl, refl, refl, refl, omega arith)
+get_answers version key flags (progress.Over (Err why)) = (refl, refl, omega arith, refl, omega arith)
 
 pub send_answers : (version : Version) (id mtype : ℤ) (flags : Flags) (came : Progress SendWait (Result ⊤ Errno)) →
     MayProgress version (Snd id mtype flags) (send_progress version came) []
@@ -59,4 +66,9 @@ go_answers may version (Rcv id size mtype flags) (Receive w) text before result 
     let on = went.3 in
     subst (λ r. MayProgress version (Rcv id size mtype flags) r given) (sym on.2)
     (receive_answers may version id size mtype flags _ _ on.0 given after on.1)
+go_answers may version (AskGet key flags) (Get w) text before result given after is (inr went) =
+    let on = went.3 in
+    subst (λ r. MayProgress version (AskGet key flags) r given) (sym on.2)
+    (subst (λ g. MayProgress version (AskGet key flags) (get_progress version on.0) g) (sym on.3)
+    (get_answers version key flags on.0))
 go_answers may version ask waiting text before result given after is (inr went) = absurd is

@@ -29,7 +29,7 @@ abbrev pub ReadsReleased : ℕ → Pass → Pass → Type 0
 ReadsReleased released before after = Reads Released released before.seats after.seats × (after.held ≡ before.held)
 
 -- A `msgget` with the pass.
-abbrev pub Gets : (ℕ → Type 0) → Version → Cred → ℤ → Flags → Pass → RequestOutcome → Pass → Type 0
+abbrev pub Gets : (ℕ → Type 0) → Type 0 → Version → Cred → ℤ → Flags → Pass → RequestOutcome → Pass → Type 0
 Gets = requests.Gets ComesFrom ReadsReleased TellsRow
 
 -- A `msgsnd` with the pass.

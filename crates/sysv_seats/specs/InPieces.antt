@@ -9,22 +9,24 @@ use Rattle.sysv_session.specs.declared.handler.RequestOutcome.{RequestOutcome}
 use Rattle.sysv_session.specs.declared.handler.RequestOutcome.TheVariants.{Left}
 use Rattle.sysv_service.specs.declared.progress.Progress.{Progress}
 use Rattle.sysv_service.specs.declared.progress.Progress.TheVariants as progress
+use Rattle.sysv_steps.specs.declared.get.GetWait.{GetWait}
 use Rattle.sysv_steps.specs.declared.receive.ReceiveWait.{ReceiveWait}
 use Rattle.sysv_steps.specs.declared.send.SendWait.{SendWait}
-use Rattle.sysv_service.specs.Pieces.{sends_on, receives_on, comes_to_goal, comes_to_wait}
+use Rattle.sysv_service.specs.Pieces.{gets_on, sends_on, receives_on, comes_to_goal, comes_to_wait}
 use Rattle.sysv_service.specs.Ran.{Pass}
-use Rattle.sysv_steps.specs.Seen.{receive_wait, send_wait}
-use Rattle.sysv_service.specs.Pending.{ReceivesOn, SendsOn, IsReached, StillWaits}
+use Rattle.sysv_steps.specs.Seen.{get_wait, receive_wait, send_wait}
+use Rattle.sysv_service.specs.Pending.{GetsOn, ReceivesOn, SendsOn, IsReached, StillWaits}
 use Rattle.sysv_steps.specs.Begin.{begin}
-use Rattle.sysv_steps.specs.Call.{Msgsnd, Msgrcv}
+use Rattle.sysv_steps.specs.Call.{Msgget, Msgsnd, Msgrcv}
 use Rattle.sysv_steps.specs.State.{Phase, Goes}
 use Rattle.sysv_wire.specs.declared.frame.Version.{Version}
 use Rattle.sysv_wire.specs.declared.request.Ask.{Ask}
-use Rattle.sysv_wire.specs.declared.request.Ask.TheVariants.{Hello, Get, Snd, Rcv, Stat, Set, Rm, Row}
+use Rattle.sysv_wire.specs.declared.request.Ask.TheVariants.{Hello, Get as AskGet, Snd, Rcv, Stat, Set, Rm, Row}
 use Rattle.sysv_seats.specs.declared.waiting.Waiting.{Waiting}
-use Rattle.sysv_seats.specs.declared.waiting.Waiting.TheVariants.{Send, Receive}
+use Rattle.sysv_seats.specs.declared.waiting.Waiting.TheVariants.{Send, Receive, Get}
 use Rattle.sysv_seats.specs.Asked.{Asks, ReadsReleased}
-use Rattle.sysv_seats.specs.Parked.{IsParked, HasBegun, GoesOn, Proceeds, send_progress, receive_progress, kind_in}
+use Rattle.sysv_seats.specs.Parked.{IsParked, HasBegun, GoesOn, Proceeds, get_progress, send_progress}
+use Rattle.sysv_seats.specs.Parked.{receive_progress, kind_in}
 use Rattle.sysv_seats.specs.Parked.{wait_in}
 
 module _ (may : ℕ → Type 0) (version : Version) (cred : Cred) where
@@ -49,6 +51,14 @@ module _ (may : ℕ → Type 0) (version : Version) (cred : Cred) where
   receive_begins id size mtype flags text before (progress.Over told) given after on =
       inl (told, on.0.0, on.0.1, on.0.2, refl)
 
+  -- A get that has made its steps.
+  pub get_begins : (key : ℤ) (flags : Flags) (text : List ℕ) (before : Pass)
+      (came : Progress GetWait (Result ℤ Errno)) (after : Pass) →
+      GetsOn may (begin cred (Msgget key flags) 0) before came after →
+      HasBegun may version cred (AskGet key flags) text before (get_progress version came) [] after
+  get_begins key flags text before (progress.Waits w) after on = (on, refl)
+  get_begins key flags text before (progress.Over told) after on = (inl (told, on.0, on.1, on.2, refl), refl)
+
   -- ---- a parked call goes on
 
   -- It still waits.
@@ -65,6 +75,8 @@ module _ (may : ℕ → Type 0) (version : Version) (cred : Cred) where
   )
   still_parked (Rcv id size mtype flags) text start (Receive w) before after parked still =
       comes_to_wait may (begin cred (Msgrcv id size mtype flags) 0) start (receive_wait w) before after parked still
+  still_parked (AskGet key flags) text start (Get w) before after parked still =
+      comes_to_wait may (begin cred (Msgget key flags) 0) start (get_wait w) before after parked still
   still_parked ask text start waiting before after parked still = absurd parked
 
   -- It is at its goal and makes its steps.
@@ -87,6 +99,13 @@ module _ (may : ℕ → Type 0) (version : Version) (cred : Cred) where
       let whole = receives_on may from start (Goes phase) mid on.0 given after came on.1 in
       let begun = receive_begins id size mtype flags text start on.0 given after whole in
       subst (λ r. HasBegun may version cred (Rcv id size mtype flags) text start r given after) (sym on.2) begun
+  proceeds (AskGet key flags) text start (Get w) before result given after parked phase mid reached on =
+      let from = begin cred (Msgget key flags) 0 in
+      let came = comes_to_goal may from start (get_wait w) before phase mid parked reached in
+      let whole = gets_on may from start (Goes phase) mid on.0 after came on.1 in
+      let begun = get_begins key flags text start on.0 after whole in
+      subst (λ g. HasBegun may version cred (AskGet key flags) text start result g after) (sym on.3)
+      (subst (λ r. HasBegun may version cred (AskGet key flags) text start r [] after) (sym on.2) begun)
   proceeds ask text start waiting before result given after parked phase mid reached on = absurd parked
 
   -- It looked at its count once.
@@ -108,7 +127,8 @@ module _ (may : ℕ → Type 0) (version : Version) (cred : Cred) where
       (given : List ℕ) (after : Pass) → Asks may ⊥ version cred ask text before outcome given after →
       Asks may may_leave version cred ask text before outcome given after
   asks_any may_leave (Hello other) text before outcome given after asked = absurd asked
-  asks_any may_leave (Get key flags) text before outcome given after asked = asked
+  asks_any may_leave (AskGet key flags) text before outcome given after (inl over, none) = (inl over, none)
+  asks_any may_leave (AskGet key flags) text before outcome given after (inr left, none) = absurd left.0.0
   asks_any may_leave (Snd id mtype flags) text before outcome given after
       ((released, mid, read, inl over), none) = ((released, mid, read, inl over), none)
   asks_any may_leave (Snd id mtype flags) text before outcome given after
@@ -130,4 +150,6 @@ module _ (may : ℕ → Type 0) (version : Version) (cred : Cred) where
   )
   left may_leave (Rcv id size mtype flags) text before (Receive w) after leaves parked =
       inr ((leaves, receive_wait w, parked), refl, refl)
+  left may_leave (AskGet key flags) text before (Get w) after leaves parked =
+      (inr ((leaves, get_wait w, parked), refl), refl)
   left may_leave ask text before waiting after leaves parked = absurd parked

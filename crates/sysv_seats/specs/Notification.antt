@@ -1,14 +1,21 @@
 -- What a call has changed for calls that wait, by how its request ended (this project's profile). A
 -- receive waits for the arrived count of its slot, and a send waits for the freed count of its slot
--- or for the released count of the pool. An accepted message raises the arrived count. A message
--- that is taken raises the freed count, and then the released count, as its blocks are returned. A
--- queue that is set or removed raises all three. A send that had reserved blocks and was refused, or
--- then waits for room, raises the released count.
-use Rattle.std.specs.Prelude.{◌≡◌, ◌++◌, ◌≤◌, ℤ, Bool, true, false, not, List, [], ◌∷◌, length}
+-- or for the released count of the pool. A get waits for the settled count of the registry. An
+-- accepted message raises the arrived count. A message that is taken raises the freed count, and
+-- then the released count, as its blocks are returned. A queue that is set or removed raises all
+-- three. A send that had reserved blocks and was refused, or then waits for room, raises the released
+-- count. A get that makes an identifier settles it, or forgets it and fails: both raise the settled
+-- count. A get that waits has made no identifier. A queue that is removed raises the settled count
+-- too, as its identifier is forgotten.
+use Rattle.std.specs.Prelude.{◌≡◌, ◌++◌, ◌≤◌, ◌||◌, ℤ, Bool, true, false, not, List, [], ◌∷◌, length}
 use Rattle.std.specs.Prelude.{Option, None, Some, if◌then◌else◌, vec_capacity}
 use Rattle.std.specs.Ordering.{int_eq}
 use Rattle.std.specs.Option.{option_to_list}
 use Rattle.sysv_keys.specs.Identifier.{slot_of_id}
+use Rattle.sysv_model.specs.declared.flags.Flags.{Flags}
+use Rattle.sysv_model.specs.declared.flags.TheConstants.Flags.{IPC_CREAT}
+use Rattle.sysv_model.specs.declared.limits.TheConstants.{IPC_PRIVATE}
+use Rattle.sysv_model.specs.HasFlag.{has_flag}
 use Rattle.sysv_service.specs.declared.progress.Progress.{Progress}
 use Rattle.sysv_service.specs.declared.progress.Progress.TheVariants as progress
 use Rattle.sysv_steps.specs.declared.send.SendWait.TheVariants.{Room}
@@ -17,7 +24,7 @@ use Rattle.sysv_session.specs.declared.handler.RequestOutcome.TheVariants.{Reply
 use Rattle.sysv_wire.specs.declared.reply.ReplyContent.{ReplyContent}
 use Rattle.sysv_wire.specs.declared.reply.ReplyContent.TheVariants.{Refused}
 use Rattle.sysv_wire.specs.declared.request.Ask.{Ask}
-use Rattle.sysv_wire.specs.declared.request.Ask.TheVariants.{Snd, Rcv, Set, Rm}
+use Rattle.sysv_wire.specs.declared.request.Ask.TheVariants.{Get, Snd, Rcv, Set, Rm}
 use Rattle.sysv_seats.specs.declared.notification.Notification.{Notification}
 use Rattle.sysv_seats.specs.declared.notification.Notification.TheVariants as notifications
 use Rattle.sysv_seats.specs.declared.notification.Told.{Told}
@@ -60,9 +67,23 @@ may_release (Set id to) outcome = is_done outcome
 may_release (Rm id) outcome = is_done outcome
 may_release ask outcome = false
 
+-- A get with this key and these flags may make a queue.
+abbrev pub may_make : ℤ → Flags → Bool
+may_make key flags = int_eq key IPC_PRIVATE || has_flag IPC_CREAT flags
+
+-- The call may have raised the settled count.
+abbrev pub may_settle : Ask → RequestOutcome → Bool
+may_settle (Get key flags) outcome = may_make key flags
+may_settle (Rm id) outcome = is_done outcome
+may_settle ask outcome = false
+
 -- A call that is over.
 abbrev pub told_by : Ask → RequestOutcome → Told
-told_by ask outcome = record { there = changed_by ask outcome; released = may_release ask outcome }
+told_by ask outcome = record {
+  there = changed_by ask outcome;
+  released = may_release ask outcome;
+  settled = may_settle ask outcome;
+}
 
 -- A send that waits for room.
 abbrev pub waits_for_room : Waiting → Bool
@@ -71,7 +92,7 @@ waits_for_room waiting = false
 
 -- A call that has come to this wait.
 abbrev pub told_at : Waiting → Told
-told_at waiting = record { there = None; released = waits_for_room waiting }
+told_at waiting = record { there = None; released = waits_for_room waiting; settled = false }
 
 -- A call that has come so far.
 abbrev pub told_of : Ask → Progress Waiting RequestOutcome → Told
@@ -86,7 +107,8 @@ notifications_in tools = tools.notifications.items
 
 -- What one call changed, as notifications.
 abbrev pub notifications_of : Told → List Notification
-notifications_of told = option_to_list told.there ++ (if told.released then notifications.Released ∷ [] else [])
+notifications_of told = option_to_list told.there ++ ((if told.released then notifications.Released ∷ [] else [])
+    ++ (if told.settled then notifications.Settled ∷ [] else []))
 
 -- These come after the notifications that there were, if there is room for them. Nothing else changes.
 abbrev pub Keeps : List Notification → Tools → Tools → Type 0

@@ -42,10 +42,21 @@ module _ {K : Type 0} (Comes : Going K) (ReadsReleased : ℕ → K → K → Typ
       may_leave × (wait : Wait (kind_of asked)) × Comes may cred asked released before (Waits wait) after
 
   -- A `msgget` ended, and the outcome is the reply with its result.
-  abbrev pub Gets : (ℕ → Type 0) → Version → Cred → ℤ → Flags → K → RequestOutcome → K → Type 0
-  Gets may version cred key flags before outcome after = (answer : Result ℤ Errno) × (ending : Ending)
+  abbrev pub GetIsOver : (ℕ → Type 0) → Version → Cred → ℤ → Flags → K → RequestOutcome → K → Type 0
+  GetIsOver may version cred key flags before outcome after = (answer : Result ℤ Errno) × (ending : Ending)
       × Ends may cred (Msgget key flags) 0 before ending after × TellsId ending answer
       × (outcome ≡ id_reply version answer)
+
+  -- The caller left a `msgget` while it waited, and it has no reply.
+  abbrev pub GetIsLeft : (ℕ → Type 0) → Type 0 → Cred → ℤ → Flags → K → RequestOutcome → K → Type 0
+  GetIsLeft may may_leave cred key flags before outcome after =
+      IsLeft may_leave may cred (Msgget key flags) 0 before after × (outcome ≡ Left)
+
+  -- A `msgget` ended or was left.
+  abbrev pub Gets : (ℕ → Type 0) → Type 0 → Version → Cred → ℤ → Flags → K → RequestOutcome → K → Type 0
+  Gets may may_leave version cred key flags before outcome after =
+      GetIsOver may version cred key flags before outcome after
+      ⊎ GetIsLeft may may_leave cred key flags before outcome after
 
   -- A `msgsnd` of the body ended, and the outcome is the reply with its result.
   abbrev pub SendIsOver : (ℕ → Type 0) → Version → Cred → ℤ → ℤ → Flags → List ℕ → ℕ → K → RequestOutcome → K → Type 0
@@ -115,12 +126,13 @@ module _ {K : Type 0} (Comes : Going K) (ReadsReleased : ℕ → K → K → Typ
       (answer : Result (Option Line) Errno) × TellsRow slot before answer after × (outcome ≡ row_reply version answer)
 
   -- Request by request, in a version. `text` is the body of a send, and `given` is the body of a
-  -- received message and otherwise empty. The times are those that the clock may return. A send and
-  -- a receive that wait may be left if the caller may leave. A hello is no request to a handler.
+  -- received message and otherwise empty. The times are those that the clock may return. A get, a
+  -- send and a receive that wait may be left if the caller may leave. A hello is no request to a
+  -- handler.
   abbrev pub Asks : (ℕ → Type 0) → Type 0 → Version → Cred → Ask → List ℕ → K → RequestOutcome → List ℕ → K → Type 0
   Asks may may_leave version cred (Hello other) text before outcome given after = ⊥
   Asks may may_leave version cred (Get key flags) text before outcome given after =
-      Gets may version cred key flags before outcome after × (given ≡ [])
+      Gets may may_leave version cred key flags before outcome after × (given ≡ [])
   Asks may may_leave version cred (Snd id mtype flags) text before outcome given after =
       Sends may may_leave version cred id mtype flags text before outcome after × (given ≡ [])
   Asks may may_leave version cred (Rcv id size mtype flags) text before outcome given after =

@@ -24,12 +24,12 @@ use Rattle.sysv_service.specs.Ran.{Pass}
 use Rattle.sysv_wire.specs.declared.fault.Fault.TheVariants.{Truncated, TooLong, BadOp, BadField, Read}
 use Rattle.sysv_wire.specs.declared.frame.Version.{Version}
 use Rattle.sysv_wire.specs.declared.request.Ask.{Ask}
-use Rattle.sysv_wire.specs.declared.request.Ask.TheVariants.{Snd, Rcv}
+use Rattle.sysv_wire.specs.declared.request.Ask.TheVariants.{Get as AskGet, Snd, Rcv}
 use Rattle.sysv_wire.specs.declared.request.Request.{Request}
 use Rattle.sysv_wire.specs.Requests.{request_encoding}
 use Rattle.sysv_seats.specs.declared.parked.Parked.{Parked}
 use Rattle.sysv_seats.specs.declared.waiting.Waiting.{Waiting}
-use Rattle.sysv_seats.specs.declared.waiting.Waiting.TheVariants.{Send, Receive}
+use Rattle.sysv_seats.specs.declared.waiting.Waiting.TheVariants.{Send, Receive, Get}
 use Rattle.sysv_seats.specs.Asked.{ServesPassTogether, asks_with}
 use Rattle.sysv_seats.specs.Breaking.{Breaks, MayBreak}
 use Rattle.sysv_seats.specs.Parked.{IsParked}
@@ -254,6 +254,7 @@ end_at_close (Some parked) None = Left
 abbrev pub is_wait_of : Ask → Waiting → Bool
 is_wait_of (Snd id mtype flags) (Send wait) = true
 is_wait_of (Rcv id size mtype flags) (Receive wait) = true
+is_wait_of (AskGet key flags) (Get wait) = true
 is_wait_of ask waiting = false
 
 -- The frame of a parked call is in the input, and its wait is one of a call of its request.

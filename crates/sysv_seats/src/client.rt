@@ -40,7 +40,8 @@ const MOST_KEPT: usize = 1_024;
 /// All that happens to it is an event: bytes may be there to be read (`note_readable`,
 /// `take_turn`), the connection may take bytes (`drain`), what its parked call waits for may have
 /// changed (`go_on`), its peer has left (`leave`), or a limit has passed (`cut`). No event waits
-/// for the client or for a count. After each event `is_over` states whether to close it.
+/// for the client or for a count: a call that has to wait for a count is parked. An event waits
+/// only for turns at the gates of objects. After each event `is_over` states whether to close it.
 ///
 /// A client can be neither dropped nor copied. Spend it with `close`.
 pub struct Client<T: NonBlocking> {
@@ -54,6 +55,9 @@ pub struct Client<T: NonBlocking> {
     stopped: Option<End>,
     /// Whether bytes may be there to be read.
     is_ready: bool,
+    /// Whether the last read returned fewer bytes than it might have. Then no more bytes are there
+    /// as a rule, but they are if a descriptor came with those that were read.
+    is_short: bool,
     /// Whether the input may hold a whole request.
     has_input: bool,
     /// Whether the peer has shut down its writing.
@@ -101,6 +105,7 @@ impl<T: NonBlocking> Client<T> {
             parked: None,
             stopped: None,
             is_ready: true,
+            is_short: false,
             has_input: false,
             has_left: false,
             is_broken: false,
@@ -209,6 +214,12 @@ impl<T: NonBlocking> Client<T> {
         ensures { result ≡ true → MayClose (T.closes.breaks self.now.connection) self.now }
     {
         self.is_over() || self.may_be_cut()
+    }
+
+    /// Returns whether more bytes may be there than the last read returned, although nothing reports
+    /// them: it was short, and no read since has found nothing.
+    pub fn may_hold_more(&self) -> bool {
+        self.is_short && !self.is_held()
     }
 
     /// Learns that bytes may be there to be read.
@@ -333,6 +344,7 @@ impl<T: NonBlocking> Client<T> {
             parked,
             stopped,
             is_ready: _,
+            is_short: _,
             has_input: _,
             has_left: _,
             is_broken: _,
@@ -432,11 +444,15 @@ impl<T: NonBlocking> Client<T> {
         match self.connection.fill(&mut tools.arrived) {
             Filled::Bytes(count) => {
                 // (a peer that has left is reported once, so its connection is read to the end)
-                self.is_ready = self.has_left | (count == tools.arrived.len());
+                self.is_short = count < tools.arrived.len();
+                self.is_ready = self.has_left | !self.is_short;
                 self.arrive(&tools.arrived[..count]);
                 self.take_share(handler, tools);
             }
-            Filled::NothingNow => self.is_ready = false,
+            Filled::NothingNow => {
+                self.is_ready = false;
+                self.is_short = false;
+            }
             Filled::Over(Over::End) => self.take_up(true, handler, tools),
             Filled::Over(Over::Reset) => self.stop(End::Reset),
             Filled::Over(Over::Failed) => self.stop(End::Fault(Fault::Read)),

@@ -109,8 +109,8 @@ impl<'a, C: Clock, R: Wait> ServiceHandler<'a, C, R> {
 
     /// Makes a `msgget`, and returns the reply with its result.
     fn get(&mut self, version: Version, cred: Cred, key: i32, flags: Flags) -> RequestOutcome
-        ensures gets { Gets (C.may self.old.clock.now) version cred key flags self.old.pass result
-            self.new.pass }
+        ensures gets { Gets (C.may self.old.clock.now) ⊥ version cred key flags self.old.pass
+            result self.new.pass }
         ensures answer { MayAnswer version (Ask.Get key flags) result [] }
         ensures handles { KeepsHandles self.old self.new }
     {

@@ -4,22 +4,23 @@ ghost use Rattle.std.specs.Prelude.{◌≡◌, ◌≢◌, ◌≤◌, ℕ, List, 
 ghost use Rattle.sysv_model.specs.declared.limits.TheConstants.{MESSAGE_BYTES};
 ghost use Rattle.sysv_service.specs.Ran.{Pass as Seen};
 ghost use Rattle.sysv_wire.specs.Requests.{op_of};
-ghost use Rattle.sysv_seats.specs.Parked.{GoesOn, HasBegun, IsParked, IsWaitOf, MayProgress, receive_progress, send_progress};
+ghost use Rattle.sysv_seats.specs.Parked.{GoesOn, HasBegun, IsParked, IsWaitOf, MayProgress, get_progress, receive_progress, send_progress};
 
 use crate::handler::{ServiceHandler, reply};
 use crate::waiting::Waiting;
 use std::sync::Wait;
 use sysv_model::{Body, Cred, Errno, Flags};
 use sysv_queue::Delivery;
-use sysv_service::{Clock, Progress, ReceiveWait, SendWait};
+use sysv_service::{Clock, GetWait, Progress, ReceiveWait, SendWait};
 use sysv_session::{Handler, RequestOutcome};
 use sysv_wire::{Ask, Op, ReplyContent, Request, Version};
 
 impl<'a, C: Clock, R: Wait> ServiceHandler<'a, C, R> {
     ghost use Rattle.sysv_seats.specs.HandlesKept.{KeepsHandles};
 
-    /// Begins a request. A send and a receive make their steps until they wait or are over, and
-    /// never sleep until a count changes. Any other request is carried out as by `call`.
+    /// Begins a request. A get, a send and a receive make their steps until they wait or are over,
+    /// and never sleep until a count changes. Any other request never waits for a count, and is
+    /// carried out as by `call`.
     ///
     /// `cred`, `text` and `given` are those of `call`. If the request waits, `given` is empty, and
     /// `go_on` continues it with the same `request` and `text`. To give it up, drop the wait.
@@ -45,6 +46,7 @@ impl<'a, C: Clock, R: Wait> ServiceHandler<'a, C, R> {
     {
         let version = request.version;
         match request.ask {
+            Ask::Get { key, flags } => self.begin_get(version, cred, key, flags),
             Ask::Snd { id, mtype, flags } => self.begin_send(version, cred, id, mtype, flags, text),
             Ask::Rcv {
                 id,
@@ -54,6 +56,26 @@ impl<'a, C: Clock, R: Wait> ServiceHandler<'a, C, R> {
             } => self.begin_receive(version, cred, id, size, mtype, flags, given),
             _whole => Progress::Over(self.call(cred, request, text, given)),
         }
+    }
+
+    /// Begins a `msgget`.
+    fn begin_get(
+        &mut self,
+        version: Version,
+        cred: Cred,
+        key: i32,
+        flags: Flags,
+    ) -> Progress<Waiting, RequestOutcome>
+        ensures begun { (text : List ℕ) → HasBegun (C.may self.old.clock.now) version cred
+            (Ask.Get key flags) text self.old.pass result [] self.new.pass }
+        ensures answer { MayProgress version (Ask.Get key flags) result [] }
+        ensures handles { KeepsHandles self.old self.new }
+    {
+        let pass = &mut self.pass;
+        let came = self
+            .service
+            .msgget_begin(self.rt, pass, self.clock, cred, key, flags);
+        get_came(version, came)
     }
 
     /// Begins a `msgsnd` of the body.
@@ -138,7 +160,22 @@ impl<'a, C: Clock, R: Wait> ServiceHandler<'a, C, R> {
         match waiting {
             Waiting::Send(wait) => self.send_on(request.version, text, wait),
             Waiting::Receive(wait) => self.receive_on(request.version, given, wait),
+            Waiting::Get(wait) => self.get_on(request.version, wait),
         }
+    }
+
+    /// Continues a `msgget`.
+    fn get_on(&mut self, version: Version, wait: GetWait) -> Progress<Waiting, RequestOutcome>
+        ensures looks { (text : List ℕ) → GoesOn (C.may self.old.clock.now) version
+            (Waiting.Get wait) text self.old.pass result [] self.new.pass }
+        ensures handles { KeepsHandles self.old self.new }
+    {
+        let pass = &mut self.pass;
+        let Some(get) = self.service.msgget_look(pass, &wait) else {
+            return Progress::Waits(Waiting::Get(wait));
+        };
+        let came = self.service.msgget_go_on(self.rt, pass, self.clock, get);
+        get_came(version, came)
     }
 
     /// Continues a `msgsnd` of the body.
@@ -183,6 +220,22 @@ impl<'a, C: Clock, R: Wait> ServiceHandler<'a, C, R> {
             .service
             .msgrcv_go_on(self.rt, pass, self.clock, given, receive);
         receive_came(version, came)
+    }
+}
+
+/// Returns how far the request of a get has come.
+fn get_came(
+    version: Version,
+    came: Progress<GetWait, Result<i32, Errno>>,
+) -> Progress<Waiting, RequestOutcome>
+    ensures { result ≡ get_progress version came }
+{
+    match came {
+        Progress::Waits(wait) => Progress::Waits(Waiting::Get(wait)),
+        Progress::Over(Ok(id)) => Progress::Over(reply(version, Op::Get, ReplyContent::Get { id })),
+        Progress::Over(Err(why)) => {
+            Progress::Over(reply(version, Op::Get, ReplyContent::Refused(why)))
+        }
     }
 }
 

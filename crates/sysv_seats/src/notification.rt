@@ -1,9 +1,11 @@
 //! What a call may have changed for calls that wait.
 ghost use Rattle.std.specs.Prelude.{◌≡◌};
-ghost use Rattle.sysv_seats.specs.Notification.{changed_by, freed_by, is_done as does, told_at, told_by};
+ghost use Rattle.sysv_seats.specs.Notification.{changed_by, freed_by, is_done as does, may_make as makes, may_release, may_settle, told_at, told_by};
 
 use crate::waiting::Waiting;
+use bitflags::Flags as _;
 use sysv_keys::slot_of_id;
+use sysv_model::{Flags, IPC_PRIVATE};
 use sysv_service::SendWait;
 use sysv_session::RequestOutcome;
 use sysv_wire::{Ask, ReplyContent, Request};
@@ -32,42 +34,46 @@ pub enum Notification {
         /// The slot, below `sysv_keys::SLOTS`.
         slot: usize,
     },
+    /// The registry recorded that a queue was installed, or forgot an identifier.
+    Settled,
 }
 
-/// What one call may have changed: at most two things.
+/// What one call may have changed: at most three things.
 #[derive(Clone, Copy, PartialEq, Eq, Debug)]
 pub struct Told {
     /// What it may have changed at a slot.
     pub there: Option<Notification>,
     /// Whether it may have raised the released count of the pool.
     pub released: bool,
+    /// Whether it may have raised the settled count of the registry.
+    pub settled: bool,
 }
 
 impl Told {
     /// Returns what a call changes that has come to this wait. A send that waits for room may have
-    /// reserved blocks and returned them.
+    /// reserved blocks and returned them. A get that waits has made no identifier, so it has raised
+    /// no count.
     pub(crate) fn by_wait(waiting: &Waiting) -> Told
         ensures { result ≡ told_at waiting.now }
     {
         Told {
             there: None,
             released: matches!(waiting, Waiting::Send(SendWait::Room { .. })),
+            settled: false,
         }
     }
 
     /// Returns what a call changes that is over. A refused send may have reserved blocks and
     /// returned them. A set of a queue counts as a return of blocks, so that sends that wait for
-    /// blocks look at the queue again.
+    /// blocks look at the queue again. A get that may make a queue has settled its identifier, or
+    /// has forgotten it if the get failed. A removal has forgotten the identifier of its queue.
     pub(crate) fn by_end(request: &Request, outcome: &RequestOutcome) -> Told
         ensures { result ≡ told_by request.now.ask outcome.now }
     {
         Told {
             there: there(request, outcome),
-            released: match request.ask {
-                Ask::Snd { .. } => !is_done(outcome),
-                Ask::Rcv { .. } | Ask::Set { .. } | Ask::Rm { .. } => is_done(outcome),
-                _ => false,
-            },
+            released: releases(request, outcome),
+            settled: settles(request, outcome),
         }
     }
 }
@@ -92,6 +98,28 @@ fn there(request: &Request, outcome: &RequestOutcome) -> Option<Notification>
     }
 }
 
+/// Returns whether the call may have raised the released count.
+fn releases(request: &Request, outcome: &RequestOutcome) -> bool
+    ensures { result ≡ may_release request.now.ask outcome.now }
+{
+    match request.ask {
+        Ask::Snd { .. } => !is_done(outcome),
+        Ask::Rcv { .. } | Ask::Set { .. } | Ask::Rm { .. } => is_done(outcome),
+        _ => false,
+    }
+}
+
+/// Returns whether the call may have raised the settled count.
+fn settles(request: &Request, outcome: &RequestOutcome) -> bool
+    ensures { result ≡ may_settle request.now.ask outcome.now }
+{
+    match request.ask {
+        Ask::Get { key, flags } => may_make(key, flags),
+        Ask::Rm { .. } => is_done(outcome),
+        _ => false,
+    }
+}
+
 /// Returns what a receive of this queue changed.
 fn freed(id: i32, outcome: &RequestOutcome) -> Option<Notification>
     ensures { result ≡ freed_by id outcome.now }
@@ -103,6 +131,13 @@ fn freed(id: i32, outcome: &RequestOutcome) -> Option<Notification>
         }),
         _ => None,
     }
+}
+
+/// Returns whether a get with this key and these flags may make a queue.
+fn may_make(key: i32, flags: Flags) -> bool
+    ensures { result ≡ makes key flags }
+{
+    key == IPC_PRIVATE || flags.contains(Flags::IPC_CREAT)
 }
 
 /// Returns whether the call did what was requested.

@@ -1,6 +1,7 @@
 //! What the clients of one worker use one after another.
-ghost use Rattle.std.specs.Prelude.{◌≡◌, ◌∷◌, [], IfOk, vec_capacity};
+ghost use Rattle.std.specs.Prelude.{◌≡◌, ◌∷◌, [], if◌then◌else◌, IfOk, vec_capacity};
 ghost use Rattle.std.specs.List.{list_any};
+ghost use Rattle.std.specs.Option.{option_to_list};
 ghost use Rattle.sysv_seats.specs.declared.tools.TheConstants.{MOST_NOTIFICATIONS};
 ghost use Rattle.sysv_seats.specs.Notification.{Keeps, TakesLast, is_taken, notifications_in, notifications_of};
 
@@ -14,9 +15,12 @@ pub const FILL_BYTES: usize = 65_536;
 /// The maximum number of requests of a client that are taken up at one event.
 pub const SHARE: u32 = 64;
 
-/// The number of things that one event may tell: two for each request of a share, and for a call
+/// The maximum number of things that one call may tell.
+const MOST_TOLD: usize = 3;
+
+/// The number of things that one event may tell: those of each request of a share, and of a call
 /// that waited before.
-const MOST_NOTIFICATIONS: usize = 2 * (SHARE as usize + 2);
+const MOST_NOTIFICATIONS: usize = MOST_TOLD * (SHARE as usize + 2);
 
 /// The buffers that the clients of one worker use one after another, and what their calls may have
 /// changed for calls that wait.
@@ -76,20 +80,35 @@ impl Tools {
     pub(crate) fn tell(&mut self, told: Told)
         ensures { Keeps (notifications_of told) self.old self.new }
     {
-        if let Some(there) = told.there {
-            self.keep(there);
+        self.keep_some(told.there);
+        self.keep_if(told.released, Notification::Released);
+        self.keep_if(told.settled, Notification::Settled);
+    }
+
+    /// Keeps this, if there is something.
+    fn keep_some(&mut self, notification: Option<Notification>)
+        ensures { Keeps (option_to_list notification) self.old self.new }
+    {
+        if let Some(notification) = notification {
+            self.keep(notification);
         }
-        if told.released {
-            self.keep(Notification::Released);
+    }
+
+    /// Keeps this if the condition holds.
+    fn keep_if(&mut self, holds: bool, notification: Notification)
+        ensures { Keeps (if holds then notification ∷ [] else []) self.old self.new }
+    {
+        if holds {
+            self.keep(notification);
         }
     }
 
     /// Keeps one more thing, if there is room.
-    fn keep(&mut self, notifications: Notification)
-        ensures { Keeps (notifications ∷ []) self.old self.new }
+    fn keep(&mut self, notification: Notification)
+        ensures { Keeps (notification ∷ []) self.old self.new }
     {
         if self.notifications.len() < self.notifications.capacity() {
-            self.notifications.push_reserved(notifications);
+            self.notifications.push_reserved(notification);
         }
     }
 }

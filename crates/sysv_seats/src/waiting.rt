@@ -7,7 +7,7 @@ ghost use Rattle.sysv_seats.specs.Parked.{awaited_count, selector_in, wait_in, I
 
 use sysv_keys::slot_of_id;
 use sysv_model::Selector;
-use sysv_service::{ReceiveWait, SendWait};
+use sysv_service::{GetWait, ReceiveWait, SendWait};
 
 /// A call that waits. It holds no blocks and no message, so a caller gives it up by dropping it.
 #[derive(Clone, Copy, PartialEq, Eq)]
@@ -16,6 +16,8 @@ pub enum Waiting {
     Send(SendWait),
     /// A `msgrcv` that waits for a message.
     Receive(ReceiveWait),
+    /// A `msgget` that waits while another call creates or removes the queue of its key.
+    Get(GetWait),
 }
 
 /// The count for which a call waits.
@@ -33,6 +35,8 @@ pub enum Awaited {
     },
     /// The released count of the pool: the call waits for blocks.
     Released,
+    /// The settled count of the registry: the call waits for the queue of its key.
+    Settled,
 }
 
 impl Waiting {
@@ -49,15 +53,16 @@ impl Waiting {
             Waiting::Receive(wait) => Awaited::Arrived {
                 slot: slot_of_id(wait.receive.id),
             },
+            Waiting::Get(_) => Awaited::Settled,
         }
     }
 
-    /// Returns which messages the call requests, or `None` if it is a send.
+    /// Returns which messages the call requests, or `None` if it is no receive.
     pub fn selector(&self) -> Option<Selector>
         ensures { result ≡ selector_in self.now }
     {
         match *self {
-            Waiting::Send(_) => None,
+            Waiting::Send(_) | Waiting::Get(_) => None,
             Waiting::Receive(wait) => Some(wait.receive.selector),
         }
     }

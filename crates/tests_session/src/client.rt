@@ -4,9 +4,11 @@ ghost use Rattle.sysv_service.specs.Seats.{AreOf};
 
 use crate::parts::{assert_is, assert_that, opened};
 use crate::serving::ended;
+use crate::settling::Stage;
 use std::alloc::Global;
 use std::process::Abort;
 use std::sync::Wait;
+use std::thread::{Threads, join_mut};
 use sysv_seats::{
     Client, MemoryStream, Notification, Replies, ServiceHandler, Step, Tools, ZERO, Zero,
 };
@@ -51,6 +53,16 @@ const CROWDED: &[u8] = &[
     0, 0, 3, 0x80, 0, 0, 0, 22, 1, 5, 0, 0, 0, 0, 0, 0, 3, 0xe8, 0, 0, 3, 0xe8, 0, 0, 1, 0x80, 0,
     0, 0, 2, 0, 0, 0, 21, 1, 2, 0, 0, 0, 0, 0, 0, 0, 0, 0, 0, 0, 5, 0, 0, 0, 0, 104, 105, 33,
 ];
+
+/// A hello and a get of key 4 without flags.
+const GETTING: &[u8] = &[
+    0, 0, 0, 14, 1, 0, 0, 0, 3, 0xe8, 0, 0, 3, 0xe8, 0, 0, 0, 101, 0, 0, 0, 10, 1, 1, 0, 0, 0, 4,
+    0, 0, 0, 0,
+];
+
+/// The replies to `GETTING`: the queue has identifier 0. The first 7 bytes are the reply to the
+/// hello.
+const GOT: &[u8] = &[0, 0, 0, 3, 1, 0, 0, 0, 0, 0, 7, 1, 1, 0, 0, 0, 0, 0];
 
 /// A message of type 5 has arrived at the first slot.
 const ARRIVED: Notification = Notification::Arrived { slot: 0, mtype: 5 };
@@ -272,7 +284,7 @@ fn a_client_with_more_than_a_share(rt: HostRuntime) {
     assert_that(&rt, client.is_over());
     let served = closed_early(&rt, alloc, client);
     assert_served(&rt, &served, End::Ended, (71, 0, 0));
-    assert_notifications(&rt, &mut tools, &[]);
+    assert_notifications(&rt, &mut tools, &[Notification::Settled; 70]);
     let pass = handler.into_pass();
     ended(&rt, service, pass, 0);
 }
@@ -286,7 +298,7 @@ fn the_notifications_of_a_send_and_a_receive(rt: HostRuntime) {
     let mut client = paced(&rt, alloc, SESSION, &[Step::AtMost(56)], &[]);
     turn(&mut handler, &mut tools, &mut client);
     assert_that(&rt, !tools.has_taken(5));
-    assert_notifications(&rt, &mut tools, &[ARRIVED]);
+    assert_notifications(&rt, &mut tools, &[ARRIVED, Notification::Settled]);
     turn(&mut handler, &mut tools, &mut client);
     assert_that(&rt, tools.has_taken(5));
     assert_that(&rt, !tools.has_taken(4));
@@ -301,8 +313,9 @@ fn the_notifications_of_a_send_and_a_receive(rt: HostRuntime) {
     ended(&rt, service, pass, 0);
 }
 
-// A set and a removal are told to all that wait at the slot and to all that wait for blocks. A send
-// that is refused may have returned blocks. A removal that fails changes nothing.
+// A set and a removal are told to all that wait at the slot and to all that wait for blocks. A get
+// that may make a queue and a removal are told to the gets that wait. A send that is refused may
+// have returned blocks. A removal that fails changes nothing.
 #[test]
 fn the_notifications_of_a_set_a_refused_send_and_a_removal(rt: HostRuntime) {
     let alloc = rt.alloc();
@@ -317,11 +330,19 @@ fn the_notifications_of_a_set_a_refused_send_and_a_removal(rt: HostRuntime) {
         &[],
     );
     turn(&mut handler, &mut tools, &mut client);
-    assert_notifications(&rt, &mut tools, &[Notification::Released, CHANGED]);
+    assert_notifications(
+        &rt,
+        &mut tools,
+        &[Notification::Released, CHANGED, Notification::Settled],
+    );
     turn(&mut handler, &mut tools, &mut client);
     assert_notifications(&rt, &mut tools, &[Notification::Released]);
     turn(&mut handler, &mut tools, &mut client);
-    assert_notifications(&rt, &mut tools, &[Notification::Released, CHANGED]);
+    assert_notifications(
+        &rt,
+        &mut tools,
+        &[Notification::Settled, Notification::Released, CHANGED],
+    );
     turn(&mut handler, &mut tools, &mut client);
     assert_closed(&rt, alloc, client, End::Ended, (6, 0, 0), CONTROLS);
     let pass = handler.into_pass();
@@ -340,10 +361,14 @@ fn the_notifications_of_calls_that_wait(rt: HostRuntime) {
     turn(&mut handler, &mut tools, &mut receives);
     assert_that(&rt, receives.waiting().is_some());
     assert_that(&rt, receives.is_within_request());
-    assert_notifications(&rt, &mut tools, &[]);
+    assert_notifications(&rt, &mut tools, &[Notification::Settled]);
     let mut sends = paced(&rt, alloc, CROWDED, &[Step::AtMost(58)], &[]);
     turn(&mut handler, &mut tools, &mut sends);
-    assert_notifications(&rt, &mut tools, &[Notification::Released, CHANGED]);
+    assert_notifications(
+        &rt,
+        &mut tools,
+        &[Notification::Released, CHANGED, Notification::Settled],
+    );
     turn(&mut handler, &mut tools, &mut sends);
     assert_that(&rt, sends.waiting().is_some());
     assert_notifications(&rt, &mut tools, &[Notification::Released]);
@@ -390,6 +415,69 @@ fn a_parked_receive_goes_on(rt: HostRuntime) {
     assert_closed(&rt, alloc, waits, End::Ended, (3, 1, 0), RECEIVED);
     let mut pass = handler.into_pass();
     service.join_pass(&mut pass, theirs.into_pass());
+    ended(&rt, service, pass, 0);
+}
+
+/// Has a client get the queue that is being made. Its get is parked until the identifier is
+/// settled. The get of a second client is left meanwhile.
+fn get_settled<R: Abort + Wait>(
+    rt: &R,
+    alloc: Global,
+    handler: &mut ServiceHandler<'_, Zero, R>,
+    stage: &Stage,
+)
+    ensures { handler.new.service ≡ handler.old.service }
+{
+    let mut tools = tools(rt, alloc);
+    let mut gets = client(rt, alloc, GETTING, &[]);
+    let mut leaves = loose(rt, alloc, GETTING, &[]);
+    stage.await_begun(rt);
+    turn(handler, &mut tools, &mut gets);
+    turn(handler, &mut tools, &mut leaves);
+    leaves.leave();
+    assert_closed(rt, alloc, leaves, End::Left, (2, 0, 0), &GOT[..7]);
+    gets.go_on(handler, &mut tools);
+    assert_that(rt, gets.waiting().is_some());
+    assert_counts(rt, &gets, (2, 7), true, false);
+    stage.finish(rt);
+    gets.go_on(handler, &mut tools);
+    assert_that(rt, gets.waiting().is_none());
+    assert_notifications(rt, &mut tools, &[]);
+    turn(handler, &mut tools, &mut gets);
+    assert_closed(rt, alloc, gets, End::Ended, (2, 0, 0), GOT);
+}
+
+/// Makes the queue in one thread, and gets it in another one.
+fn make_and_get<R: Threads + Abort + Wait + Sync>(
+    rt: &R,
+    alloc: Global,
+    maker: &mut ServiceHandler<'_, Stage, R>,
+    getter: &mut ServiceHandler<'_, Zero, R>,
+    stage: &Stage,
+)
+    ensures maker { maker.new.service ≡ maker.old.service }
+    ensures getter { getter.new.service ≡ getter.old.service }
+{
+    // (each closure borrows a variable of its own)
+    let other = alloc;
+    join_mut(
+        rt,
+        &mut || stage.make(rt, other, maker),
+        &mut || get_settled(rt, alloc, getter, stage),
+    );
+}
+
+#[test]
+fn a_parked_get_goes_on_or_is_left(rt: HostRuntime) {
+    let alloc = rt.alloc();
+    let (service, mut pass) = opened(&rt, alloc, 128, 0);
+    let other = split(&rt, alloc, &service, &mut pass);
+    let stage = Stage::new();
+    let mut maker = ServiceHandler::new(&rt, &service, &stage, pass);
+    let mut getter = ServiceHandler::new(&rt, &service, &ZERO, other);
+    make_and_get(&rt, alloc, &mut maker, &mut getter, &stage);
+    let mut pass = maker.into_pass();
+    service.join_pass(&mut pass, getter.into_pass());
     ended(&rt, service, pass, 0);
 }
 

@@ -21,6 +21,8 @@ mod served;
 #[cfg(test)]
 mod serving;
 #[cfg(test)]
+mod settling;
+#[cfg(test)]
 mod streams;
 #[cfg(test)]
 mod test_handler;

@@ -3,19 +3,22 @@ ghost use Rattle.std.specs.Prelude.{◌≡◌, ◌≢◌, ◌≤◌, [], length}
 ghost use Rattle.sysv_model.specs.declared.limits.TheConstants.{MESSAGE_BYTES};
 ghost use Rattle.sysv_seats.specs.Parked.{IsWaitOf};
 ghost use Rattle.sysv_service.specs.Seats.{AreOf};
+ghost use Rattle.sysv_steps.specs.declared.get.GetWait.{GetWait};
 ghost use Rattle.sysv_steps.specs.declared.receive.ReceiveWait.{ReceiveWait};
 ghost use Rattle.sysv_steps.specs.declared.send.SendWait.{SendWait};
 ghost use Rattle.sysv_wire.specs.Requests.{op_of};
 
 use crate::parts::{CLOCK, Still, assert_is, assert_that, closed, opened};
+use crate::settling::{KEY, Stage};
 use bitflags::Flags as _;
 use std::alloc::Global;
 use std::process::Abort;
 use std::sync::Wait;
+use std::thread::{Threads, join_mut};
 use sysv_model::{Body, Errno, Flags, MESSAGE_BYTES, Selector, SetTo};
 use sysv_queue::Tally;
 use sysv_seats::{Awaited, ServiceHandler, Waiting, snd_text};
-use sysv_service::{Pass, Progress, Service};
+use sysv_service::{Clock, Pass, Progress, Service};
 use sysv_session::RequestOutcome;
 use sysv_wire::{Ask, Op, Reply, ReplyContent, Request, Version};
 use tests_kit::{USER, creating, open_body};
@@ -28,6 +31,15 @@ fn request(ask: Ask) -> Request
         version: Version::Two,
         ask,
     }
+}
+
+/// Returns a get of the queue that is being made, without flags.
+fn getting() -> Request
+    ensures op { op_of result.ask ≡ Op.Get }
+    ensures waits { (wait : GetWait) → IsWaitOf result.ask (Waiting.Get wait) }
+{
+    let flags = Flags::empty();
+    request(Ask::Get { key: KEY, flags })
 }
 
 /// Returns a receive of at most 100 bytes of type 5 from queue 0.
@@ -125,10 +137,10 @@ fn assert_got(
 }
 
 /// Begins a request without a body, and asserts that it is over with this reply.
-fn make<R: Abort + Wait>(
+fn make<C: Clock, R: Abort + Wait>(
     rt: &R,
     alloc: Global,
-    handler: &mut ServiceHandler<'_, Still, R>,
+    handler: &mut ServiceHandler<'_, C, R>,
     ask: Ask,
     content: ReplyContent,
 )
@@ -180,10 +192,10 @@ fn take<R: Abort + Wait>(
 }
 
 /// Makes the queue of a key, which has this identifier.
-fn make_queue<R: Abort + Wait>(
+pub(crate) fn make_queue<C: Clock, R: Abort + Wait>(
     rt: &R,
     alloc: Global,
-    handler: &mut ServiceHandler<'_, Still, R>,
+    handler: &mut ServiceHandler<'_, C, R>,
     key: i32,
     id: i32,
 )
@@ -212,7 +224,7 @@ fn receive_on<R: Abort + Wait>(
     assert_is(rt, given.len(), 0);
     given.clear();
     let Waiting::Receive(wait) = waiting else {
-        panic!(rt; "a send waits")
+        panic!(rt; "another call waits")
     };
     let receive = request(receiving());
     let empty = empty_body(rt, alloc);
@@ -232,9 +244,25 @@ fn send_on<R: Abort + Wait>(
 {
     let mut given = empty_body(rt, alloc);
     let Waiting::Send(wait) = waiting else {
-        panic!(rt; "a receive waits")
+        panic!(rt; "another call waits")
     };
     handler.go_on(&sending(0, 5), text, &mut given, Waiting::Send(wait))
+}
+
+/// Continues the get of `getting`.
+fn get_on<R: Abort + Wait>(
+    rt: &R,
+    alloc: Global,
+    handler: &mut ServiceHandler<'_, Still, R>,
+    waiting: Waiting,
+) -> Progress<Waiting, RequestOutcome>
+    ensures { handler.new.service ≡ handler.old.service }
+{
+    let (empty, mut given) = (empty_body(rt, alloc), empty_body(rt, alloc));
+    let Waiting::Get(wait) = waiting else {
+        panic!(rt; "another call waits")
+    };
+    handler.go_on(&getting(), &empty, &mut given, Waiting::Get(wait))
 }
 
 /// Opens a service, with two passes.
@@ -338,6 +366,61 @@ fn a_parked_send_goes_on_after_blocks_were_released(rt: HostRuntime) {
     assert_replied(&rt, over, Op::Snd, ReplyContent::Snd);
     let (pass, other) = (sender.into_pass(), receiver.into_pass());
     close(&rt, service, pass, other, 1);
+}
+
+/// Gets the queue that is being made: the get is parked until the identifier is settled.
+fn get_settled<R: Abort + Wait>(
+    rt: &R,
+    alloc: Global,
+    handler: &mut ServiceHandler<'_, Still, R>,
+    stage: &Stage,
+)
+    ensures { handler.new.service ≡ handler.old.service }
+{
+    let (empty, mut given) = (empty_body(rt, alloc), empty_body(rt, alloc));
+    stage.await_begun(rt);
+    let begun = handler.begin(USER, &getting(), &empty, &mut given);
+    let waiting = parked(rt, begun);
+    assert_is(rt, waiting.awaits(), Awaited::Settled);
+    assert_is(rt, waiting.selector(), None);
+    let again = get_on(rt, alloc, handler, waiting);
+    assert_that(rt, parked(rt, again) == waiting);
+    stage.finish(rt);
+    let over = get_on(rt, alloc, handler, waiting);
+    assert_replied(rt, over, Op::Get, ReplyContent::Get { id: 0 });
+}
+
+/// Makes the queue in one thread, and gets it in another one.
+fn make_and_get<R: Threads + Abort + Wait + Sync>(
+    rt: &R,
+    alloc: Global,
+    maker: &mut ServiceHandler<'_, Stage, R>,
+    getter: &mut ServiceHandler<'_, Still, R>,
+    stage: &Stage,
+)
+    ensures maker { maker.new.service ≡ maker.old.service }
+    ensures getter { getter.new.service ≡ getter.old.service }
+{
+    // (each closure borrows a variable of its own)
+    let other = alloc;
+    join_mut(
+        rt,
+        &mut || stage.make(rt, other, maker),
+        &mut || get_settled(rt, alloc, getter, stage),
+    );
+}
+
+// A get without flags waits for the queue of its key too.
+#[test]
+fn a_parked_get_goes_on_after_the_queue_was_settled(rt: HostRuntime) {
+    let alloc = rt.alloc();
+    let (service, pass, other) = two_passes(&rt, alloc);
+    let stage = Stage::new();
+    let mut maker = ServiceHandler::new(&rt, &service, &stage, pass);
+    let mut getter = ServiceHandler::new(&rt, &service, &CLOCK, other);
+    make_and_get(&rt, alloc, &mut maker, &mut getter, &stage);
+    let (pass, other) = (maker.into_pass(), getter.into_pass());
+    close(&rt, service, pass, other, 0);
 }
 
 // The receive is parked when its queue is removed.

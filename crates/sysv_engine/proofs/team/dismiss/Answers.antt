@@ -1,5 +1,6 @@
 -- The last place's pass is one of the service, its sums are added, and its book is put back.
 use Rattle.std.proofs.Common.{◌≡◌, ◌∙◌, ℕ, ◌+◌, ◌∷◌, [], ◌++◌, map, reverse, ap, append-nil, arith, length, refl, sym}
+use Rattle.std.proofs.Common.{zero-add}
 use Rattle.std.proofs.Common.{subst, None}
 use Rattle.std.proofs.lemmas.List.{map-append, reverse-append}
 use Rattle.std.proofs.lemmas.List.Sums.{sum_by_push}
@@ -10,9 +11,22 @@ use Rattle.sysv_service.specs.Ran.{Pass}
 use Rattle.sysv_engine.specs.declared.sums.Sums.{Sums}
 use Rattle.sysv_engine.specs.Added.{added, capped}
 use Rattle.sysv_engine.specs.Places.{Seated}
-use Rattle.sysv_engine.proofs.SumsOfSessions.{adding_one, all_counted, counting_one, emptied}
+use Rattle.sysv_engine.proofs.SumsOfSessions.{adding_none, adding_one, all_counted, counting_one, emptied}
 use Rattle.sysv_engine.proofs.Shifts.{but_last, reverse_last, the_last, unpopped}
 use Rattle.sysv_engine.proofs.team.dismiss.Goals as goal
+
+pub loop-place-init : goal.loop-place-init
+loop-place-init g c = record {
+  pass = c.requires.pass;
+  places = c.requires.places;
+  vacant = c.requires.vacant;
+  sums = adding_none _ c.open-sums.result c.open-sums.ensures;
+  refused = ap capped (zero-add _);
+  small = omega arith;
+  takes = λ home folds. folds;
+  books = refl;
+  room = c.requires.room;
+}
 
 pub into_parts-theirs-requires : goal.into_parts-theirs-requires
 into_parts-theirs-requires g c =

@@ -1,8 +1,9 @@
--- The places have had what they had at the entry.
-use Rattle.sysv_engine.specs.Places.{KeepsAll}
+-- The places and the lines are those of the entry.
+use Rattle.std.proofs.Common.{◌≡◌}
 use Rattle.sysv_engine.proofs.rounds.Serving.collect.Given as goal
 
 abbrev pub invariant-loop : goal.invariant-loop
-invariant-loop g l =
-    KeepsAll g.T.NonBlocking.incoming g.T.NonBlocking.outgoing g.T.NonBlocking.closes l.fn.worker.places.items
-    l.worker.places.items
+invariant-loop g l = record {
+  places : l.worker.places ≡ l.fn.worker.places;
+  lines : l.worker.lines ≡ l.fn.worker.lines;
+}

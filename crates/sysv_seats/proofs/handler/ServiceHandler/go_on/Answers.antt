@@ -18,6 +18,18 @@ pub returns-in-Receive-clause-begun : goal.returns-in-Receive-clause-begun
 returns-in-Receive-clause-begun g c = λ start cred parked.
     goes_on _ _ cred _ _ start _ _ _ _ _ parked (returns-in-Receive-clause-looks g c)
 
+pub returns-in-Get-clause-looks : goal.returns-in-Get-clause-looks
+returns-in-Get-clause-looks g c =
+    rw c.in-Get.is (rw c.requires.empty (c.get_on.ensures.looks c.args.text.now))
+
+pub returns-in-Get-clause-begun : goal.returns-in-Get-clause-begun
+returns-in-Get-clause-begun g c = λ start cred parked.
+    goes_on _ _ cred _ _ start _ _ _ _ _ parked (returns-in-Get-clause-looks g c)
+
+pub returns-in-Get-clause-answer : goal.returns-in-Get-clause-answer
+returns-in-Get-clause-answer g c =
+    go_answers _ _ _ _ _ _ _ _ _ c.requires.kind (returns-in-Get-clause-looks g c)
+
 pub returns-in-Receive-clause-answer : goal.returns-in-Receive-clause-answer
 returns-in-Receive-clause-answer g c =
     go_answers _ _ _ _ _ _ _ _ _ c.requires.kind (returns-in-Receive-clause-looks g c)

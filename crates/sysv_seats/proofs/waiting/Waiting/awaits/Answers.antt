@@ -17,3 +17,6 @@ returns-in-Send-Blocks-clause-count c = counts _ _ _ c.in-Send-Blocks.is (search
 
 pub returns-in-Receive-clause-count : goal.returns-in-Receive-clause-count
 returns-in-Receive-clause-count c = counts _ _ _ c.in-Receive.is (search rules)
+
+pub returns-in-Get-clause-count : goal.returns-in-Get-clause-count
+returns-in-Get-clause-count c = counts _ _ _ c.in-Get.is (search rules)

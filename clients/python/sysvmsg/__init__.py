@@ -1,0 +1,37 @@
+"""A client of sysvmsg servers: System V message queues over a Unix socket.
+
+    import sysvmsg
+
+    with sysvmsg.connect("./q") as server:
+        queue = server.get(7, create=True)
+        server.snd(queue, b"hello", type=5)
+        message = server.rcv(queue, wait=10)
+        print(message.type, message.body)
+
+A call that the server refuses raises a `QueueError`, each error its own subclass: `NoMessage` for ENOMSG. A call that
+waits can be given a limit in seconds. If it raises `TimedOut`, it did nothing: no message was taken, and none was sent.
+`pipeline` keeps several requests in flight. Threads may share a connection; a child of fork needs its own.
+
+`sysvmsg.aio` has the same calls for asyncio, and `sysvmsg.sysv_ipc` stands in for the queues of the module `sysv_ipc`.
+"""
+
+from ._connection import Connection, Pipeline, connect
+from ._errors import (
+    ERRORS, ConnectionLost, Denied, Error, Exists, ForkedConnection, InUse, Invalid, NoMessage, NoQueue, NoRoom, NoSlot,
+    NotMade, NotPermitted, Overflow, ProtocolError, QueueError, Removed, TimedOut, TooLong,
+)  # fmt: skip
+from ._session import Pending
+from ._wire import (
+    BODY_MAX, CREAT, EXCEPT, EXCL, GET, HELLO, NOERROR, NOWAIT, PRIVATE, RCV, RM, ROW, SET, SND, STAT, Message, Request,
+    Row, Stat, frame, read_reply,
+)  # fmt: skip
+
+__version__ = "0.3.0.dev0"
+
+__all__ = [
+    "BODY_MAX", "CREAT", "ERRORS", "EXCEPT", "EXCL", "GET", "HELLO", "NOERROR", "NOWAIT", "PRIVATE", "RCV", "RM", "ROW",
+    "SET", "SND", "STAT", "Connection", "ConnectionLost", "Denied", "Error", "Exists", "ForkedConnection", "InUse",
+    "Invalid", "Message", "NoMessage", "NoQueue", "NoRoom", "NoSlot", "NotMade", "NotPermitted", "Overflow", "Pending",
+    "Pipeline", "ProtocolError", "QueueError", "Removed", "Request", "Row", "Stat", "TimedOut", "TooLong", "connect",
+    "frame", "read_reply",
+]  # fmt: skip

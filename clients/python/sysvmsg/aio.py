@@ -1,0 +1,260 @@
+"""The client for asyncio, with the calls of `sysvmsg`.
+
+    import asyncio
+    import sysvmsg.aio
+
+    async def main():
+        async with sysvmsg.aio.connect("./q") as server:
+            queue = await server.get(7, create=True)
+            await server.snd(queue, b"hello", type=5)
+            print(await server.rcv(queue, wait=10))
+
+    asyncio.run(main())
+
+Tasks may share a connection. A task that finds its session in use makes its call over a session of its own. A call whose
+task is cancelled is given up: it did nothing, unless it took effect just then. Then its result is in `unclaimed`.
+"""
+
+from __future__ import annotations
+
+import asyncio
+import os
+import socket
+from types import TracebackType
+from typing import AsyncIterator, Coroutine, Generator, Optional, Type, TypeVar, cast
+
+from ._connection import Path, identity
+from ._errors import Invalid, Removed, TimedOut
+from ._session import Place, Session, Steps, deadline_in, time_left
+from ._wire import BODY_MAX, Message, Request, Row, Stat, get_request, rcv_request, set_request, wait_flag
+
+T = TypeVar("T")
+
+_RETRY = 0.01  # seconds between two connects if the server's queue of connections is full
+
+
+async def _until(session: Session, deadline: Optional[float]) -> bool:
+    """Waits until the session could send or read something. Returns whether that was before the deadline."""
+    loop = asyncio.get_running_loop()
+    woken: asyncio.Future[None] = loop.create_future()
+
+    def wake() -> None:
+        if not woken.done():
+            woken.set_result(None)
+
+    timer = None if deadline is None else loop.call_later(time_left(deadline), wake)
+    loop.add_reader(session.peer, wake)
+    if session.output:
+        loop.add_writer(session.peer, wake)
+    try:
+        await woken
+    finally:
+        loop.remove_reader(session.peer)
+        loop.remove_writer(session.peer)
+        if timer is not None:
+            timer.cancel()
+    return session.act(0) or deadline is None or time_left(deadline) > 0
+
+
+async def _run(session: Session, steps: Steps) -> None:
+    """Takes all steps, and waits in each."""
+    try:
+        deadline = next(steps)
+        while True:
+            deadline = steps.send(await _until(session, deadline))
+    except StopIteration:
+        pass
+
+
+async def _whole(steps: Coroutine[object, object, None]) -> None:
+    """Runs to the end, even if the task is cancelled again."""
+    task = asyncio.ensure_future(steps)
+    while not task.done():
+        try:
+            await asyncio.shield(task)
+        except asyncio.CancelledError:
+            pass
+    task.result()
+
+
+class Connection:
+    """A connection to a server. `connect` makes one."""
+
+    def __init__(self, path: Path, hello: Request[Optional[int]], version: int) -> None:
+        self.path = os.fspath(path)
+        self.version = version
+        #: The number of queues that the server can have, or None in version 1.
+        self.slots: Optional[int] = None
+        #: The result of a call that took effect although its task was cancelled.
+        self.unclaimed: Optional[object] = None
+        self._hello = hello
+        self._place = Place(self.path)
+        self._session: Optional[Session] = None
+        self._is_used = False
+
+    async def __aenter__(self) -> Connection:
+        return self
+
+    async def __aexit__(self, kind: Optional[Type[BaseException]], error: Optional[BaseException],
+                        trace: Optional[TracebackType]) -> None:
+        self.close()
+
+    def close(self) -> None:
+        """Ends the session. No task may be in a call."""
+        if self._session is not None:
+            self._session.close()
+
+    async def get(self, key: int, *, create: bool = False, exclusive: bool = False, mode: int = 0o600) -> int:
+        """`sysvmsg.Connection.get`."""
+        return await self._call(get_request(key, create, exclusive, mode), None)
+
+    async def snd(self, queue: int, body: bytes, type: int = 1, *, wait: Optional[float] = None) -> None:
+        """`sysvmsg.Connection.snd`."""
+        await self._call(Request.snd(queue, type, wait_flag(wait), body), wait)
+
+    async def rcv(self, queue: int, type: int = 0, *, size: int = BODY_MAX, wait: Optional[float] = None,
+                  truncate: bool = False, all_but: bool = False) -> Message:
+        """`sysvmsg.Connection.rcv`."""
+        return await self._call(rcv_request(queue, type, size, wait_flag(wait), truncate, all_but), wait)
+
+    async def messages(self, queue: int, type: int = 0, *, size: int = BODY_MAX, wait: Optional[float] = None,
+                       truncate: bool = False, all_but: bool = False) -> AsyncIterator[Message]:
+        """`sysvmsg.Connection.messages`."""
+        is_first = True
+        while True:
+            try:
+                message = await self.rcv(queue, type, size=size, wait=wait, truncate=truncate, all_but=all_but)
+            except (BlockingIOError, Removed, TimedOut):
+                return
+            except Invalid:
+                if is_first:
+                    raise
+                return
+            is_first = False
+            yield message
+
+    async def stat(self, queue: int) -> Stat:
+        """`sysvmsg.Connection.stat`."""
+        return await self._call(Request.stat(queue), None)
+
+    async def set(self, queue: int, *, uid: Optional[int] = None, gid: Optional[int] = None,
+                  mode: Optional[int] = None, qbytes: Optional[int] = None) -> None:
+        """`sysvmsg.Connection.set`."""
+        request = set_request(queue, uid, gid, mode, qbytes, None)
+        if request is None:
+            request = set_request(queue, uid, gid, mode, qbytes, await self.stat(queue))
+        await self._call(cast("Request[None]", request), None)
+
+    async def rm(self, queue: int) -> None:
+        """`sysvmsg.Connection.rm`."""
+        await self._call(Request.rm(queue), None)
+
+    async def row(self, slot: int) -> Optional[Row]:
+        """`sysvmsg.Connection.row`."""
+        return await self._call(Request.row(slot), None)
+
+    async def rows(self) -> AsyncIterator[Row]:
+        """`sysvmsg.Connection.rows`."""
+        slot = 0
+        while self.slots is None or slot < self.slots:
+            try:
+                row = await self.row(slot)
+            except Invalid:
+                return
+            if row is not None:
+                yield row
+            slot += 1
+
+    async def _begin(self, wait: Optional[float]) -> Connection:
+        self._session = await self._open(deadline_in(wait))
+        return self
+
+    async def _open(self, deadline: Optional[float]) -> Session:
+        peer = socket.socket(socket.AF_UNIX, socket.SOCK_STREAM)
+        try:
+            session = Session(peer, self.version, self._place)
+            await self._connect(peer, deadline)
+            hello = session.start(self._hello)
+            while not hello.done:
+                # (no call was made yet, so nothing can be lost)
+                if not await _until(session, deadline):
+                    raise self._late("the server did not serve this client in time")
+            self.slots = self._place.check_slots(hello._outcome(), self.version)
+        except BaseException:
+            peer.close()
+            raise
+        return session
+
+    async def _connect(self, peer: socket.socket, deadline: Optional[float]) -> None:
+        while True:
+            try:
+                peer.connect(self.path)
+                return
+            except BlockingIOError:
+                if deadline is not None and time_left(deadline) <= 0:
+                    raise self._late("the server accepted no connection in time") from None
+            except OSError as error:
+                error.filename = self.path
+                raise
+            await asyncio.sleep(_RETRY)
+
+    def _late(self, why: str) -> TimedOut:
+        return TimedOut(why).of("hello", self.path, None, None)
+
+    async def _call(self, request: Request[T], wait: Optional[float]) -> T:
+        """Makes a call over the session that is kept, or over one of its own if another task uses that."""
+        deadline = deadline_in(wait if wait is not None and wait > 0 else None)
+        self._place.check_process()
+        if self._is_used:
+            return await self._call_apart(request, deadline)
+        self._is_used = True
+        try:
+            if self._session is None or self._session.is_over and self._session.was_left:
+                self._session = await self._open(deadline)
+            return await self._make(self._session, request, deadline)
+        finally:
+            self._is_used = False
+
+    async def _call_apart(self, request: Request[T], deadline: Optional[float]) -> T:
+        session = await self._open(deadline)
+        try:
+            return await self._make(session, request, deadline)
+        finally:
+            session.close()
+
+    async def _make(self, session: Session, request: Request[T], deadline: Optional[float]) -> T:
+        pending = session.start(request)
+        try:
+            await _run(session, session.finish(pending, deadline))
+            return pending._outcome()
+        except BaseException as error:
+            # The task was cancelled: the call is given up, and its result is kept if it took effect.
+            if error is not pending._error:
+                await _whole(_run(session, session.leave()))
+                if pending.done and pending._error is None:
+                    self.unclaimed = pending._value
+            raise
+
+
+class Connecting:
+    """What `connect` returns: `await` it, or use it in `async with`."""
+
+    def __init__(self, connection: Connection, wait: Optional[float]) -> None:
+        self._connection = connection
+        self._wait = wait
+
+    def __await__(self) -> Generator[object, None, Connection]:
+        return self._connection._begin(self._wait).__await__()
+
+    async def __aenter__(self) -> Connection:
+        return await self
+
+    async def __aexit__(self, kind: Optional[Type[BaseException]], error: Optional[BaseException],
+                        trace: Optional[TracebackType]) -> None:
+        self._connection.close()
+
+
+def connect(path: Path, *, uid: Optional[int] = None, gid: Optional[int] = None, pid: Optional[int] = None,
+            version: int = 2, wait: Optional[float] = None) -> Connecting:
+    """`sysvmsg.connect`. Its result is awaited, or used in `async with`."""
+    return Connecting(Connection(path, identity(uid, gid, pid), version), wait)

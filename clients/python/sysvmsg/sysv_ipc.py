@@ -1,0 +1,185 @@
+"""Stands in for the message queues of the module `sysv_ipc`, on the server that the variable SYSVMSG_PATH names.
+
+    import sysvmsg.sysv_ipc as sysv_ipc
+
+    queue = sysv_ipc.MessageQueue(7, sysv_ipc.IPC_CREAT)
+    queue.send(b"hello", type=5)
+    body, type = queue.receive()
+
+It has no semaphores and no shared memory. The times of a queue are 0. Threads may share a queue, and a child of fork
+may use its parent's.
+"""
+
+from __future__ import annotations
+
+import os
+import random
+import warnings
+from contextlib import contextmanager
+from typing import Dict, Iterator, Optional, Tuple, Type, Union, cast
+
+from ._connection import Connection, connect
+from ._errors import Denied, Exists, Invalid, NoMessage, NoQueue, NoRoom, NotPermitted, Removed
+
+IPC_CREAT, IPC_EXCL = 0o1000, 0o2000
+IPC_CREX = IPC_CREAT | IPC_EXCL
+IPC_PRIVATE = 0
+KEY_MIN, KEY_MAX = -(2**31), 2**31 - 1
+QUEUE_MESSAGE_SIZE_MAX_DEFAULT = 2048
+
+
+class Error(Exception):
+    """The base of the errors of this module."""
+
+
+class InternalError(Error):
+    """SYSVMSG_PATH names no server."""
+
+
+class PermissionsError(Error):
+    """The queue's mode does not permit this."""
+
+
+class ExistentialError(Error):
+    """There is no such queue, or there is one already."""
+
+
+class BusyError(Error):
+    """The call would wait."""
+
+
+@contextmanager
+def _translated() -> Iterator[None]:
+    """Raises the errors of `sysv_ipc` in place of those of `sysvmsg`."""
+    try:
+        yield
+    except (NoQueue, Exists, Invalid, Removed) as error:
+        raise ExistentialError(str(error)) from error
+    except (Denied, NotPermitted) as error:
+        raise PermissionsError(str(error)) from error
+    except (NoRoom, NoMessage) as error:
+        raise BusyError(str(error)) from error
+    except ConnectionError:
+        # (the next call connects again)
+        _connections.clear()
+        raise
+
+
+_connections: Dict[Tuple[int, str], Connection] = {}
+
+
+def _server() -> Connection:
+    """The connection of this process."""
+    path = os.environ.get("SYSVMSG_PATH")
+    if not path:
+        raise InternalError("SYSVMSG_PATH is not set: it must name the socket of a server")
+    place = os.getpid(), path
+    if place not in _connections:
+        _connections[place] = connect(path)
+    return _connections[place]
+
+
+def ftok(path: str, id: int, silence_warning: bool = False) -> int:
+    """The key of ftok(3), which other files may share."""
+    if not silence_warning:
+        warnings.warn("ftok() may return the key of another file", Warning, stacklevel=2)
+    found = os.stat(path)
+    key = (id & 0xFF) << 24 | (found.st_dev & 0xFF) << 16 | found.st_ino & 0xFFFF
+    return key - 2**32 if key > KEY_MAX else key
+
+
+def remove_message_queue(id: int) -> None:
+    """Removes the queue of an identifier."""
+    with _translated():
+        _server().rm(id)
+
+
+class _Attribute:
+    """An attribute of a queue, as the server has it now."""
+
+    def __init__(self, name: str, is_writable: bool = False) -> None:
+        self._name = name
+        self._is_writable = is_writable
+
+    def __get__(self, queue: MessageQueue, kind: Optional[Type[MessageQueue]] = None) -> int:
+        with _translated():
+            return cast(int, getattr(_server().stat(queue.id), self._name))
+
+    def __set__(self, queue: MessageQueue, value: int) -> None:
+        if not self._is_writable:
+            raise AttributeError("the attribute cannot be set")
+        with _translated():
+            _server().set(queue.id, **{self._name: value})
+
+
+class MessageQueue:
+    """A queue. Without IPC_CREAT among the flags it must exist, and with IPC_CREX it must not."""
+
+    def __init__(self, key: Optional[int], flags: int = 0, mode: int = 0o600,
+                 max_message_size: int = QUEUE_MESSAGE_SIZE_MAX_DEFAULT) -> None:
+        if key is None and flags & IPC_CREX != IPC_CREX:
+            raise ValueError("the key can be None only with IPC_CREX")
+        if key is not None and not KEY_MIN <= key <= KEY_MAX:
+            raise ValueError("the key must be from %d to %d" % (KEY_MIN, KEY_MAX))
+        if max_message_size < 0:
+            raise ValueError("max_message_size must not be negative")
+        self._size = max_message_size
+        with _translated():
+            self._key, self._id = self._made(mode) if key is None else (key, self._found(key, flags, mode))
+
+    @staticmethod
+    def _found(key: int, flags: int, mode: int) -> int:
+        # (IPC_EXCL has a meaning only with IPC_CREAT)
+        is_created = bool(flags & IPC_CREAT)
+        return _server().get(key, create=is_created, exclusive=is_created and bool(flags & IPC_EXCL), mode=mode)
+
+    @classmethod
+    def _made(cls, mode: int) -> Tuple[int, int]:
+        """Makes the queue of a random key that has none."""
+        while True:
+            key = random.randint(1, KEY_MAX)
+            try:
+                return key, cls._found(key, IPC_CREX, mode)
+            except Exists:
+                pass
+
+    def send(self, message: Union[str, bytes], block: bool = True, type: int = 1) -> None:
+        """Sends a message. A string is sent as UTF-8."""
+        body = message.encode() if isinstance(message, str) else bytes(memoryview(message))
+        if type <= 0:
+            raise ValueError("the type must be > 0")
+        if len(body) > self._size:
+            raise ValueError("the message has more than %d bytes" % self._size)
+        with _translated():
+            _server().snd(self._id, body, type, wait=None if block else 0)
+
+    def receive(self, block: bool = True, type: int = 0) -> Tuple[bytes, int]:
+        """Receives a message, and returns its body and its type."""
+        with _translated():
+            message = _server().rcv(self._id, type, size=self._size, wait=None if block else 0)
+        return message.body, message.type
+
+    def remove(self) -> None:
+        """Removes the queue."""
+        remove_message_queue(self._id)
+
+    @property
+    def key(self) -> int:
+        return self._key
+
+    @property
+    def id(self) -> int:
+        return self._id
+
+    uid = _Attribute("uid", is_writable=True)
+    gid = _Attribute("gid", is_writable=True)
+    mode = _Attribute("mode", is_writable=True)
+    max_size = _Attribute("qbytes", is_writable=True)
+    cuid = _Attribute("cuid")
+    cgid = _Attribute("cgid")
+    current_messages = _Attribute("qnum")
+    last_send_pid = _Attribute("lspid")
+    last_receive_pid = _Attribute("lrpid")
+    last_send_time = _Attribute("stime")
+    last_receive_time = _Attribute("rtime")
+    last_change_time = _Attribute("ctime")

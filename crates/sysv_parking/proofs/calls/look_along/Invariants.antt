@@ -1,0 +1,19 @@
+-- The calls that were passed are none that request messages of this type, and those that are parked
+-- were parked before.
+use Rattle.std.proofs.Common.{◌≡◌, ℕ, ◌<◌, get_or, Some}
+use Rattle.sysv_parking.specs.declared.key.Key.{Key}
+use Rattle.sysv_parking.specs.Keys.{Names}
+use Rattle.sysv_parking.specs.Looks.{OnlyEnds}
+use Rattle.sysv_parking.specs.Parking.{key_at, line_at}
+use Rattle.sysv_parking.proofs.Walking.{without_before, has_index, without_none}
+use Rattle.sysv_parking.proofs.calls.look_along.Given as goal
+
+abbrev pub invariant-loop : goal.invariant-loop
+invariant-loop g l =
+    let now = g.C.Calls.parking l.calls in
+    record {
+      keeps : g.C.Calls.keeps l.fn.calls l.calls;
+      ends : OnlyEnds (g.C.Calls.parking l.fn.calls) now;
+      passed : (j : ℕ) → j < l.index → (key : Key) → key_at now (get_or (line_at now l.line) j 0) ≡ Some key →
+          Names l.slot l.mtype key → ⊥;
+    }

@@ -1,0 +1,55 @@
+-- The receives that request messages of a type are in four lines.
+use Rattle.std.proofs.Common.{◌≡◌, ◌∙◌, ℕ, ℤ, sym, ap, subst, refl, to_z, of_z, w64, Option, Some}
+use Rattle.std.proofs.lemmas.Int.{to_z-of_z}
+use Rattle.sysv_parking.specs.declared.found.Found.{Found}
+use Rattle.sysv_parking.specs.declared.found.Found.TheVariants as found
+use Rattle.sysv_parking.specs.declared.key.Key.{Key}
+use Rattle.sysv_parking.specs.Keys.{line_any, line_except, line_exact, line_of, line_up_to}
+use Rattle.sysv_parking.specs.Looks.{AnAskerFound, IsUnwanted, IsUnwantedIn}
+use Rattle.sysv_parking.specs.Parking.{Parking}
+use Rattle.sysv_parking.proofs.Walking.{unwanted_in_all}
+use Rattle.sysv_parking.proofs.calls.look_for_message.Goals as goal
+
+pub returns-in_default-look_along : goal.returns-in_default-look_along
+returns-in_default-look_along g c =
+    let e = to_z-of_z w64 c.args.mtype c.ranges.mtype in
+    let L = g.C.Calls.looked c.look_along-2.new.calls in
+    record {
+      taken = λ is. subst (λ (t : ℤ). AnAskerFound L c.args.slot t found.Message) e (c.look_along-2.ensures.taken is);
+      gone = λ is. subst (λ (t : ℤ). AnAskerFound L c.args.slot t found.Nothing) e (c.look_along-2.ensures.gone is);
+      unwanted = λ is. absurd (c.in_default-look_along.not-Unwanted is);
+      keeps = g.met.C.Calls.keeps_on _ _ _ c.look_along.ensures.keeps c.look_along-2.ensures.keeps;
+    }
+
+pub returns-in_default-look_along-2 : goal.returns-in_default-look_along-2
+returns-in_default-look_along-2 g c =
+    let e = to_z-of_z w64 c.args.mtype c.ranges.mtype in
+    let L = g.C.Calls.looked c.look_along-3.new.calls in
+    record {
+      taken = λ is. subst (λ (t : ℤ). AnAskerFound L c.args.slot t found.Message) e (c.look_along-3.ensures.taken is);
+      gone = λ is. subst (λ (t : ℤ). AnAskerFound L c.args.slot t found.Nothing) e (c.look_along-3.ensures.gone is);
+      unwanted = λ is. absurd (c.in_default-look_along-2.not-Unwanted is);
+      keeps = g.met.C.Calls.keeps_on _ _ _ c.look_along.ensures.keeps
+          (g.met.C.Calls.keeps_on _ _ _ c.look_along-2.ensures.keeps c.look_along-3.ensures.keeps);
+    }
+
+pub returns-clause-unwanted : goal.returns-clause-unwanted
+returns-clause-unwanted g c =
+    let m = to_z w64 (of_z w64 c.args.mtype) in
+    let one = g.C.Calls.parking c.look_along.new.calls in
+    let two = g.C.Calls.parking c.look_along-2.new.calls in
+    let three = g.C.Calls.parking c.look_along-3.new.calls in
+    let four = g.C.Calls.parking c.look_along-4.new.calls in
+    λ is. subst (λ (t : ℤ). IsUnwanted four c.args.slot t) (to_z-of_z w64 c.args.mtype c.ranges.mtype)
+    (unwanted_in_all c.args.slot m one two three four
+    (subst (λ (n : ℕ). IsUnwantedIn line_of n one c.args.slot m) c.exact_line.ensures
+    (c.look_along.ensures.unwanted c.in-Unwanted.is))
+    (subst (λ (n : ℕ). IsUnwantedIn line_of n two c.args.slot m) c.any_line.ensures
+    (c.look_along-2.ensures.unwanted c.in-Unwanted-look_along.is))
+    (c.look_along-2.ensures.ends c.in-Unwanted-look_along.is)
+    (subst (λ (n : ℕ). IsUnwantedIn line_of n three c.args.slot m) c.up_to_line.ensures
+    (c.look_along-3.ensures.unwanted c.in-Unwanted-look_along-2.is))
+    (c.look_along-3.ensures.ends c.in-Unwanted-look_along-2.is)
+    (subst (λ (n : ℕ). IsUnwantedIn line_of n four c.args.slot m) c.except_line.ensures
+    (c.look_along-4.ensures.unwanted is))
+    (c.look_along-4.ensures.ends is))

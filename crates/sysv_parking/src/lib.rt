@@ -1,0 +1,19 @@
+//! The parked calls of a worker, and which of them a change may end.
+//!
+//! A call that waits is parked: its worker keeps it in a line with the calls that wait for the same.
+//! What a call has changed makes others due: those whose wait it may end. A call that is due is
+//! looked at, or a look at another call has shown that it would wait again.
+#![tactic(auto)]
+
+mod barriers;
+mod calls;
+mod due;
+mod found;
+mod key;
+mod lines;
+
+pub use calls::{Calls, look_at_due, look_for_message};
+pub use due::Why;
+pub use found::{Found, LookedFor};
+pub use key::{BLOCKS_WORD, Caller, Key, SETTLED_WORD, WORDS, room_word};
+pub use lines::Lines;
