@@ -1,5 +1,6 @@
 -- The last place's pass is one of the service, its sums are added, and its book is put back.
-use Rattle.std.proofs.Common.{◌≡◌, ◌∙◌, ℕ, ◌+◌, ◌∷◌, [], ◌++◌, map, reverse, ap, append-nil, arith, length, refl, sym, zero-add}
+use Rattle.std.proofs.Common.{◌≡◌, ◌∙◌, ℕ, ◌+◌, ◌∷◌, [], ◌++◌, map, reverse, ap, append-nil, arith, length, refl, sym}
+use Rattle.std.proofs.Common.{zero-add}
 use Rattle.std.proofs.Common.{subst, None}
 use Rattle.std.proofs.lemmas.List.{map-append, reverse-append}
 use Rattle.std.proofs.lemmas.List.Sums.{sum_by_push}
