@@ -1,5 +1,5 @@
 -- A source that holds another one and returns what that one returns.
-use Rattle.std.proofs.Common.{◌≡◌, ◌∙◌, ℕ, List, [], ◌∷◌, Option, Some, ap, inl, inr, refl, sym, subst}
+use Rattle.std.proofs.Common.{ℕ, List, [], ◌∷◌, Option, Some, ap, inl, inr, sym, subst}
 use Rattle.std.specs.List.{FoldsTo}
 use Rattle.sysv_workers.specs.Running.{LeavesSource, RunsAll}
 use Rattle.sysv_workers.specs.Sources.{Gave, GivesAll, Returned}

@@ -9,7 +9,6 @@ use Rattle.sysv_keys.specs.declared.identifier.TheConstants.{SLOTS}
 use Rattle.sysv_queue.specs.Tally.{Tallied}
 use Rattle.sysv_seats.specs.Asked.{asks_with}
 use Rattle.sysv_seats.specs.Sits.{zero_moment}
-use Rattle.sysv_session.specs.declared.handler.RequestOutcome.TheVariants as outcomes
 use Rattle.sysv_session.specs.declared.served.End.{End}
 use Rattle.sysv_session.specs.declared.served.End.TheVariants.{Ended, NoMemory, NoHello, Fault, Write, Bound, Left}
 use Rattle.sysv_session.specs.declared.served.End.TheVariants.{Reset}

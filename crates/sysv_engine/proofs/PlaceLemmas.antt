@@ -3,7 +3,7 @@ use Rattle.std.proofs.Common.{◌≡◌, ◌∙◌, ℕ, ◌+◌, List, Option, 
 use Rattle.std.specs.List.{FoldsTo}
 use Rattle.sysv_session.specs.declared.served.Served.{Served}
 use Rattle.sysv_service.specs.Ran.{Pass}
-use Rattle.sysv_seats.specs.Breaking.{Breaks, MayEnd, MayTell}
+use Rattle.sysv_seats.specs.Breaking.{MayEnd, MayTell}
 use Rattle.sysv_seats.specs.Sits.{IsBehind, IsOver, KeepsWith, Sits, Sitting}
 use Rattle.sysv_seats.specs.Untold.{Closing}
 use Rattle.sysv_engine.specs.declared.sums.Sums.{Sums}

@@ -1,6 +1,6 @@
 -- What a server did whose source of connections read rows, from what it did with a source that holds
 -- that one.
-use Rattle.std.proofs.Common.{◌≡◌, ℕ, List, [], ◌∷◌, ◌++◌, reverse, Option, Some, None, ap, subst, sym}
+use Rattle.std.proofs.Common.{ℕ, List, [], ◌∷◌, reverse, Option, Some, None, ap, subst, sym}
 use Rattle.std.specs.Prelude.{Bool, true, false, Result, Ok, Err, IfOk, IfErr}
 use Rattle.std.specs.List.{FoldsTo}
 use Rattle.std.proofs.lemmas.List.{reverse-append}

@@ -64,7 +64,7 @@ impl<'a, 'c, R: Wait, T: NonBlocking + Drop, W: Watch<T>> Job<Worker<'a, R, T, W
     }
 }
 
-impl<'a, 'b, 'c, R: Wait, T: NonBlocking, W: Watch<T>> Calls<Serving<'b, 'c, R>>
+impl<'a, 'c, R: Wait, T: NonBlocking, W: Watch<T>> Calls<Serving<'a, 'c, R>>
     for Worker<'a, R, T, W> {
     ghost use Rattle.std.specs.Prelude.{⊤};
     ghost use Rattle.sysv_parking.specs.Lines.{Takes};
@@ -96,7 +96,7 @@ impl<'a, 'b, 'c, R: Wait, T: NonBlocking, W: Watch<T>> Calls<Serving<'b, 'c, R>>
         self.looks > 0
     }
 
-    fn look(&mut self, by: &Serving<'b, 'c, R>, place: usize, mtype: i64) -> Found
+    fn look(&mut self, by: &Serving<'a, 'c, R>, place: usize, mtype: i64) -> Found
         ensures look { ⊤ }
         ensures looked { ⊤ }
         ensures moves { MovesOnly place self.old.lines self.new.lines }
@@ -120,7 +120,7 @@ impl<'a, 'b, 'c, R: Wait, T: NonBlocking, W: Watch<T>> Calls<Serving<'b, 'c, R>>
 
 impl<'a, 'c, R: Wait> Serving<'a, 'c, R> {
     /// Serves the clients until a place is vacant, and returns it.
-    fn make_room<T: NonBlocking, W: Watch<T>>(&self, worker: &mut Worker<'_, R, T, W>) -> usize
+    fn make_room<T: NonBlocking, W: Watch<T>>(&self, worker: &mut Worker<'a, R, T, W>) -> usize
         ensures keeps { KeepsAll T.incoming T.outgoing T.closes worker.old.places.items
             worker.new.places.items }
         ensures vacant { IsVacantAt result worker.new.places.items }
@@ -135,7 +135,7 @@ impl<'a, 'c, R: Wait> Serving<'a, 'c, R> {
     }
 
     /// Serves the clients until the worker is to return.
-    fn serve<T: NonBlocking, W: Watch<T>>(&self, worker: &mut Worker<'_, R, T, W>)
+    fn serve<T: NonBlocking, W: Watch<T>>(&self, worker: &mut Worker<'a, R, T, W>)
         ensures { KeepsAll T.incoming T.outgoing T.closes worker.old.places.items
             worker.new.places.items }
     {
@@ -149,7 +149,7 @@ impl<'a, 'c, R: Wait> Serving<'a, 'c, R> {
 
     /// Returns whether the worker is to return: to take one more connection, or because there are
     /// no clients and no more connections come.
-    fn is_called<T: NonBlocking, W: Watch<T>>(&self, worker: &mut Worker<'_, R, T, W>) -> bool
+    fn is_called<T: NonBlocking, W: Watch<T>>(&self, worker: &mut Worker<'a, R, T, W>) -> bool
         ensures { KeepsAll T.incoming T.outgoing T.closes worker.old.places.items
             worker.new.places.items }
     {
@@ -161,7 +161,7 @@ impl<'a, 'c, R: Wait> Serving<'a, 'c, R> {
     }
 
     /// Waits for events, and serves each client that has some.
-    fn round<T: NonBlocking, W: Watch<T>>(&self, worker: &mut Worker<'_, R, T, W>)
+    fn round<T: NonBlocking, W: Watch<T>>(&self, worker: &mut Worker<'a, R, T, W>)
         ensures { KeepsAll T.incoming T.outgoing T.closes worker.old.places.items
             worker.new.places.items }
     {
@@ -181,7 +181,7 @@ impl<'a, 'c, R: Wait> Serving<'a, 'c, R> {
     }
 
     /// Waits until a client has an event, or something came for the worker.
-    fn rest<T: NonBlocking, W: Watch<T>>(&self, worker: &mut Worker<'_, R, T, W>)
+    fn rest<T: NonBlocking, W: Watch<T>>(&self, worker: &mut Worker<'a, R, T, W>)
         ensures { worker.new.places ≡ worker.old.places }
     {
         if !self.spin(worker) {
@@ -191,7 +191,7 @@ impl<'a, 'c, R: Wait> Serving<'a, 'c, R> {
 
     /// Has the clients learn what the watch reports of them, before parked calls are looked at: a
     /// client that has left gets no message.
-    fn note_ready<T: NonBlocking, W: Watch<T>>(&self, worker: &mut Worker<'_, R, T, W>)
+    fn note_ready<T: NonBlocking, W: Watch<T>>(&self, worker: &mut Worker<'a, R, T, W>)
         ensures { KeepsAll T.incoming T.outgoing T.closes worker.old.places.items
             worker.new.places.items }
     {
@@ -204,7 +204,7 @@ impl<'a, 'c, R: Wait> Serving<'a, 'c, R> {
     }
 
     /// Serves the clients of which the watch reports events.
-    fn serve_ready<T: NonBlocking, W: Watch<T>>(&self, worker: &mut Worker<'_, R, T, W>)
+    fn serve_ready<T: NonBlocking, W: Watch<T>>(&self, worker: &mut Worker<'a, R, T, W>)
         ensures { KeepsAll T.incoming T.outgoing T.closes worker.old.places.items
             worker.new.places.items }
     {
@@ -218,7 +218,7 @@ impl<'a, 'c, R: Wait> Serving<'a, 'c, R> {
 
     /// Looks for events for some microseconds, if there are few clients and such looks were of use
     /// lately. Returns whether a client has an event, or something came for the worker.
-    fn spin<T: NonBlocking, W: Watch<T>>(&self, worker: &mut Worker<'_, R, T, W>) -> bool
+    fn spin<T: NonBlocking, W: Watch<T>>(&self, worker: &mut Worker<'a, R, T, W>) -> bool
         ensures { worker.new.places ≡ worker.old.places }
     {
         let is_idle = !worker.is_empty() && !worker.has_more();
@@ -237,7 +237,7 @@ impl<'a, 'c, R: Wait> Serving<'a, 'c, R> {
 
     /// Sleeps until a client has an event, or something came for the worker. It does not sleep if
     /// there is more to do.
-    fn sleep<T: NonBlocking, W: Watch<T>>(&self, worker: &mut Worker<'_, R, T, W>)
+    fn sleep<T: NonBlocking, W: Watch<T>>(&self, worker: &mut Worker<'a, R, T, W>)
         ensures { worker.new.places ≡ worker.old.places }
     {
         let may_sleep = self.server.fall_asleep(worker.number);
@@ -250,7 +250,7 @@ impl<'a, 'c, R: Wait> Serving<'a, 'c, R> {
     }
 
     /// Serves a client of which the watch reports an event.
-    fn report<T: NonBlocking, W: Watch<T>>(&self, worker: &mut Worker<'_, R, T, W>, ready: &Ready)
+    fn report<T: NonBlocking, W: Watch<T>>(&self, worker: &mut Worker<'a, R, T, W>, ready: &Ready)
         ensures { KeepsAll T.incoming T.outgoing T.closes worker.old.places.items
             worker.new.places.items }
     {
@@ -259,7 +259,7 @@ impl<'a, 'c, R: Wait> Serving<'a, 'c, R> {
     }
 
     /// Gives each client in the line of those that have more to do one turn.
-    fn take_turns<T: NonBlocking, W: Watch<T>>(&self, worker: &mut Worker<'_, R, T, W>)
+    fn take_turns<T: NonBlocking, W: Watch<T>>(&self, worker: &mut Worker<'a, R, T, W>)
         ensures { KeepsAll T.incoming T.outgoing T.closes worker.old.places.items
             worker.new.places.items }
     {
@@ -272,7 +272,7 @@ impl<'a, 'c, R: Wait> Serving<'a, 'c, R> {
     }
 
     /// Has a client take up and answer a share of what has arrived.
-    fn turn<T: NonBlocking, W: Watch<T>>(&self, worker: &mut Worker<'_, R, T, W>, place: usize)
+    fn turn<T: NonBlocking, W: Watch<T>>(&self, worker: &mut Worker<'a, R, T, W>, place: usize)
         ensures { KeepsAll T.incoming T.outgoing T.closes worker.old.places.items
             worker.new.places.items }
     {
@@ -288,7 +288,7 @@ impl<'a, 'c, R: Wait> Serving<'a, 'c, R> {
     }
 
     /// Continues a client's parked call, if it may go on.
-    fn go_on<T: NonBlocking, W: Watch<T>>(&self, worker: &mut Worker<'_, R, T, W>, place: usize)
+    fn go_on<T: NonBlocking, W: Watch<T>>(&self, worker: &mut Worker<'a, R, T, W>, place: usize)
         ensures keeps { KeepsAll T.incoming T.outgoing T.closes worker.old.places.items
             worker.new.places.items }
         ensures lines { worker.new.lines ≡ worker.old.lines }
@@ -302,7 +302,7 @@ impl<'a, 'c, R: Wait> Serving<'a, 'c, R> {
     /// that they have released.
     fn count_blocks<T: NonBlocking, W: Watch<T>>(
         &self,
-        worker: &Worker<'_, R, T, W>,
+        worker: &Worker<'a, R, T, W>,
         place: usize,
         before: u64,
     ) {
@@ -311,7 +311,7 @@ impl<'a, 'c, R: Wait> Serving<'a, 'c, R> {
     }
 
     /// Puts a client where it belongs after an event.
-    fn settle<T: NonBlocking, W: Watch<T>>(&self, worker: &mut Worker<'_, R, T, W>, place: usize)
+    fn settle<T: NonBlocking, W: Watch<T>>(&self, worker: &mut Worker<'a, R, T, W>, place: usize)
         ensures keeps { KeepsAll T.incoming T.outgoing T.closes worker.old.places.items
             worker.new.places.items }
         ensures moves { MovesOnly place worker.old.lines worker.new.lines }
@@ -329,7 +329,7 @@ impl<'a, 'c, R: Wait> Serving<'a, 'c, R> {
     /// Puts a client into the line of what its parked call waits for, and out of any other line. A
     /// call that enters a line is looked at once more, since what it waits for may have come before
     /// that was known.
-    fn line_up<T: NonBlocking, W: Watch<T>>(&self, worker: &mut Worker<'_, R, T, W>, place: usize)
+    fn line_up<T: NonBlocking, W: Watch<T>>(&self, worker: &mut Worker<'a, R, T, W>, place: usize)
         ensures keeps { KeepsAll T.incoming T.outgoing T.closes worker.old.places.items
             worker.new.places.items }
         ensures moves { MovesOnly place worker.old.lines worker.new.lines }
@@ -351,7 +351,7 @@ impl<'a, 'c, R: Wait> Serving<'a, 'c, R> {
     /// something else. If memory for the line is refused, the call is due.
     fn enter_line<T: NonBlocking, W: Watch<T>>(
         &self,
-        worker: &mut Worker<'_, R, T, W>,
+        worker: &mut Worker<'a, R, T, W>,
         place: usize,
     ) -> bool
         ensures keeps { KeepsAll T.incoming T.outgoing T.closes worker.old.places.items
@@ -378,7 +378,7 @@ impl<'a, 'c, R: Wait> Serving<'a, 'c, R> {
     /// Takes a place out of its line, if it is in one.
     fn leave_line<T: NonBlocking, W: Watch<T>>(
         &self,
-        worker: &mut Worker<'_, R, T, W>,
+        worker: &mut Worker<'a, R, T, W>,
         place: usize,
     )
         ensures keeps { KeepsAll T.incoming T.outgoing T.closes worker.old.places.items
@@ -393,13 +393,13 @@ impl<'a, 'c, R: Wait> Serving<'a, 'c, R> {
     }
 
     /// Has the number of the worker's calls that are parked under this word be known.
-    fn count_parked<T: NonBlocking, W: Watch<T>>(&self, worker: &Worker<'_, R, T, W>, word: usize) {
+    fn count_parked<T: NonBlocking, W: Watch<T>>(&self, worker: &Worker<'a, R, T, W>, word: usize) {
         let count = worker.lines.count(word);
         self.server.set_parked(worker.number, word, count);
     }
 
     /// Closes a client whose session is over.
-    fn close<T: NonBlocking, W: Watch<T>>(&self, worker: &mut Worker<'_, R, T, W>, place: usize)
+    fn close<T: NonBlocking, W: Watch<T>>(&self, worker: &mut Worker<'a, R, T, W>, place: usize)
         ensures keeps { KeepsAll T.incoming T.outgoing T.closes worker.old.places.items
             worker.new.places.items }
         ensures moves { MovesOnly place worker.old.lines worker.new.lines }
@@ -418,7 +418,7 @@ impl<'a, 'c, R: Wait> Serving<'a, 'c, R> {
     }
 
     /// Reads what came for the worker from other workers, as far as its share of looks goes.
-    fn read_envelopes<T: NonBlocking, W: Watch<T>>(&self, worker: &mut Worker<'_, R, T, W>)
+    fn read_envelopes<T: NonBlocking, W: Watch<T>>(&self, worker: &mut Worker<'a, R, T, W>)
         ensures { KeepsAll T.incoming T.outgoing T.closes worker.old.places.items
             worker.new.places.items }
     {
@@ -438,7 +438,7 @@ impl<'a, 'c, R: Wait> Serving<'a, 'c, R> {
 
     /// Heeds what has changed, here and in other workers, as far as the worker's share of looks
     /// goes. What is left is heeded in the next round.
-    fn spread<T: NonBlocking, W: Watch<T>>(&self, worker: &mut Worker<'_, R, T, W>)
+    fn spread<T: NonBlocking, W: Watch<T>>(&self, worker: &mut Worker<'a, R, T, W>)
         ensures { KeepsAll T.incoming T.outgoing T.closes worker.old.places.items
             worker.new.places.items }
     {
@@ -459,7 +459,7 @@ impl<'a, 'c, R: Wait> Serving<'a, 'c, R> {
     }
 
     /// Makes the parked calls due that changes may end.
-    fn heed_changes<T: NonBlocking, W: Watch<T>>(&self, worker: &mut Worker<'_, R, T, W>)
+    fn heed_changes<T: NonBlocking, W: Watch<T>>(&self, worker: &mut Worker<'a, R, T, W>)
         ensures { worker.new.places ≡ worker.old.places }
     {
         for _ in self.rt.forever() {
@@ -473,7 +473,7 @@ impl<'a, 'c, R: Wait> Serving<'a, 'c, R> {
     /// Makes the parked calls due that a change may end.
     fn heed_change<T: NonBlocking, W: Watch<T>>(
         &self,
-        worker: &mut Worker<'_, R, T, W>,
+        worker: &mut Worker<'a, R, T, W>,
         change: Change,
     )
         ensures places { worker.new.places ≡ worker.old.places }
@@ -501,7 +501,7 @@ impl<'a, 'c, R: Wait> Serving<'a, 'c, R> {
     /// in turn, in another worker first.
     fn send_off<T: NonBlocking, W: Watch<T>>(
         &self,
-        worker: &mut Worker<'_, R, T, W>,
+        worker: &mut Worker<'a, R, T, W>,
         envelope: Envelope,
     )
         ensures { KeepsAll T.incoming T.outgoing T.closes worker.old.places.items
@@ -529,7 +529,7 @@ impl<'a, 'c, R: Wait> Serving<'a, 'c, R> {
 
     /// Keeps what calls have changed since the last time, if calls that wait for it are parked, and
     /// counts the messages that moved.
-    fn collect<T: NonBlocking, W: Watch<T>>(&self, worker: &mut Worker<'_, R, T, W>)
+    fn collect<T: NonBlocking, W: Watch<T>>(&self, worker: &mut Worker<'a, R, T, W>)
         ensures places { worker.new.places ≡ worker.old.places }
         ensures lines { worker.new.lines ≡ worker.old.lines }
     {
@@ -553,7 +553,7 @@ impl<'a, 'c, R: Wait> Serving<'a, 'c, R> {
     /// parked, or else a change.
     fn keep<T: NonBlocking, W: Watch<T>>(
         &self,
-        worker: &mut Worker<'_, R, T, W>,
+        worker: &mut Worker<'a, R, T, W>,
         notification: Notification,
         changes: &mut Changes,
     )
@@ -572,7 +572,7 @@ impl<'a, 'c, R: Wait> Serving<'a, 'c, R> {
     /// Keeps a message that has arrived, if receives are parked at its queue.
     fn keep_arrived<T: NonBlocking, W: Watch<T>>(
         &self,
-        worker: &mut Worker<'_, R, T, W>,
+        worker: &mut Worker<'a, R, T, W>,
         slot: usize,
         mtype: i64,
     )
@@ -592,7 +592,7 @@ impl<'a, 'c, R: Wait> Serving<'a, 'c, R> {
     /// Tells of all these changes.
     fn tell_all<T: NonBlocking, W: Watch<T>>(
         &self,
-        worker: &mut Worker<'_, R, T, W>,
+        worker: &mut Worker<'a, R, T, W>,
         changes: &mut Changes,
     )
         ensures places { worker.new.places ≡ worker.old.places }
@@ -610,7 +610,7 @@ impl<'a, 'c, R: Wait> Serving<'a, 'c, R> {
     /// others: else its own clients might have all that becomes free.
     fn tell_each<T: NonBlocking, W: Watch<T>>(
         &self,
-        worker: &mut Worker<'_, R, T, W>,
+        worker: &mut Worker<'a, R, T, W>,
         workers: u64,
         change: Change,
     )
@@ -653,7 +653,7 @@ impl<'a, 'c, R: Wait> Serving<'a, 'c, R> {
     /// on unless one took it. If the worker's share of looks is used up, it comes back.
     fn heed<T: NonBlocking, W: Watch<T>>(
         &self,
-        worker: &mut Worker<'_, R, T, W>,
+        worker: &mut Worker<'a, R, T, W>,
         mut envelope: Envelope,
     )
         ensures { KeepsAll T.incoming T.outgoing T.closes worker.old.places.items
@@ -678,7 +678,7 @@ impl<'a, 'c, R: Wait> Serving<'a, 'c, R> {
     /// Keeps an envelope for the next round.
     fn put_off<T: NonBlocking, W: Watch<T>>(
         &self,
-        worker: &mut Worker<'_, R, T, W>,
+        worker: &mut Worker<'a, R, T, W>,
         envelope: Envelope,
     )
         ensures { worker.new.places ≡ worker.old.places }
@@ -703,7 +703,7 @@ impl<'a, 'c, R: Wait> Serving<'a, 'c, R> {
     }
 
     /// Says that no calls are parked under this word, if that is so.
-    fn unmark<T: NonBlocking, W: Watch<T>>(&self, worker: &Worker<'_, R, T, W>, word: usize) {
+    fn unmark<T: NonBlocking, W: Watch<T>>(&self, worker: &Worker<'a, R, T, W>, word: usize) {
         if worker.lines.count(word) == 0 {
             self.server.unmark(word, worker.number);
         }
@@ -713,7 +713,7 @@ impl<'a, 'c, R: Wait> Serving<'a, 'c, R> {
     /// at because a message of this type has arrived.
     fn wake<T: NonBlocking, W: Watch<T>>(
         &self,
-        worker: &mut Worker<'_, R, T, W>,
+        worker: &mut Worker<'a, R, T, W>,
         place: usize,
         mtype: i64,
     ) -> Found
@@ -739,7 +739,7 @@ impl<'a, 'c, R: Wait> Serving<'a, 'c, R> {
 
     /// Closes each client whose time is over, if it may be over for some, and reads again from those
     /// that may have more bytes.
-    fn look_at_times<T: NonBlocking, W: Watch<T>>(&self, worker: &mut Worker<'_, R, T, W>)
+    fn look_at_times<T: NonBlocking, W: Watch<T>>(&self, worker: &mut Worker<'a, R, T, W>)
         ensures { KeepsAll T.incoming T.outgoing T.closes worker.old.places.items
             worker.new.places.items }
     {
@@ -761,7 +761,7 @@ impl<'a, 'c, R: Wait> Serving<'a, 'c, R> {
     /// whose time is over, unless something has come for it that was not read yet.
     fn look_at_time<T: NonBlocking, W: Watch<T>>(
         &self,
-        worker: &mut Worker<'_, R, T, W>,
+        worker: &mut Worker<'a, R, T, W>,
         place: usize,
     )
         ensures { KeepsAll T.incoming T.outgoing T.closes worker.old.places.items
@@ -783,7 +783,7 @@ impl<'a, 'c, R: Wait> Serving<'a, 'c, R> {
     }
 
     /// Closes all clients.
-    fn cut_all<T: NonBlocking, W: Watch<T>>(&self, worker: &mut Worker<'_, R, T, W>)
+    fn cut_all<T: NonBlocking, W: Watch<T>>(&self, worker: &mut Worker<'a, R, T, W>)
         ensures { KeepsAll T.incoming T.outgoing T.closes worker.old.places.items
             worker.new.places.items }
     {

@@ -454,16 +454,16 @@ fn make_and_get<R: Threads + Abort + Wait + Sync>(
     service: &Service,
     pass: &mut Pass,
     handler: &mut ServiceHandler<'_, Zero, R>,
+    stage: &Stage,
 )
     requires { AreOf service.now pass.old.seats }
     ensures pass { AreOf service.now pass.new.seats }
     ensures service { handler.new.service ≡ handler.old.service }
 {
-    let stage = Stage::new();
     join_mut(
         rt,
         &mut || stage.make(rt, service, pass),
-        &mut || get_settled(rt, alloc, handler, &stage),
+        &mut || get_settled(rt, alloc, handler, stage),
     );
 }
 
@@ -473,7 +473,8 @@ fn a_parked_get_goes_on_or_is_left(rt: HostRuntime) {
     let (service, mut pass) = opened(&rt, alloc, 128, 0);
     let other = split(&rt, alloc, &service, &mut pass);
     let mut handler = ServiceHandler::new(&rt, &service, &ZERO, other);
-    make_and_get(&rt, alloc, &service, &mut pass, &mut handler);
+    let stage = Stage::new();
+    make_and_get(&rt, alloc, &service, &mut pass, &mut handler, &stage);
     service.join_pass(&mut pass, handler.into_pass());
     ended(&rt, service, pass, 0);
 }

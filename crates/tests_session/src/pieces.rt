@@ -397,16 +397,16 @@ fn make_and_get<R: Threads + Abort + Wait + Sync>(
     service: &Service,
     pass: &mut Pass,
     handler: &mut ServiceHandler<'_, Still, R>,
+    stage: &Stage,
 )
     requires { AreOf service.now pass.old.seats }
     ensures pass { AreOf service.now pass.new.seats }
     ensures service { handler.new.service ≡ handler.old.service }
 {
-    let stage = Stage::new();
     join_mut(
         rt,
         &mut || stage.make(rt, service, pass),
-        &mut || get_settled(rt, alloc, handler, &stage),
+        &mut || get_settled(rt, alloc, handler, stage),
     );
 }
 
@@ -416,7 +416,8 @@ fn a_parked_get_goes_on_after_the_queue_was_settled(rt: HostRuntime) {
     let alloc = rt.alloc();
     let (service, mut pass, other) = two_passes(&rt, alloc);
     let mut handler = ServiceHandler::new(&rt, &service, &CLOCK, other);
-    make_and_get(&rt, alloc, &service, &mut pass, &mut handler);
+    let stage = Stage::new();
+    make_and_get(&rt, alloc, &service, &mut pass, &mut handler, &stage);
     let other = handler.into_pass();
     close(&rt, service, pass, other, 0);
 }

@@ -2,7 +2,7 @@
 use mir.Syntax.{named as lifetime}
 use denote.Param.Send.{arg_send, param_send, param_sync}
 use Rattle.std.proofs.Common.{◌≡◌, ◌≤◌, ◌∙◌, ℕ, List, ◌++◌, map, reverse, length, ap, arith, inl, inr}
-use Rattle.std.proofs.Common.{subst, sym, vec_len}
+use Rattle.std.proofs.Common.{subst, vec_len}
 use Rattle.std.specs.Prelude.{false}
 use Rattle.sysv_workers.specs.declared.workers.TheConstants.{MAX_WORKERS}
 use Rattle.sysv_engine.specs.declared.dealing.Dealing.{Dealing}

@@ -1,11 +1,11 @@
 -- The places served the connections of the source that reads rows. Its pass comes back after theirs.
-use Rattle.std.proofs.Common.{◌≡◌, ◌∙◌, ℕ, Option, ap, arith, subst, sym}
+use Rattle.std.proofs.Common.{◌≡◌, ◌∙◌, ap, arith, subst, sym}
 use Rattle.std.specs.Prelude.{Bool, IfErr, IfOk}
 use Rattle.sysv_service.specs.Ran.{Pass}
 use Rattle.sysv_service.specs.Seats.{AreOf, Gates}
 use Rattle.sysv_engine.specs.declared.rows.Rows.{Rows}
 use Rattle.sysv_engine.specs.declared.seeing.Seeing.{Seeing}
-use Rattle.sysv_engine.specs.Looking.{LookedBy, SplitsOff, TakesBack}
+use Rattle.sysv_engine.specs.Looking.{SplitsOff, TakesBack}
 use Rattle.sysv_engine.specs.Serving.{HiredFrom, LeavesConnections, WorkedFrom}
 use Rattle.sysv_engine.proofs.Looking.{Stays, goes_on, stays}
 use Rattle.sysv_engine.proofs.ReadsRows.{all_left_behind, ran_behind, ran_kept}

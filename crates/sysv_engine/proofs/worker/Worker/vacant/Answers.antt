@@ -1,5 +1,5 @@
 -- The place is there, and has no client.
-use Rattle.std.proofs.Common.{◌≡◌, ◌∙◌, List, ap, not, ltb-true, subst, sym}
+use Rattle.std.proofs.Common.{◌∙◌, List, ap, not, ltb-true, subst, sym}
 use Rattle.sysv_engine.specs.Places.{IsVacantAt, Seated}
 use Rattle.sysv_engine.proofs.PlaceLists.{none_of, vacant_there}
 use Rattle.sysv_engine.proofs.worker.Worker.vacant.Goals as goal
