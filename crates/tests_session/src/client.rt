@@ -451,19 +451,19 @@ fn get_settled<R: Abort + Wait>(
 fn make_and_get<R: Threads + Abort + Wait + Sync>(
     rt: &R,
     alloc: Global,
-    service: &Service,
-    pass: &mut Pass,
-    handler: &mut ServiceHandler<'_, Zero, R>,
+    maker: &mut ServiceHandler<'_, Stage, R>,
+    getter: &mut ServiceHandler<'_, Zero, R>,
     stage: &Stage,
 )
-    requires { AreOf service.now pass.old.seats }
-    ensures pass { AreOf service.now pass.new.seats }
-    ensures service { handler.new.service ≡ handler.old.service }
+    ensures maker { maker.new.service ≡ maker.old.service }
+    ensures getter { getter.new.service ≡ getter.old.service }
 {
+    // (each closure borrows a variable of its own)
+    let other = alloc;
     join_mut(
         rt,
-        &mut || stage.make(rt, service, pass),
-        &mut || get_settled(rt, alloc, handler, stage),
+        &mut || stage.make(rt, other, maker),
+        &mut || get_settled(rt, alloc, getter, stage),
     );
 }
 
@@ -472,10 +472,12 @@ fn a_parked_get_goes_on_or_is_left(rt: HostRuntime) {
     let alloc = rt.alloc();
     let (service, mut pass) = opened(&rt, alloc, 128, 0);
     let other = split(&rt, alloc, &service, &mut pass);
-    let mut handler = ServiceHandler::new(&rt, &service, &ZERO, other);
     let stage = Stage::new();
-    make_and_get(&rt, alloc, &service, &mut pass, &mut handler, &stage);
-    service.join_pass(&mut pass, handler.into_pass());
+    let mut maker = ServiceHandler::new(&rt, &service, &stage, pass);
+    let mut getter = ServiceHandler::new(&rt, &service, &ZERO, other);
+    make_and_get(&rt, alloc, &mut maker, &mut getter, &stage);
+    let mut pass = maker.into_pass();
+    service.join_pass(&mut pass, getter.into_pass());
     ended(&rt, service, pass, 0);
 }
 

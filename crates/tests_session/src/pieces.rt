@@ -18,7 +18,7 @@ use std::thread::{Threads, join_mut};
 use sysv_model::{Body, Errno, Flags, MESSAGE_BYTES, Selector, SetTo};
 use sysv_queue::Tally;
 use sysv_seats::{Awaited, ServiceHandler, Waiting, snd_text};
-use sysv_service::{Pass, Progress, Service};
+use sysv_service::{Clock, Pass, Progress, Service};
 use sysv_session::RequestOutcome;
 use sysv_wire::{Ask, Op, Reply, ReplyContent, Request, Version};
 use tests_kit::{USER, creating, open_body};
@@ -137,10 +137,10 @@ fn assert_got(
 }
 
 /// Begins a request without a body, and asserts that it is over with this reply.
-fn make<R: Abort + Wait>(
+fn make<C: Clock, R: Abort + Wait>(
     rt: &R,
     alloc: Global,
-    handler: &mut ServiceHandler<'_, Still, R>,
+    handler: &mut ServiceHandler<'_, C, R>,
     ask: Ask,
     content: ReplyContent,
 )
@@ -192,10 +192,10 @@ fn take<R: Abort + Wait>(
 }
 
 /// Makes the queue of a key, which has this identifier.
-fn make_queue<R: Abort + Wait>(
+pub(crate) fn make_queue<C: Clock, R: Abort + Wait>(
     rt: &R,
     alloc: Global,
-    handler: &mut ServiceHandler<'_, Still, R>,
+    handler: &mut ServiceHandler<'_, C, R>,
     key: i32,
     id: i32,
 )
@@ -394,19 +394,19 @@ fn get_settled<R: Abort + Wait>(
 fn make_and_get<R: Threads + Abort + Wait + Sync>(
     rt: &R,
     alloc: Global,
-    service: &Service,
-    pass: &mut Pass,
-    handler: &mut ServiceHandler<'_, Still, R>,
+    maker: &mut ServiceHandler<'_, Stage, R>,
+    getter: &mut ServiceHandler<'_, Still, R>,
     stage: &Stage,
 )
-    requires { AreOf service.now pass.old.seats }
-    ensures pass { AreOf service.now pass.new.seats }
-    ensures service { handler.new.service ≡ handler.old.service }
+    ensures maker { maker.new.service ≡ maker.old.service }
+    ensures getter { getter.new.service ≡ getter.old.service }
 {
+    // (each closure borrows a variable of its own)
+    let other = alloc;
     join_mut(
         rt,
-        &mut || stage.make(rt, service, pass),
-        &mut || get_settled(rt, alloc, handler, stage),
+        &mut || stage.make(rt, other, maker),
+        &mut || get_settled(rt, alloc, getter, stage),
     );
 }
 
@@ -414,11 +414,12 @@ fn make_and_get<R: Threads + Abort + Wait + Sync>(
 #[test]
 fn a_parked_get_goes_on_after_the_queue_was_settled(rt: HostRuntime) {
     let alloc = rt.alloc();
-    let (service, mut pass, other) = two_passes(&rt, alloc);
-    let mut handler = ServiceHandler::new(&rt, &service, &CLOCK, other);
+    let (service, pass, other) = two_passes(&rt, alloc);
     let stage = Stage::new();
-    make_and_get(&rt, alloc, &service, &mut pass, &mut handler, &stage);
-    let other = handler.into_pass();
+    let mut maker = ServiceHandler::new(&rt, &service, &stage, pass);
+    let mut getter = ServiceHandler::new(&rt, &service, &CLOCK, other);
+    make_and_get(&rt, alloc, &mut maker, &mut getter, &stage);
+    let (pass, other) = (maker.into_pass(), getter.into_pass());
     close(&rt, service, pass, other, 0);
 }
 

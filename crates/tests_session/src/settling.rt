@@ -1,14 +1,15 @@
 //! A queue that is being made: its key has an identifier, which is not settled yet.
-ghost use Rattle.sysv_service.specs.Seats.{AreOf};
+ghost use Rattle.std.specs.Prelude.{◌≡◌};
 
-use crate::parts::assert_is;
+use crate::pieces::make_queue;
+use std::alloc::Global;
 use std::process::Abort;
 use std::sync::Wait;
 use std::sync::atomic::AtomicBool;
 use std::sync::atomic::Ordering::SeqCst;
 use std::thread;
-use sysv_service::{Clock, Pass, Service};
-use tests_kit::{USER, creating};
+use sysv_seats::ServiceHandler;
+use sysv_service::Clock;
 
 /// The key of the queue.
 pub(crate) const KEY: i32 = 4;
@@ -16,7 +17,7 @@ pub(crate) const KEY: i32 = 4;
 /// The maximum number of looks for which the call that makes the queue is held.
 const LOOKS: u32 = 10_000_000;
 
-/// How far the call is that makes the queue.
+/// How far the call is that makes the queue, and its clock.
 #[derive(Drop)]
 pub(crate) struct Stage {
     /// Whether the call has the identifier of its queue.
@@ -48,12 +49,15 @@ impl Stage {
     }
 
     /// Makes the queue with identifier 0 on a new service.
-    pub(crate) fn make<R: Abort + Wait>(&self, rt: &R, service: &Service, pass: &mut Pass)
-        requires { AreOf service.now pass.old.seats }
-        ensures { AreOf service.now pass.new.seats }
+    pub(crate) fn make<R: Abort + Wait>(
+        &self,
+        rt: &R,
+        alloc: Global,
+        maker: &mut ServiceHandler<'_, Stage, R>,
+    )
+        ensures { maker.new.service ≡ maker.old.service }
     {
-        let made = service.msgget(rt, pass, &Holding(self), USER, KEY, creating());
-        assert_is(rt, made, Ok(0));
+        make_queue(rt, alloc, maker, KEY, 0);
         self.over.store(true, SeqCst);
     }
 }
@@ -68,18 +72,15 @@ fn await_flag(rt: &impl Wait, flag: &AtomicBool) {
     }
 }
 
-/// A clock that holds the call that makes the queue. A get reads the clock for the times of its
-/// queue, after it has made the identifier, and before it settles it.
-#[derive(Drop)]
-struct Holding<'a>(&'a Stage);
-
-impl Clock for Holding<'_> {
+/// The clock of the call that makes the queue, which it holds. A get reads the clock for the times of
+/// its queue, after it has made the identifier, and before it settles it.
+impl Clock for Stage {
     ghost may = { λ _ _. Unit {0} };
 
     fn now(&self) -> u64 {
-        self.0.begun.store(true, SeqCst);
+        self.begun.store(true, SeqCst);
         for _ in 0..LOOKS {
-            if self.0.released.load(SeqCst) {
+            if self.released.load(SeqCst) {
                 break;
             }
             thread::yield_now();
