@@ -116,13 +116,13 @@ fn run(
     if dialogue.requests.len() > 0 {
         return exit;
     }
-    dialogue.screen.bytes.clear();
     run_once(rt, dialogue, input, &command, how)
 }
 
-/// Runs a client with this command at the place of a server, and returns how it ends.
+/// Runs a client with this command at the place of a server, with an empty screen. Returns how it
+/// ends.
 fn run_once(
-    rt: &(impl Print + Eprint + AllocGlobal),
+    rt: &(impl Print + Eprint + AllocGlobal + Abort),
     dialogue: &mut Dialogue,
     input: &mut Tape,
     command: &Command<'_>,
@@ -131,8 +131,10 @@ fn run_once(
     requires { HasShortText command.now.task }
 {
     let place = make_desk(&mut dialogue.replies, &mut dialogue.requests, how, true);
-    let mut screen = Screen::new(&mut dialogue.screen);
-    run_as(rt, input, place, "./q", command, how, &mut screen)
+    let mut screen = Screen::new(Tape::new(rt, rt.alloc()));
+    let exit = run_as(rt, input, place, "./q", command, how, &mut screen);
+    dialogue.screen = screen.writer;
+    exit
 }
 
 #[test]
@@ -183,15 +185,8 @@ fn a_client_without_a_server_fails(rt: HostRuntime) {
         cred: WHO,
         task: LIST,
     };
-    let exit = run_as(
-        &rt,
-        &mut input,
-        place,
-        "./q",
-        &command,
-        &PLAIN,
-        &mut Screen::new(&mut dialogue.screen),
-    );
+    let mut screen = Screen::new(Tape::new(&rt, rt.alloc()));
+    let exit = run_as(&rt, &mut input, place, "./q", &command, &PLAIN, &mut screen);
     assert_is(&rt, exit, ExitCode::from(FAULT));
 }
 
@@ -199,7 +194,7 @@ fn a_client_without_a_server_fails(rt: HostRuntime) {
 const STATE: &[u8] = b"sysvmsg_sessions_open 3\n";
 
 /// Shows the state of a server as a JSON object, and returns how that ends.
-fn look(rt: &(impl Print + Eprint + AllocGlobal), dialogue: &mut Dialogue) -> ExitCode {
+fn look(rt: &(impl Print + Eprint + AllocGlobal + Abort), dialogue: &mut Dialogue) -> ExitCode {
     let looking = Looking {
         path: "./q.stats",
         json: true,
@@ -207,8 +202,10 @@ fn look(rt: &(impl Print + Eprint + AllocGlobal), dialogue: &mut Dialogue) -> Ex
         telling: Telling::Line,
     };
     let place = make_desk(&mut dialogue.replies, &mut dialogue.requests, &PLAIN, true);
-    let mut screen = Screen::new(&mut dialogue.screen);
-    look_at(rt, place, &looking, &mut screen)
+    let mut screen = Screen::new(Tape::new(rt, rt.alloc()));
+    let exit = look_at(rt, place, &looking, &mut screen);
+    dialogue.screen = screen.writer;
+    exit
 }
 
 #[test]
