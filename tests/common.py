@@ -80,7 +80,8 @@ def places(workers=4, descriptors=None):
 
 def serving(path, count, blocks=1024):
     """The first line of a server at a path that serves so many sessions at once, with so many blocks."""
-    return "sysvmsg: serving %s, up to %d session%s at once, %d blocks\n" % (path, count, "s" * (count != 1), blocks)
+    many = "s" * (count != 1)
+    return "sysvmsg: serving %s, up to %d session%s at once, %d messages of 64 bytes\n" % (path, count, many, blocks)
 
 
 def hello(uid, gid, pid, version=2):

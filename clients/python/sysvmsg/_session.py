@@ -7,6 +7,7 @@ import select
 import socket
 import threading
 import time
+import weakref
 from collections import deque
 from contextlib import contextmanager
 from typing import Callable, Deque, Dict, Generator, Generic, Iterator, Optional, Type, TypeVar, cast
@@ -23,6 +24,24 @@ _KEYS = 4096  # how many keys of queues are kept for errors
 
 # A computation that waits for the socket. It yields the deadline of each wait, and is told whether the wait ended before.
 Steps = Generator[Optional[float], bool, None]
+
+
+# The sessions of this process.
+_SESSIONS: weakref.WeakSet[Session] = weakref.WeakSet()
+
+
+def _leave_to_parent() -> None:
+    """In a child of fork, replaces its copies of its parent's sockets by a file that can always be read. Without that a
+    call from which a signal handler forks would wait in the child for a reply that its parent takes."""
+    sockets = [session.peer.fileno() for session in _SESSIONS if session.peer.fileno() >= 0]
+    if sockets:
+        nothing = os.open(os.devnull, os.O_RDWR | os.O_CLOEXEC)
+        for descriptor in sockets:
+            os.dup2(nothing, descriptor, inheritable=False)
+        os.close(nothing)
+
+
+os.register_at_fork(after_in_child=_leave_to_parent)
 
 
 def deadline_in(wait: Optional[float]) -> Optional[float]:
@@ -129,6 +148,7 @@ class Session:
         self.pending: Deque[Pending[object]] = deque()
         self.is_over = False
         self.was_left = False
+        _SESSIONS.add(self)
 
     def start(self, request: Request[T]) -> Pending[T]:
         self.place.check_process()

@@ -22,6 +22,7 @@ use std::io;
 use std::io::{Read, Write};
 use sysv_model::{Body, Cred, Errno, Instrumented, NoMemory, WriteFault};
 use sysv_wire::Ask;
+use thiserror::Error;
 
 /// A `snd` of several messages, with the credentials for it.
 #[derive(Clone, Copy, PartialEq, Eq, Debug)]
@@ -54,20 +55,25 @@ pub struct Cut {
 }
 
 /// Why a session of sends ends early.
-#[derive(Drop)]
+#[derive(Debug, Drop, Error)]
 pub enum Unsent {
     /// A request before the first send ends it, or memory was refused.
+    #[error("{0}")]
     Fault(ClientFault),
     /// A send ends it.
+    #[error("{}", .0.fault)]
     Cut(Cut),
     /// A line is longer than the body of a message may be.
+    #[error("a line is too long after {before} lines")]
     Long {
         /// The number of lines before it. All of them were accepted.
         before: u64,
     },
     /// 2^64 - 1 lines were sent, each with its LF, and no more are.
+    #[error("too many lines")]
     Many,
     /// The input could not be read.
+    #[error("cannot read: {0}")]
     Input(io::Error),
 }
 

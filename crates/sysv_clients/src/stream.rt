@@ -21,6 +21,7 @@ use std::alloc::Global;
 use std::io::{Read, Write};
 use sysv_model::{Body, Cred, Errno, Instrumented, NoMemory, WriteFault};
 use sysv_wire::{Ask, ReplyContent};
+use thiserror::Error;
 
 /// The maximum number of messages that one session receives.
 pub const MAX_MESSAGES: u64 = 1 << 62;
@@ -63,11 +64,13 @@ impl Receiving {
 }
 
 /// Why a session of several messages ends early.
-#[derive(Clone, Copy, PartialEq, Eq, Debug)]
+#[derive(Clone, Copy, PartialEq, Eq, Debug, Error)]
 pub enum Stop {
     /// A request ends it, or memory was refused.
+    #[error("{0}")]
     Fault(ClientFault),
     /// The screen failed.
+    #[error("cannot write")]
     Screen,
 }
 

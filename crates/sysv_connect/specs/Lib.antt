@@ -5,3 +5,5 @@ pub mod Stats
 pub mod Ends
 pub mod Links
 pub mod Clients
+pub mod Telling
+pub mod Patience

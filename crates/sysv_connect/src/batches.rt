@@ -9,17 +9,20 @@ ghost use Rattle.sysv_connect.specs.Ends.{SucceedsIf, SucceedsOnlyIf};
 ghost use Rattle.sysv_connect.specs.Links.{left_by, taken_by};
 ghost use Rattle.sysv_connect.specs.Several.{is_of_options, is_of_stream, receiving_of, way_by};
 
-use crate::connection::{failed, no_memory};
+use crate::connection::{detail_of, failed, no_memory};
 use crate::ending::FAULT;
 use crate::how::How;
 use crate::link::{Link, Unlinked, linked};
+use crate::patience::Patience;
 use crate::place::{Leave, Place};
-use crate::teller::Teller;
+use crate::screen::Screen;
+use crate::sentence::Detail;
+use crate::teller::{Teller, Unshown};
 use std::io::{Eprint, Read, Write};
 use std::process::ExitCode;
 use sysv_clients::{
-    ClientFault, Cut, Form, Receipt, Receiving, Refusal, Sending, Stop, Target, Task, Unsent,
-    receive_all, remove_all, send_lines,
+    ClientFault, Cut, Form, MAX_AHEAD, Receipt, Receiving, Refusal, Sending, Stop, Target, Task,
+    Unsent, receive_all, remove_all, send_lines,
 };
 use sysv_model::{Cred, Errno};
 
@@ -105,25 +108,26 @@ fn receiving(cred: Cred, receipt: Receipt, how: &How) -> Receiving
     }
 }
 
-/// Connects to the server at `place` and receives messages there, each of which is waited for no
-/// longer than this number of milliseconds, if there is one. A receive that is left then fails with
-/// ENOMSG. Faults are reported on standard error.
+/// Connects to the server at `place` and receives messages there, each of which is waited for as
+/// long as `patience` says. A receive that is left then fails with ENOMSG. Faults are reported on
+/// standard error. If the screen fails, the numbers of messages that were taken and shown are
+/// reported there too.
 pub(crate) fn receive_at<P: Place, S: Write>(
     rt: &(impl Eprint + AllocGlobal),
     place: P,
     teller: &Teller<'_>,
     receiving: &Receiving,
-    wait: Option<u64>,
-    screen: &mut S,
+    patience: Patience,
+    screen: &mut Screen<S>,
 ) -> ExitCode
     ensures { SucceedsOnlyIf (HasReceived receiving.now (Ok tt) (P.incoming place)
-        (P.outgoing place) (S.contents screen.old) (S.contents screen.new)) result }
+        (P.outgoing place) (S.contents screen.old.writer) (S.contents screen.new.writer)) result }
 {
-    match linked(rt.alloc(), place, wait, true) {
+    match linked(rt.alloc(), place, patience) {
         Ok(mut link) => receive_on(rt, &mut link, teller, receiving, screen),
-        Err(Unlinked::NoServer(why)) => teller.no_server_of_stream(rt, &why),
+        Err(Unlinked::NoServer(why)) => teller.no_server_said(rt, &why),
         Err(Unlinked::NoMemory) => {
-            teller.fault_of_stream(rt, NO_MEMORY.line());
+            teller.fault_of_stream(rt, NO_MEMORY.line(), Detail::Plain);
             failed(false)
         }
     }
@@ -135,11 +139,12 @@ fn receive_on<R: Leave, W: Write + Drop, S: Write>(
     link: &mut Link<R, W>,
     teller: &Teller<'_>,
     receiving: &Receiving,
-    screen: &mut S,
+    screen: &mut Screen<S>,
 ) -> ExitCode
     ensures { (ended : Result ⊤ AStop) × HasReceived receiving.now ended
-        (left_by R.remaining link.old) (taken_by W.contents link.old) (S.contents screen.old)
-        (S.contents screen.new) × SucceedsIf (ended ≡ Ok tt) result }
+        (left_by R.remaining link.old) (taken_by W.contents link.old)
+        (S.contents screen.old.writer) (S.contents screen.new.writer)
+        × SucceedsIf (ended ≡ Ok tt) result }
 {
     let Err(stop) = receive_all(
         rt.alloc(),
@@ -150,32 +155,48 @@ fn receive_on<R: Leave, W: Write + Drop, S: Write>(
     ) else {
         return ExitCode::SUCCESS;
     };
-    let is_late = matches!(stop, Stop::Fault(ClientFault::NoReply))
-        && (link.has_ended() || link.is_over());
-    let line = if is_late {
-        NO_MESSAGE.line()
-    } else {
-        stop.line()
+    let fault = match stop {
+        Stop::Fault(fault) => fault,
+        Stop::Screen => {
+            let unshown = unshown_of(receiving, screen.flushes);
+            return teller.no_output(rt, screen.failure, Some(unshown));
+        }
     };
-    teller.fault_of_stream(rt, line);
+    let is_late = fault == ClientFault::NoReply && (link.has_ended() || link.is_over());
+    let fault = if is_late { NO_MESSAGE } else { fault };
+    teller.fault_of_stream(rt, fault.line(), detail_of(fault, is_late, link));
     failed(is_late)
 }
 
-/// Connects to the server at `place` and sends each line of `input` there. Each send waits no
-/// longer than this number of milliseconds, if there is one. A send that is left then fails with
-/// EAGAIN. If the input cannot be read, the reason is reported on standard error.
+/// Returns which messages were not shown by a screen that failed after this number of messages.
+fn unshown_of(receiving: &Receiving, shown: u64) -> Unshown {
+    let ahead = if receiving.receipt.nowait {
+        0
+    } else {
+        receiving.ahead.clamp(1, MAX_AHEAD) - 1
+    };
+    let owed = receiving.count.saturating_sub(shown).saturating_sub(1);
+    Unshown {
+        shown,
+        ahead: owed.min(u64::from(ahead)),
+    }
+}
+
+/// Connects to the server at `place` and sends each line of `input` there. Each send waits as long
+/// as `patience` says. A send that is left then fails with EAGAIN. If the input cannot be read, the
+/// reason is reported on standard error.
 pub(crate) fn send_at<I: Read, P: Place>(
     rt: &(impl Print + Eprint + AllocGlobal),
     input: &mut I,
     place: P,
     teller: &Teller<'_>,
     sending: &Sending,
-    wait: Option<u64>,
+    patience: Patience,
 ) -> ExitCode
     ensures { SucceedsOnlyIf (HasSent sending.now (Ok tt) (P.incoming place)
         (P.outgoing place) (I.remaining input.old)) result }
 {
-    match linked(rt.alloc(), place, wait, true) {
+    match linked(rt.alloc(), place, patience) {
         Ok(mut link) => send_on(rt, input, &mut link, teller, sending),
         Err(Unlinked::NoServer(why)) => teller.no_server(rt, &why),
         Err(Unlinked::NoMemory) => no_memory(rt, teller),
@@ -210,8 +231,22 @@ fn send_on<I: Read, R: Leave, W: Write + Drop>(
         Unsent::Long { before } => explain_line(rt, *before, Errno::EINVAL, 0),
         _ => {}
     }
-    teller.fault(rt, unsent.line());
+    teller.fault(rt, unsent.line(), detail_of_unsent(&unsent, is_late, link));
     failed(is_late)
+}
+
+/// Returns what is known of the end of a session of sends beyond its name.
+fn detail_of_unsent<R: Leave, W: Write + Drop>(
+    unsent: &Unsent,
+    is_late: bool,
+    link: &Link<R, W>,
+) -> Detail {
+    match unsent {
+        Unsent::Fault(fault) => detail_of(*fault, is_late, link),
+        Unsent::Cut(cut) => detail_of(cut.fault, is_late, link),
+        Unsent::Long { .. } => Detail::LongLine,
+        Unsent::Many | Unsent::Input(_) => Detail::Plain,
+    }
 }
 
 /// Reports on standard error which lines were sent: the first that was refused and why, and how
@@ -264,18 +299,18 @@ fn is_late<R: Leave, W: Write + Drop>(cut: &Cut, link: &Link<R, W>) -> bool {
 
 /// Connects to the server at `place` and removes all queues there that the caller may remove. Each
 /// other queue is named on standard error, and the status is that of a fault then. Each reply is
-/// waited for no longer than this number of milliseconds, if there is one.
+/// waited for as long as `patience` says.
 pub(crate) fn remove_at<P: Place>(
     rt: &(impl Print + Eprint + AllocGlobal),
     place: P,
     teller: &Teller<'_>,
     cred: Cred,
-    wait: Option<u64>,
+    patience: Patience,
 ) -> ExitCode
     ensures { SucceedsOnlyIf (HasCleared cred (Ok tt) (P.incoming place)
         (P.outgoing place) [] []) result }
 {
-    match linked(rt.alloc(), place, wait, false) {
+    match linked(rt.alloc(), place, patience) {
         Ok(mut link) => remove_on(rt, &mut link, teller, cred),
         Err(Unlinked::NoServer(why)) => teller.no_server(rt, &why),
         Err(Unlinked::NoMemory) => no_memory(rt, teller),
@@ -307,7 +342,7 @@ fn remove_on<R: Leave, W: Write + Drop>(
     match outcome {
         Ok(()) if refusals.is_empty() => return ExitCode::SUCCESS,
         Ok(()) => {}
-        Err(fault) => teller.fault(rt, fault.line()),
+        Err(fault) => teller.fault(rt, fault.line(), detail_of(fault, false, link)),
     }
     ExitCode::from(FAULT)
 }

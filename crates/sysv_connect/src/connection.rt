@@ -13,8 +13,12 @@ use crate::ending::{FAULT, TIMED_OUT};
 use crate::how::How;
 use crate::input::{Unread, read_body};
 use crate::link::{Link, Unlinked, linked};
+use crate::patience::Patience;
 use crate::place::{Leave, Place};
-use crate::teller::Teller;
+use crate::room::look;
+use crate::screen::Screen;
+use crate::sentence::Detail;
+use crate::teller::{Teller, Unshown};
 use std::alloc::Global;
 use std::io::{Eprint, Read, Write};
 use std::process::ExitCode;
@@ -22,11 +26,14 @@ use std::str;
 use sysv_clients::{ClientFault, Command, Task, run_client};
 use sysv_model::{BODY_ROOM, Errno};
 
-/// The status of a client whose call was left.
-const LATE: i32 = 3;
-
 /// No memory for what a command needs.
 const NO_MEMORY: ClientFault = ClientFault::NoMemory;
+
+/// A message for which there is no room.
+const NO_ROOM: ClientFault = ClientFault::Refused(Errno::EAGAIN);
+
+/// A request without a reply.
+const NO_REPLY: ClientFault = ClientFault::NoReply;
 
 /// More bytes than a client shows of one message.
 const PAGE_ROOM: usize = 8_300;
@@ -43,23 +50,24 @@ pub fn run_as<I: Read, P: Place, S: Write>(
     path: &str,
     command: &Command<'_>,
     how: &How,
-    screen: &mut S,
+    screen: &mut Screen<S>,
 ) -> ExitCode
     requires { HasShortText command.now.task }
     ensures { SucceedsOnlyIf (IsDone (way_by command.now.cred command.now.task how.now)
         command.now.cred command.now.task how.now
         (P.incoming place) (P.outgoing place) (I.remaining input.old)
-        (S.contents screen.old) (S.contents screen.new)) result }
+        (S.contents screen.old.writer) (S.contents screen.new.writer)) result }
 {
     let teller = Teller {
         path,
-        task: Some(&command.task),
-        is_aside: how.stderr,
+        command: Some(command),
+        telling: how.telling,
     };
+    let patience = Patience::of(&command.task, how.wait);
     match way_of(command.cred, &command.task, how) {
-        Way::Stream(receiving) => receive_at(rt, place, &teller, &receiving, how.wait, screen),
-        Way::Lines(sending) => send_at(rt, input, place, &teller, &sending, how.wait),
-        Way::Clear => remove_at(rt, place, &teller, command.cred, how.wait),
+        Way::Stream(receiving) => receive_at(rt, place, &teller, &receiving, patience, screen),
+        Way::Lines(sending) => send_at(rt, input, place, &teller, &sending, patience),
+        Way::Clear => remove_at(rt, place, &teller, command.cred, patience),
         Way::Once => run_one(rt, input, place, &teller, command, how, screen),
     }
 }
@@ -76,12 +84,12 @@ fn run_one<I: Read, P: Place, S: Write>(
     teller: &Teller<'_>,
     command: &Command<'_>,
     how: &How,
-    screen: &mut S,
+    screen: &mut Screen<S>,
 ) -> ExitCode
     requires { HasShortText command.now.task }
     ensures { SucceedsOnlyIf (IsRun command.now.cred command.now.task how.now
         (P.incoming place) (P.outgoing place) (I.remaining input.old)
-        (S.contents screen.old) (S.contents screen.new)) result }
+        (S.contents screen.old.writer) (S.contents screen.new.writer)) result }
 {
     if how.from_input {
         run_with_input(rt, input, place, teller, command, how.wait, screen)
@@ -100,11 +108,11 @@ fn run_with_input<I: Read, P: Place, S: Write>(
     teller: &Teller<'_>,
     command: &Command<'_>,
     wait: Option<u64>,
-    screen: &mut S,
+    screen: &mut Screen<S>,
 ) -> ExitCode
     ensures { SucceedsOnlyIf (HasRunFrom command.now.cred command.now.task
         (P.incoming place) (P.outgoing place) (I.remaining input.old)
-        (S.contents screen.old) (S.contents screen.new)) result }
+        (S.contents screen.old.writer) (S.contents screen.new.writer)) result }
 {
     match read_body(rt.alloc(), input) {
         Ok(body) => run_at(rt, place, teller, &with_body(command, &body), wait, screen),
@@ -148,9 +156,9 @@ fn with_body<'a>(command: &Command<'_>, body: &'a [u8]) -> Command<'a>
     }
 }
 
-/// Connects to the server at `path` and runs a command there. Each reply is waited for no longer
-/// than this number of milliseconds, if there is one. If no connection can be made, the reason is
-/// reported on standard error.
+/// Connects to the server at `place` and runs a command there. Each reply is waited for no longer
+/// than this number of milliseconds; without it, than the task's `Patience` says. If no connection
+/// can be made, the reason is reported on standard error.
 ///
 /// # Conditions
 ///
@@ -161,31 +169,27 @@ fn run_at<P: Place, S: Write>(
     teller: &Teller<'_>,
     command: &Command<'_>,
     wait: Option<u64>,
-    screen: &mut S,
+    screen: &mut Screen<S>,
 ) -> ExitCode
     requires { HasShortText command.now.task }
     ensures { SucceedsOnlyIf (HasRun command.now (pos 0) (P.incoming place) (P.outgoing place)
-        (S.contents screen.old) (S.contents screen.new)) result }
+        (S.contents screen.old.writer) (S.contents screen.new.writer)) result }
 {
-    let may_leave = wait.is_some() && can_wait(&command.task);
-    match linked(rt.alloc(), place, wait, may_leave) {
-        Ok(mut link) if may_leave || teller.is_aside => {
-            run_within(rt, &mut link, command, teller, screen)
-        }
-        Ok(mut link) => ended(run_on(rt.alloc(), &mut link, command, screen)),
+    let teller = Teller {
+        path: teller.path,
+        command: Some(command),
+        telling: teller.telling,
+    };
+    match linked(rt.alloc(), place, Patience::of(&command.task, wait)) {
+        Ok(mut link) => run_within(rt, &mut link, command, &teller, screen),
         Err(Unlinked::NoServer(why)) => teller.no_server(rt, &why),
-        Err(Unlinked::NoMemory) => no_memory(rt, teller),
+        Err(Unlinked::NoMemory) => no_memory(rt, &teller),
     }
 }
 
-/// Returns whether a task has a call that waits: for a message, or for room.
-fn can_wait(task: &Task<'_>) -> bool {
-    matches!(task, Task::Send { .. } | Task::Receive(_))
-}
-
-/// Runs a command over a connection like `run_at`, but tells its fault as the teller does. If the
-/// server ends the session without a reply after a call was left, the call had no effect: the line
-/// of ENOMSG or, for a `snd`, of EAGAIN is shown, and the status is that of a time-out.
+/// Runs a command over a connection like `run_at`, and shows its result at the end. If the server
+/// ends the session without a reply after a call was left, the call had no effect: the fault is
+/// ENOMSG or, for a `snd`, EAGAIN, and the status is that of a time-out.
 ///
 /// # Conditions
 ///
@@ -195,62 +199,120 @@ fn run_within<R: Leave, W: Write + Drop, S: Write>(
     link: &mut Link<R, W>,
     command: &Command<'_>,
     teller: &Teller<'_>,
-    screen: &mut S,
+    screen: &mut Screen<S>,
 ) -> ExitCode
     requires { HasShortText command.now.task }
     ensures { SucceedsOnlyIf (HasRun command.now (pos 0) (left_by R.remaining link.old)
-        (taken_by W.contents link.old) (S.contents screen.old) (S.contents screen.new)) result }
+        (taken_by W.contents link.old) (S.contents screen.old.writer)
+        (S.contents screen.new.writer)) result }
 {
     let Ok(mut page) = Vec::with_capacity(rt.alloc(), PAGE_ROOM) else {
         return no_memory(rt, teller);
     };
     let status = run_on(rt.alloc(), link, command, &mut page);
-    let has_left = link.has_left();
-    let text = text_within(command, status, page.as_slice(), has_left);
-    if status != 0 && teller.is_aside {
-        teller.fault(rt, str::from_utf8(text).unwrap_or(NO_MEMORY.line()));
-        return failed(has_left);
-    }
-    show(screen, text, status_within(status, has_left))
+    show(rt, link, command, teller, page.as_slice(), status, screen)
 }
 
-/// Returns the status of a command that ended with this status: that of a time-out if it had an
-/// error and the call was left.
-fn status_within(status: i32, has_left: bool) -> i32
-    ensures { result ≡ pos 0 → status ≡ pos 0 }
+/// Tells the fault of a command that showed this page. If the page is not the line of a fault,
+/// there was no memory for it.
+fn tell_fault<R: Leave, W: Write + Drop, S: Write>(
+    rt: &(impl Eprint + AllocGlobal),
+    link: &mut Link<R, W>,
+    command: &Command<'_>,
+    teller: &Teller<'_>,
+    page: &[u8],
+    screen: &mut Screen<S>,
+) -> ExitCode
+    ensures { Succeeds result → ⊥ }
 {
-    if status != 0 && has_left {
-        LATE
+    let is_late = link.has_left();
+    let line = if is_late {
+        late(&command.task).line()
     } else {
-        status
-    }
-}
-
-/// Returns what is shown of a command that ended with this status: the page, or the line of an
-/// error if the call was left.
-fn text_within<'a>(command: &Command<'_>, status: i32, page: &'a [u8], has_left: bool) -> &'a [u8]
-    ensures { status ≡ pos 0 → result.now ≡ page.now }
-{
-    if status == 0 || !has_left {
-        return page;
-    }
-    let error = match command.task {
-        Task::Send { .. } => Errno::EAGAIN,
-        _ => Errno::ENOMSG,
+        fault_in(page)
     };
-    ClientFault::Refused(error).line().as_bytes()
+    let detail = if is_late {
+        Detail::Late
+    } else if line == NO_REPLY.line() {
+        Detail::Silent(link.silence())
+    } else if line == NO_ROOM.line() && teller.telling.has_sentence() {
+        look_at_queue(rt.alloc(), link, &command.task)
+    } else {
+        Detail::Plain
+    };
+    let is_told = teller.fault_on(rt, screen, line, detail);
+    failed(is_late && is_told)
 }
 
-/// Writes `text` to the screen and flushes it. Returns the status of a client as that of the
-/// program, or that of a fault if the screen fails.
-fn show<S: Write>(screen: &mut S, text: &[u8], status: i32) -> ExitCode
-    ensures { SucceedsOnlyIf ((status ≡ pos 0) × Appends (S.contents screen.old)
-        (S.contents screen.new) text.now) result }
-{
-    if screen.write_all(text).is_err() || screen.flush().is_err() {
-        return ExitCode::from(FAULT);
+/// Returns what keeps the message of a task from its queue, if that can be found out.
+fn look_at_queue<R: Leave, W: Write + Drop>(
+    alloc: Global,
+    link: &mut Link<R, W>,
+    task: &Task<'_>,
+) -> Detail {
+    match *task {
+        Task::Send { key, text, .. } => match look(alloc, link, key, text.len()) {
+            Some(room) => Detail::Full(room),
+            None => Detail::Plain,
+        },
+        _ => Detail::Plain,
     }
-    ended(status)
+}
+
+/// Returns the line of a fault that a page is, or that of memory that was refused.
+fn fault_in(page: &[u8]) -> &str {
+    match str::from_utf8(page) {
+        Ok(line) if line.starts_with("sysvmsg: ") => line,
+        _ => NO_MEMORY.line(),
+    }
+}
+
+/// Returns the fault of a task whose call was left.
+fn late(task: &Task<'_>) -> ClientFault {
+    match task {
+        Task::Send { .. } => NO_ROOM,
+        _ => ClientFault::Refused(Errno::ENOMSG),
+    }
+}
+
+/// Returns what is known of a fault beyond its name. `is_late` is whether the time was over.
+pub(crate) fn detail_of<R: Leave, W: Write + Drop>(
+    fault: ClientFault,
+    is_late: bool,
+    link: &Link<R, W>,
+) -> Detail {
+    match fault {
+        _ if is_late => Detail::Late,
+        ClientFault::NoReply => Detail::Silent(link.silence()),
+        ClientFault::Refused(_) | ClientFault::NoMemory => Detail::Plain,
+    }
+}
+
+/// Writes the page of a command that ended with this status to the screen and flushes it, or tells
+/// the command's fault. If the screen fails, that is reported on standard error.
+fn show<R: Leave, W: Write + Drop, S: Write>(
+    rt: &(impl Eprint + AllocGlobal),
+    link: &mut Link<R, W>,
+    command: &Command<'_>,
+    teller: &Teller<'_>,
+    page: &[u8],
+    status: i32,
+    screen: &mut Screen<S>,
+) -> ExitCode
+    ensures { SucceedsOnlyIf ((status ≡ pos 0) × Appends (S.contents screen.old.writer)
+        (S.contents screen.new.writer) page.now) result }
+{
+    if status != 0 {
+        return tell_fault(rt, link, command, teller, page, screen);
+    }
+    if screen.write_all(page).is_ok() && screen.flush().is_ok() {
+        return ExitCode::SUCCESS;
+    }
+    let unshown = match command.task {
+        Task::Receive(_) => Some(Unshown { shown: 0, ahead: 0 }),
+        _ => None,
+    };
+    teller.no_output(rt, screen.failure, unshown)
 }
 
 /// Runs a command over a connection. Returns the status of the client.
@@ -271,17 +333,6 @@ fn run_on<R: Leave, W: Write + Drop, S: Write>(
     run_client(alloc, command, &mut link.reader, &mut link.writer, screen)
 }
 
-/// Returns the status of a client as that of the program.
-fn ended(status: i32) -> ExitCode
-    ensures { SucceedsIf (status ≡ pos 0) result }
-{
-    match status {
-        0 => ExitCode::SUCCESS,
-        LATE => ExitCode::from(TIMED_OUT),
-        _ => ExitCode::from(FAULT),
-    }
-}
-
 /// Returns the status of a fault, or that of a time-out if a call was left.
 pub(crate) fn failed(is_late: bool) -> ExitCode
     ensures { Succeeds result → ⊥ }
@@ -297,6 +348,6 @@ pub(crate) fn failed(is_late: bool) -> ExitCode
 pub(crate) fn no_memory(rt: &(impl Print + Eprint + AllocGlobal), teller: &Teller<'_>) -> ExitCode
     ensures { Succeeds result → ⊥ }
 {
-    teller.fault(rt, NO_MEMORY.line());
+    teller.fault(rt, NO_MEMORY.line(), Detail::Plain);
     failed(false)
 }

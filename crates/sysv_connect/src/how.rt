@@ -1,4 +1,6 @@
 //! How a task is run.
+ghost use Rattle.std.specs.Prelude.{◌≡◌};
+ghost use Rattle.sysv_connect.specs.Telling.{has_line, has_sentence};
 
 /// How a task is run.
 #[derive(Clone, Copy, PartialEq, Eq, Debug)]
@@ -15,6 +17,39 @@ pub struct How {
     pub ahead: Option<u32>,
     /// The number of milliseconds that each send or receive waits at most.
     pub wait: Option<u64>,
-    /// Whether each fault is a sentence on standard error.
-    pub stderr: bool,
+    /// How faults are told.
+    pub telling: Telling,
+}
+
+/// How the faults of a client are told.
+#[derive(Clone, Copy, PartialEq, Eq, Debug)]
+pub enum Telling {
+    /// By a line on standard output.
+    Line,
+    /// By that line, and by a sentence on standard error.
+    Both,
+    /// By a sentence on standard error.
+    Sentence,
+}
+
+impl Telling {
+    /// Returns whether a fault is told by a line on standard output.
+    pub fn has_line(self) -> bool
+        ensures { result ≡ has_line self }
+    {
+        match self {
+            Telling::Line | Telling::Both => true,
+            Telling::Sentence => false,
+        }
+    }
+
+    /// Returns whether a fault is told by a sentence on standard error.
+    pub fn has_sentence(self) -> bool
+        ensures { result ≡ has_sentence self }
+    {
+        match self {
+            Telling::Line => false,
+            Telling::Both | Telling::Sentence => true,
+        }
+    }
 }

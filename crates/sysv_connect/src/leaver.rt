@@ -2,6 +2,7 @@
 ghost use Rattle.std.specs.Prelude.{◌≡◌};
 
 use crate::place::Leave;
+use crate::silence::{LastRead, Silence};
 use std::io;
 use std::io::{ErrorKind, Read, Write};
 use std::time::Duration;
@@ -15,6 +16,8 @@ const TO_END: u64 = 60;
 #[derive(Drop)]
 pub(crate) struct Leaver<R> {
     reader: R,
+    /// How the last read ended.
+    last: LastRead,
     /// Whether the server has sent anything.
     is_served: bool,
     /// Whether a call may be left.
@@ -36,6 +39,7 @@ impl<R: Leave> Leaver<R> {
         bound(&reader, time);
         Leaver {
             reader,
+            last: LastRead::None,
             is_served: false,
             may_leave: true,
             is_leaving: false,
@@ -61,6 +65,14 @@ impl<R: Leave> Leaver<R> {
     /// replies. No call without a reply had an effect then.
     pub(crate) fn has_ended(&self) -> bool {
         self.has_ended
+    }
+
+    /// Returns why there is no reply, after a read or a write of the connection that brought none.
+    pub(crate) fn silence<W: Write>(&self, writer: &Outgoing<W>) -> Silence {
+        if self.is_leaving && self.is_served {
+            return Silence::Late;
+        }
+        Silence::after(self.last, self.is_served, writer.has_failed)
     }
 
     /// Returns whether the time was over and the last call had no effect: it was left and the
@@ -96,11 +108,13 @@ impl<R: Leave> Read for Leaver<R> {
             Err(why) if why.kind() == ErrorKind::WouldBlock && self.may_leave && !self.is_leaving =>
                 why,
             outcome => {
-                self.is_served |= outcome.is_ok();
+                self.last = LastRead::of(&outcome);
+                self.is_served |= self.last == LastRead::Bytes;
                 self.has_ended |= self.is_leaving && matches!(outcome, Ok(0));
                 return outcome;
             }
         };
+        self.last = LastRead::Late;
         self.is_leaving = true;
         self.reader.limit(Duration::from_secs(TO_END));
         self.reader.leave();
@@ -108,6 +122,7 @@ impl<R: Leave> Read for Leaver<R> {
             return Err(why);
         }
         let outcome = self.reader.read(buf);
+        self.last = LastRead::of(&outcome);
         self.has_left = matches!(outcome, Ok(0));
         self.has_ended = self.has_left;
         outcome

@@ -3,7 +3,9 @@ ghost use Rattle.std.specs.Prelude.{◌≡◌, IfOk};
 ghost use Rattle.sysv_connect.specs.Links.{left_by, taken_by};
 
 use crate::leaver::{Leaver, Outgoing};
+use crate::patience::Patience;
 use crate::place::{Leave, Place};
+use crate::silence::Silence;
 use std::alloc::Global;
 use std::io;
 use std::io::{BufReader, BufWriter, Write};
@@ -25,14 +27,12 @@ pub(crate) enum Unlinked {
     NoServer(io::Error),
 }
 
-/// Connects to the server at `place`. A read waits at most this number of milliseconds, or without
-/// end if there is none. It then leaves the call that waits if `may_leave` is true, and otherwise
-/// fails.
+/// Connects to the server at `place`. A read waits as long as `patience` says. It then leaves the
+/// call that waits if it may do so, and otherwise fails.
 pub(crate) fn linked<P: Place>(
     alloc: Global,
     place: P,
-    wait: Option<u64>,
-    may_leave: bool,
+    patience: Patience,
 ) -> Result<Link<P::Input, P::Output>, Unlinked>
     ensures reader { IfOk result (λ link. left_by P.Input.remaining link ≡ P.incoming place) }
     ensures writer { IfOk result (λ link. taken_by P.Output.contents link ≡ P.outgoing place) }
@@ -41,7 +41,7 @@ pub(crate) fn linked<P: Place>(
         Ok(ends) => ends,
         Err(why) => return Err(Unlinked::NoServer(why)),
     };
-    let leaver = Leaver::new(reader, wait).leaving_if(may_leave);
+    let leaver = Leaver::new(reader, patience.limit).leaving_if(patience.may_leave);
     match (
         BufReader::new(alloc, leaver),
         BufWriter::new(alloc, Outgoing::new(writer)),
@@ -61,6 +61,11 @@ impl<R: Leave, W: Write + Drop> Link<R, W> {
     /// replies. No call without a reply had an effect then.
     pub(crate) fn has_ended(&self) -> bool {
         self.reader.get_ref().has_ended()
+    }
+
+    /// Returns why there is no reply, after a request that has none.
+    pub(crate) fn silence(&self) -> Silence {
+        self.reader.get_ref().silence(self.writer.get_ref())
     }
 
     /// Returns whether the time was over and the last call had no effect.

@@ -45,8 +45,3 @@ fn without_number(text: &str) -> &str {
         None => text,
     }
 }
-
-/// Reports a line, which has its LF, on standard error.
-pub(crate) fn report(rt: &impl Eprint, line: &str) {
-    let _ = eprint!(rt; "{line}");
-}

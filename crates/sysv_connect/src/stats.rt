@@ -5,9 +5,14 @@ ghost use Rattle.sysv_connect.specs.Ends.{Succeeds, SucceedsOnlyIf};
 ghost use Rattle.sysv_connect.specs.Stats.{HasLooked, asked_with};
 
 use crate::ending::FAULT;
+use crate::how::Telling;
 use crate::input::{Unread, read_some};
 use crate::leaver::bound;
+use crate::patience::REPLY_MILLIS;
 use crate::place::Place;
+use crate::screen::Screen;
+use crate::sentence::Detail;
+use crate::silence::{LastRead, Silence};
 use crate::teller::Teller;
 use std::alloc::Global;
 use std::io::{Eprint, Read, Write};
@@ -21,10 +26,10 @@ pub struct Looking<'a> {
     pub path: &'a str,
     /// Whether it is shown as a JSON object.
     pub json: bool,
-    /// The number of milliseconds that each read waits at most.
+    /// The number of milliseconds that each read waits at most, if that is stated.
     pub wait: Option<u64>,
-    /// Whether errors are told on standard error.
-    pub is_aside: bool,
+    /// How faults are told.
+    pub telling: Telling,
 }
 
 /// The number of bytes of a state that are read at once at most.
@@ -36,30 +41,44 @@ pub fn look_at<P: Place, S: Write>(
     rt: &(impl Print + Eprint + AllocGlobal),
     place: P,
     looking: &Looking<'_>,
-    screen: &mut S,
+    screen: &mut Screen<S>,
 ) -> ExitCode
-    ensures { SucceedsOnlyIf (HasLooked (P.incoming place) (S.contents screen.old)
-        (S.contents screen.new)) result }
+    ensures { SucceedsOnlyIf (HasLooked (P.incoming place) (S.contents screen.old.writer)
+        (S.contents screen.new.writer)) result }
 {
     let teller = Teller {
         path: looking.path,
-        task: None,
-        is_aside: looking.is_aside,
+        command: None,
+        telling: looking.telling,
     };
     let (mut reader, mut writer) = match place.connect() {
         Ok(ends) => ends,
         Err(why) => return teller.no_server(rt, &why),
     };
-    bound(&reader, looking.wait);
+    bound(&reader, Some(looking.wait.unwrap_or(REPLY_MILLIS)));
     if writer.write_all(question(looking.json)).is_err() || writer.flush().is_err() {
-        return failed(rt, &teller, ClientFault::NoReply);
+        return silent(rt, &teller, Silence::Lost);
     }
     match read_state(rt.alloc(), &mut reader) {
-        Ok(state) if state.is_empty() => failed(rt, &teller, ClientFault::NoReply),
-        Ok(state) => show(&state, screen),
-        Err(Unread::NoMemory) => failed(rt, &teller, ClientFault::NoMemory),
-        Err(Unread::Failed(_)) => failed(rt, &teller, ClientFault::NoReply),
+        Ok(state) if state.is_empty() => silent(rt, &teller, Silence::Closed),
+        Ok(state) => show(rt, &teller, &state, screen),
+        Err(Unread::NoMemory) => failed(rt, &teller, ClientFault::NoMemory, Detail::Plain),
+        Err(Unread::Failed(why)) => {
+            let silence = Silence::after(LastRead::of(&Err(why)), false, false);
+            silent(rt, &teller, silence)
+        }
     }
+}
+
+/// Tells that there is no reply, and why.
+fn silent(
+    rt: &(impl Print + Eprint + AllocGlobal),
+    teller: &Teller<'_>,
+    silence: Silence,
+) -> ExitCode
+    ensures { Succeeds result → ⊥ }
+{
+    failed(rt, teller, ClientFault::NoReply, Detail::Silent(silence))
 }
 
 /// Tells a fault.
@@ -67,10 +86,11 @@ fn failed(
     rt: &(impl Print + Eprint + AllocGlobal),
     teller: &Teller<'_>,
     fault: ClientFault,
+    detail: Detail,
 ) -> ExitCode
     ensures { Succeeds result → ⊥ }
 {
-    teller.fault(rt, fault.line());
+    teller.fault(rt, fault.line(), detail);
     ExitCode::from(FAULT)
 }
 
@@ -104,13 +124,19 @@ fn read_state<R: Read>(alloc: Global, reader: &mut R) -> Result<Vec<u8>, Unread>
     Err(Unread::NoMemory)
 }
 
-/// Writes the state to the screen and flushes it.
-fn show<S: Write>(state: &[u8], screen: &mut S) -> ExitCode
-    ensures { SucceedsOnlyIf (Appends (S.contents screen.old) (S.contents screen.new) state.now)
-        result }
+/// Writes the state to the screen and flushes it. If the screen fails, that is reported on standard
+/// error.
+fn show<S: Write>(
+    rt: &(impl Eprint + AllocGlobal),
+    teller: &Teller<'_>,
+    state: &[u8],
+    screen: &mut Screen<S>,
+) -> ExitCode
+    ensures { SucceedsOnlyIf (Appends (S.contents screen.old.writer)
+        (S.contents screen.new.writer) state.now) result }
 {
     if screen.write_all(state).is_err() || screen.flush().is_err() {
-        return ExitCode::from(FAULT);
+        return teller.no_output(rt, screen.failure, None);
     }
     ExitCode::SUCCESS
 }

@@ -1,9 +1,10 @@
 -- What a `serve` asks for (this project's programs): its socket file and its terms.
-use Rattle.std.specs.Prelude.{◌≡◌, ◌≢◌, ◌≤◌, ⊤, ℕ, List, codes, length, is_some, Option, Some, None}
+use Rattle.std.specs.Prelude.{◌≡◌, ◌≢◌, ◌≤◌, ⊤, ℕ, List, codes, length, is_some, not, Option, Some, None}
 use Rattle.clap.specs.Words.{Row}
 use Rattle.sysv_server.specs.declared.terms.Terms.{Terms}
 use Rattle.sysv_words.specs.Words.{IsNat32, IsNat64}
 use Rattle.sysv_connect.specs.declared.stats.Looking.{Looking}
+use Rattle.sysv_connect.specs.Telling.{has_line, has_sentence}
 use Rattle.sysv_options.specs.declared.asked.Serving.{Serving}
 use Rattle.sysv_options.specs.declared.asked.SocketFile.{SocketFile}
 use Rattle.sysv_options.specs.declared.asked.TheConstants.{WORKERS, MAX_PATH, MAX_PATH_WITH_MODE}
@@ -81,7 +82,8 @@ pub record AsksToLook (words : List Row) (looking : Looking) : Type 0 where
   pub path : HasPath words looking.path.now
   pub json : HasFlag words (codes "json") looking.json
   pub wait : HasMaybe IsTime (word_of words (codes "wait")) looking.wait
-  pub is_aside : HasFlag words (codes "stderr") looking.is_aside
+  pub line : has_line looking.telling ≡ not (has_sentence looking.telling)
+  pub stderr : HasFlag words (codes "stderr") (has_sentence looking.telling)
 
 -- A `serve` with these words is this one.
 pub record AsksToServe (words : List Row) (serving : Serving) : Type 0 where

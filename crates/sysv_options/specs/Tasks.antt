@@ -1,6 +1,6 @@
 -- What a client's command asks for (this project's programs): its task, and who makes it.
 use Rattle.std.specs.Prelude.{◌≡◌, ◌≤◌, ◌⊎◌, ℕ, ℤ, pos, Bool, true, false, List, [], codes, length, Option, Some}
-use Rattle.std.specs.Prelude.{None, is_some, unwrap_or}
+use Rattle.std.specs.Prelude.{None, is_some, not, unwrap_or}
 use Rattle.clap.specs.Words.{Row}
 use Rattle.sysv_clients.specs.declared.command.Form.{Form}
 use Rattle.sysv_clients.specs.declared.command.Form.TheVariants.{Line, Raw, Zero, Object}
@@ -17,6 +17,7 @@ use Rattle.sysv_clients.specs.Words.{IsId, IsKey, IsType}
 use Rattle.sysv_model.specs.declared.limits.TheConstants.{BODY_ROOM}
 use Rattle.sysv_words.specs.Words.{IsNat32}
 use Rattle.sysv_connect.specs.declared.how.How.{How}
+use Rattle.sysv_connect.specs.Telling.{has_line, has_sentence}
 use Rattle.sysv_options.specs.declared.who.Who.{Who}
 use Rattle.sysv_options.specs.Words.{Has, HasFlag, HasMaybe, HasOr, IsOctalMode, IsOn, IsTime, WantsType, word_of}
 
@@ -39,7 +40,8 @@ pub record HasHow (words : List Row) (how : How) : Type 0 where
   pub count : HasMaybe IsNat32 (word_of words (codes "count")) how.count
   pub ahead : HasMaybe IsAhead (word_of words (codes "ahead")) how.ahead
   pub wait : HasMaybe IsTime (word_of words (codes "wait")) how.wait
-  pub stderr : HasFlag words (codes "stderr") how.stderr
+  pub line : has_line how.telling ≡ not (has_sentence how.telling)
+  pub stderr : HasFlag words (codes "stderr") (has_sentence how.telling)
 
 -- The queues are listed as JSON objects.
 abbrev pub is_json : Format → Bool

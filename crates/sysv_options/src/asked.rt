@@ -1,6 +1,6 @@
 //! The request that a command line makes.
 
-ghost use Rattle.std.specs.Prelude.{◌≡◌, ◌≤◌, ◌⊎◌, ℕ, IfOk, IfSome, MatchOption, OnOk, Some, codes, false, is_some, map, pos, true};
+ghost use Rattle.std.specs.Prelude.{◌≡◌, ◌≤◌, ◌⊎◌, ℕ, IfOk, IfSome, MatchOption, OnOk, Some, codes, false, is_some, map, not, pos, true};
 ghost use Rattle.clap.specs.Values.{kind_of};
 ghost use Rattle.clap.specs.Words.{app_of, subcommand_rows_of};
 ghost use Rattle.clap.specs.declared.error.kind.ErrorKind.TheVariants.{InvalidValue, OutOfMemory};
@@ -9,11 +9,12 @@ ghost use Rattle.sysv_options.specs.Requests.{AsksFor, ClientAsks, IsAskedBy, Is
 ghost use Rattle.sysv_options.specs.Servers.{AsksForAtOnce, AsksForBlocks, AsksForFile, AsksForFileAt, AsksForTerms, AsksForWorkers, AsksToLook, AsksToServe, HasPath, MayAskForStats};
 ghost use Rattle.sysv_options.specs.Tasks.{AsksToList, AsksToMake, AsksToReceive, AsksToRemove, AsksToSend, HasTask, HasHow, NamesTarget, IsAhead, Receives, ShowsIn, StatesWho, is_json};
 ghost use Rattle.sysv_options.specs.Words.{ArePartsOf, AreSeconds, Has, HasFlag, HasMaybe, HasOr, IsMode, IsOctalMode, IsOn, IsRead, IsThousandths, IsTime, IsUnsigned, WantsType, word_of, words_in};
+ghost use Rattle.sysv_connect.specs.Telling.{has_line, has_sentence};
 ghost use Rattle.sysv_words.specs.Words.{IsNat32, IsNat64};
 ghost use Rattle.sysv_clients.specs.Run.{HasShortText};
 ghost use Rattle.sysv_clients.specs.Words.{IsKey, IsType};
 
-use crate::commands::{command, command_named};
+use crate::commands::{command, command_named, option_named};
 use crate::who::Who;
 use clap::error::ErrorKind;
 use clap::{ArgMatches, Command as CommandLine, Error};
@@ -22,7 +23,7 @@ use std::convert::AsStr;
 use sysv_clients::{
     Form, Format, MAX_AHEAD, Making, Receipt, Target, Task, id_of, key_of, type_of,
 };
-use sysv_connect::{How, Looking};
+use sysv_connect::{How, Looking, Telling};
 use sysv_model::{BODY_ROOM, MAX_BLOCKS, MIN_BLOCKS};
 use sysv_server::{MAX_CLIENTS, Patience, Terms};
 use sysv_words::{Reads, one_split, split_at_mark};
@@ -90,48 +91,68 @@ const MAX_PATH: usize = 107;
 /// a name that is four bytes longer.
 const MAX_PATH_WITH_MODE: usize = 103;
 
-/// Why a word is not valid.
-type Bad = &'static str;
+/// Why a command line is not valid.
+#[derive(Clone, Copy, PartialEq, Eq, Debug)]
+struct Bad {
+    /// The name under which the word that is not valid is in the table of commands, or nothing if
+    /// it is not one word.
+    name: &'static str,
+    /// What would be valid.
+    valid: &'static str,
+}
 
-const BAD_PATH: Bad = "a PATH has 1 to 107 bytes";
+const PATH: &str = "a PATH has 1 to 107 bytes";
 
-const BAD_PATH_WITH_MODE: Bad = "with --mode a PATH has 1 to 103 bytes";
+const PATH_WITH_MODE: &str = "with --mode a PATH has 1 to 103 bytes";
 
-const SAME_PATH: Bad = "PATH2 is PATH: --stats names a socket of its own";
+const OTHER_PATH: &str = "PATH2 is PATH: --stats names a socket of its own";
 
-const BAD_KEY: Bad =
+const KEY: &str =
     "a KEY is 1 to 2147483647, or 0x and one to eight hexadecimal digits that are not all 0";
 
-const BAD_ID: Bad = "an ID is 0 to 2147483647";
+const ID: &str = "an ID is 0 to 2147483647";
 
-const BAD_TYPE: Bad = "a type is 1 to 9223372036854775807";
+const TYPE: &str = "a type is 1 to 9223372036854775807";
 
-const BAD_BLOCKS: Bad = "the number of blocks is 128 to 65536";
+const BLOCKS: &str = "the number of blocks is 128 to 65536";
 
-const BAD_WORKERS: Bad = "the number of workers is 1 to 16";
+const WORKERS_ALLOWED: &str = "the number of workers is 1 to 16";
 
-const BAD_AT_ONCE: Bad = "the number of sessions at once is 1 to 16384";
+const AT_ONCE: &str = "the number of sessions at once is 1 to 16384";
 
-const BAD_SECONDS: Bad = "the number of seconds is 0 to 4294967295";
+const SECONDS: &str = "a whole number of seconds is 0 to 4294967295";
 
-const BAD_MODE: Bad = "a mode is 0 to 777 in octal";
+const MODE: &str = "a mode is 0 to 777 in octal";
 
-const BAD_SESSIONS: Bad = "the number of sessions is 0 to 18446744073709551615";
+const SESSIONS: &str = "the number of sessions is 0 to 18446744073709551615";
 
-const BAD_COUNT: Bad = "a number of messages or bytes is 0 to 4294967295";
+const COUNT: &str = "a number of messages or bytes is 0 to 4294967295";
 
-const BAD_TIME: Bad =
+const TIME: &str =
     "a time is 0 to 4294967295 seconds, with or without a point and one to three more digits";
 
-const BAD_FORM: Bad = "--raw, --zero and --json exclude one another";
+const AHEAD: &str = "the number of receives ahead is 1 to 64";
 
-const BAD_AHEAD: Bad = "the number of receives ahead is 1 to 64";
+const OWNER: &str = "a user, group or process ID is 0 to 4294967295";
 
-const BAD_NUMBER: Bad = "a size, user ID, group ID or process ID is 0 to 4294967295";
+const TEXT: &str = "a message has at most 8192 bytes";
 
-const LONG_TEXT: Bad = "a TEXT has at most 8256 bytes";
+/// Two options that exclude one another.
+const TWO_FORMS: Bad = Bad {
+    name: "",
+    valid: "--raw, --zero and --json exclude one another",
+};
 
-const NO_COMMAND: Bad = "a command is missing";
+/// There is no command.
+const NO_COMMAND: Bad = Bad {
+    name: "",
+    valid: "a command is missing",
+};
+
+/// Returns why the word of this name is not valid.
+fn invalid(name: &'static str, valid: &'static str) -> Bad {
+    Bad { name, valid }
+}
 
 /// Parses a command line, whose first word is the program's name.
 ///
@@ -165,8 +186,36 @@ fn read_line<'a, S: AsStr>(
 
 /// Returns the error that a value is not valid, with the usage of the parsed command.
 fn bad_value(alloc: Global, matches: &ArgMatches<'_>, bad: Bad) -> Result<Error, AllocError> {
-    let name = matches.subcommand_name().unwrap_or("");
-    command_named(alloc, name)?.error(ErrorKind::ValueValidation, bad)
+    let Some((name, words)) = command_in(matches) else {
+        return command(alloc)?.error(ErrorKind::ValueValidation, bad.valid);
+    };
+    let text = text_of(alloc, name, words, bad)?;
+    command_named(alloc, name)?.error(ErrorKind::ValueValidation, text.as_str())
+}
+
+/// The greatest number of bytes of a value that an error repeats.
+const MOST_REPEATED: usize = 40;
+
+/// Returns the text of an error: the option of the command and the value that it was given, and
+/// what would be valid.
+fn text_of(
+    alloc: Global,
+    name: &str,
+    words: &ArgMatches<'_>,
+    bad: Bad,
+) -> Result<String, AllocError> {
+    let Bad { name: id, valid } = bad;
+    let (Some(option), Some(word)) = (option_named(name, id), words.get_str(id)) else {
+        return format!(in alloc; "{valid}");
+    };
+    if word.len() > MOST_REPEATED {
+        format!(in alloc;
+            "invalid value of {} bytes for '{option}': {valid}",
+            word.len()
+        )
+    } else {
+        format!(in alloc; "invalid value '{word}' for '{option}': {valid}")
+    }
 }
 
 /// Returns the error that a word is not UTF-8, or that memory was refused for it.
@@ -210,7 +259,7 @@ fn look_of<'a>(words: &ArgMatches<'a>) -> Result<Looking<'a>, Bad>
         path: path_of(words)?,
         json: has_flag(words, "json"),
         wait: time_if(words, "wait")?,
-        is_aside: has_flag(words, "stderr"),
+        telling: telling_of(words),
     })
 }
 
@@ -239,11 +288,23 @@ fn how_of(words: &ArgMatches<'_>) -> Result<How, Bad>
         from_input: has_flag(words, "stdin"),
         lines: has_flag(words, "lines"),
         follow: has_flag(words, "follow"),
-        count: number_if(words, "count")?,
+        count: number_if(words, "count", COUNT)?,
         ahead: ahead_of(words)?,
         wait: time_if(words, "wait")?,
-        stderr: has_flag(words, "stderr"),
+        telling: telling_of(words),
     })
+}
+
+/// Returns how faults are told: by a sentence with `--stderr`, and else by a line.
+fn telling_of(words: &ArgMatches<'_>) -> Telling
+    ensures line { has_line result ≡ not (has_sentence result) }
+    ensures sentence { HasFlag (words_in words.now) (codes "stderr") (has_sentence result) }
+{
+    if has_flag(words, "stderr") {
+        Telling::Sentence
+    } else {
+        Telling::Line
+    }
 }
 
 /// Returns the number of receives that may be on their way, if the command has it.
@@ -253,7 +314,7 @@ fn ahead_of(words: &ArgMatches<'_>) -> Result<Option<u32>, Bad>
     match word_in(words, "ahead") {
         Some(word) => match u32::read(word.as_bytes()) {
             Some(ahead) if (1..=MAX_AHEAD).contains(&ahead) => Ok(Some(ahead)),
-            _ => Err(BAD_AHEAD),
+            _ => Err(invalid("ahead", AHEAD)),
         },
         None => Ok(None),
     }
@@ -281,7 +342,7 @@ fn path_of<'a>(words: &ArgMatches<'a>) -> Result<&'a str, Bad>
 {
     match word_in(words, "path") {
         Some(path) if !path.is_empty() && path.len() <= MAX_PATH => Ok(path),
-        _ => Err(BAD_PATH),
+        _ => Err(invalid("path", PATH)),
     }
 }
 
@@ -303,7 +364,7 @@ fn server<'a>(words: &ArgMatches<'a>) -> Result<Serving<'a>, Bad>
 fn file_of<'a>(words: &ArgMatches<'a>) -> Result<SocketFile<'a>, Bad>
     ensures { IsRead result (AsksForFile (words_in words.now)) }
 {
-    file_at(words, path_of(words)?)
+    file_at(words, "path", path_of(words)?)
 }
 
 /// Returns the file of the socket on which the state of a server at the path `own` is shown, if the
@@ -313,21 +374,25 @@ fn stats_of<'a>(words: &ArgMatches<'a>, own: &str) -> Result<Option<SocketFile<'
     ensures { IsRead result (MayAskForStats (words_in words.now)) }
 {
     match word_in(words, "stats") {
-        Some(path) if path.is_empty() || path.len() > MAX_PATH => Err(BAD_PATH),
-        Some(path) if path == own => Err(SAME_PATH),
-        Some(path) => Ok(Some(file_at(words, path)?)),
+        Some(path) if path.is_empty() || path.len() > MAX_PATH => Err(invalid("stats", PATH)),
+        Some(path) if path == own => Err(invalid("stats", OTHER_PATH)),
+        Some(path) => Ok(Some(file_at(words, "stats", path)?)),
         None => Ok(None),
     }
 }
 
-/// Returns the file of a socket of a server at this path.
-fn file_at<'a>(words: &ArgMatches<'a>, path: &'a str) -> Result<SocketFile<'a>, Bad>
+/// Returns the file of a socket of a server at this path, which is the word of this name.
+fn file_at<'a>(
+    words: &ArgMatches<'a>,
+    name: &'static str,
+    path: &'a str,
+) -> Result<SocketFile<'a>, Bad>
     ensures { IsRead result (λ file. (file.path.now ≡ path.now)
         × AsksForFileAt (words_in words.now) path.now file) }
 {
     let mode = mode_of(words)?;
     if mode.is_some() && path.len() > MAX_PATH_WITH_MODE {
-        return Err(BAD_PATH_WITH_MODE);
+        return Err(invalid(name, PATH_WITH_MODE));
     }
     Ok(SocketFile {
         path,
@@ -366,16 +431,16 @@ fn at_once_of(words: &ArgMatches<'_>) -> Result<u32, Bad>
     };
     match u32::read(word.as_bytes()) {
         Some(at_once) if (1..=MAX_CLIENTS).contains(&at_once) => Ok(at_once),
-        _ => Err(BAD_AT_ONCE),
+        _ => Err(invalid("at-once", AT_ONCE)),
     }
 }
 
 /// Returns the number of seconds that an option has, 0 for no limit.
-fn seconds_of(words: &ArgMatches<'_>, id: &str) -> Result<u32, Bad>
+fn seconds_of(words: &ArgMatches<'_>, id: &'static str) -> Result<u32, Bad>
     ensures { IsRead result (HasOr IsNat32 0 (word_of (words_in words.now) id.now)) }
 {
     match word_in(words, id) {
-        Some(word) => u32::read(word.as_bytes()).ok_or(BAD_SECONDS),
+        Some(word) => u32::read(word.as_bytes()).ok_or(invalid(id, SECONDS)),
         None => Ok(0),
     }
 }
@@ -396,7 +461,7 @@ fn octal_mode(word: &str) -> Result<u32, Bad>
 {
     match u32::from_str_radix(word, 8) {
         Ok(mode) if mode <= MAX_MODE && !word.starts_with('+') => Ok(mode),
-        _ => Err(BAD_MODE),
+        _ => Err(invalid("mode", MODE)),
     }
 }
 
@@ -405,11 +470,11 @@ fn blocks_of(words: &ArgMatches<'_>) -> Result<u32, Bad>
     ensures limits { IfOk result AreBlocks }
     ensures meaning { IsRead result (AsksForBlocks (words_in words.now)) }
 {
-    let blocks = number(words, "blocks", 1024)?;
+    let blocks = number(words, "blocks", 1024, BLOCKS)?;
     if (MIN_BLOCKS..=MAX_BLOCKS).contains(&blocks) {
         Ok(blocks)
     } else {
-        Err(BAD_BLOCKS)
+        Err(invalid("blocks", BLOCKS))
     }
 }
 
@@ -423,7 +488,7 @@ fn workers_of(words: &ArgMatches<'_>) -> Result<u32, Bad>
     };
     match u32::read(word.as_bytes()) {
         Some(workers) if (1..=MAX_WORKERS).contains(&workers) => Ok(workers),
-        _ => Err(BAD_WORKERS),
+        _ => Err(invalid("workers", WORKERS_ALLOWED)),
     }
 }
 
@@ -432,7 +497,7 @@ fn sessions_of(words: &ArgMatches<'_>) -> Result<u64, Bad>
     ensures { IsRead result (HasOr IsNat64 0 (word_of (words_in words.now) (codes "sessions"))) }
 {
     match word_in(words, "sessions") {
-        Some(word) => u64::read(word.as_bytes()).ok_or(BAD_SESSIONS),
+        Some(word) => u64::read(word.as_bytes()).ok_or(invalid("sessions", SESSIONS)),
         None => Ok(0),
     }
 }
@@ -453,7 +518,7 @@ fn listing<'a>(words: &ArgMatches<'a>) -> Result<Task<'a>, Bad>
     ensures meaning { IsRead result (AsksToList (words_in words.now)) }
 {
     match word_in(words, "id") {
-        Some(id) => Ok(Task::Show(id_of(id.as_bytes()).ok_or(BAD_ID)?)),
+        Some(id) => Ok(Task::Show(id_of(id.as_bytes()).ok_or(invalid("id", ID))?)),
         None => Ok(Task::List(format_of(words))),
     }
 }
@@ -477,7 +542,7 @@ fn making<'a>(words: &ArgMatches<'a>) -> Result<Task<'a>, Bad>
     Ok(Task::Make(Making {
         key: key_or_private(words)?,
         mode: queue_mode(words)?,
-        qbytes: number_if(words, "qbytes")?,
+        qbytes: number_if(words, "qbytes", COUNT)?,
     }))
 }
 
@@ -506,7 +571,7 @@ fn target_of(words: &ArgMatches<'_>) -> Result<Target, Bad>
         (word_of (words_in words.now) (codes "all"))) }
 {
     match (word_in(words, "id"), word_in(words, "all")) {
-        (Some(id), _) => Ok(Target::Id(id_of(id.as_bytes()).ok_or(BAD_ID)?)),
+        (Some(id), _) => Ok(Target::Id(id_of(id.as_bytes()).ok_or(invalid("id", ID))?)),
         (None, Some("true")) => Ok(Target::All),
         (None, _) => Ok(Target::Key(key(words)?)),
     }
@@ -520,10 +585,10 @@ fn sending<'a>(words: &ArgMatches<'a>) -> Result<Task<'a>, Bad>
     let key = key(words)?;
     let text = word_in(words, "text").unwrap_or("").as_bytes();
     if text.len() > BODY_ROOM {
-        return Err(LONG_TEXT);
+        return Err(invalid("text", TEXT));
     }
     let mtype = match word_in(words, "type") {
-        Some(word) => type_of(word.as_bytes()).ok_or(BAD_TYPE)?,
+        Some(word) => type_of(word.as_bytes()).ok_or(invalid("type", TYPE))?,
         None => 1,
     };
     Ok(Task::Send {
@@ -550,7 +615,7 @@ fn receipt_of(words: &ArgMatches<'_>) -> Result<Receipt, Bad>
         key: key(words)?,
         create: has_flag(words, "create"),
         mode: queue_mode(words)?,
-        size: number(words, "size", 8192)?,
+        size: number(words, "size", 8192, COUNT)?,
         mtype: wanted_type(words)?,
         except: has_word(words, "except"),
         nowait: has_flag(words, "nowait"),
@@ -575,7 +640,7 @@ fn form_of(words: &ArgMatches<'_>) -> Result<Form, Bad>
         (true, false, false) => Ok(Form::Raw),
         (false, true, false) => Ok(Form::Zero),
         (false, false, true) => Ok(Form::Object),
-        _ => Err(BAD_FORM),
+        _ => Err(TWO_FORMS),
     }
 }
 
@@ -587,8 +652,8 @@ fn wanted_type(words: &ArgMatches<'_>) -> Result<i64, Bad>
         (word_of (words_in words.now) (codes "except"))) }
 {
     match (word_in(words, "type"), word_in(words, "upto")) {
-        (Some(word), _) => type_of(word.as_bytes()).ok_or(BAD_TYPE),
-        (None, Some(word)) => Ok(-type_of(word.as_bytes()).ok_or(BAD_TYPE)?),
+        (Some(word), _) => type_of(word.as_bytes()).ok_or(invalid("type", TYPE)),
+        (None, Some(word)) => Ok(-type_of(word.as_bytes()).ok_or(invalid("upto", TYPE))?),
         (None, None) => excepted_type(words),
     }
 }
@@ -599,7 +664,7 @@ fn excepted_type(words: &ArgMatches<'_>) -> Result<i64, Bad>
         (word_of (words_in words.now) (codes "except"))) }
 {
     match word_in(words, "except") {
-        Some(word) => type_of(word.as_bytes()).ok_or(BAD_TYPE),
+        Some(word) => type_of(word.as_bytes()).ok_or(invalid("except", TYPE)),
         None => Ok(0),
     }
 }
@@ -610,9 +675,9 @@ fn who_of(words: &ArgMatches<'_>) -> Result<Who, Bad>
 {
     Ok(Who {
         me: has_flag(words, "me"),
-        uid: id_if(words, "uid")?,
-        gid: id_if(words, "gid")?,
-        pid: id_if(words, "pid")?,
+        uid: number_if(words, "uid", OWNER)?,
+        gid: number_if(words, "gid", OWNER)?,
+        pid: number_if(words, "pid", OWNER)?,
     })
 }
 
@@ -621,42 +686,52 @@ fn key(words: &ArgMatches<'_>) -> Result<i32, Bad>
     ensures { IsRead result (Has IsKey (word_of (words_in words.now) (codes "key"))) }
 {
     match word_in(words, "key") {
-        Some(word) => key_of(word.as_bytes()).ok_or(BAD_KEY),
-        None => Err(BAD_KEY),
+        Some(word) => key_of(word.as_bytes()).ok_or(invalid("key", KEY)),
+        None => Err(invalid("key", KEY)),
     }
 }
 
-/// Returns the number that an option has, or its default.
-fn number(words: &ArgMatches<'_>, id: &str, default: u32) -> Result<u32, Bad>
+/// Returns the number that an option has, or its default. `valid` is what an error names as valid.
+fn number(
+    words: &ArgMatches<'_>,
+    id: &'static str,
+    default: u32,
+    valid: &'static str,
+) -> Result<u32, Bad>
     ensures { IsRead result (HasOr IsNat32 default (word_of (words_in words.now) id.now)) }
 {
     match word_in(words, id) {
-        Some(word) => u32::read(word.as_bytes()).ok_or(BAD_NUMBER),
+        Some(word) => u32::read(word.as_bytes()).ok_or(invalid(id, valid)),
         None => Ok(default),
     }
 }
 
-/// Returns the number of messages or bytes that an option has, if the command has it.
-fn number_if(words: &ArgMatches<'_>, id: &str) -> Result<Option<u32>, Bad>
+/// Returns the number that an option has, if the command has it. `valid` is what an error names as
+/// valid.
+fn number_if(
+    words: &ArgMatches<'_>,
+    id: &'static str,
+    valid: &'static str,
+) -> Result<Option<u32>, Bad>
     ensures { IsRead result (HasMaybe IsNat32 (word_of (words_in words.now) id.now)) }
 {
     match word_in(words, id) {
         Some(word) => match u32::read(word.as_bytes()) {
             Some(number) => Ok(Some(number)),
-            None => Err(BAD_COUNT),
+            None => Err(invalid(id, valid)),
         },
         None => Ok(None),
     }
 }
 
 /// Returns the number of milliseconds that an option has, if the command has it.
-fn time_if(words: &ArgMatches<'_>, id: &str) -> Result<Option<u64>, Bad>
+fn time_if(words: &ArgMatches<'_>, id: &'static str) -> Result<Option<u64>, Bad>
     ensures { IsRead result (HasMaybe IsTime (word_of (words_in words.now) id.now)) }
 {
     match word_in(words, id) {
         Some(word) => match milliseconds(word.as_bytes()) {
             Some(time) => Ok(Some(time)),
-            None => Err(BAD_TIME),
+            None => Err(invalid(id, TIME)),
         },
         None => Ok(None),
     }
@@ -726,16 +801,6 @@ fn unsigned(word: &[u8]) -> Option<u32>
         return None;
     }
     u32::read(word)
-}
-
-/// Returns the user, group or process ID that an option has, if the command has it.
-fn id_if(words: &ArgMatches<'_>, id: &str) -> Result<Option<u32>, Bad>
-    ensures { IsRead result (HasMaybe IsNat32 (word_of (words_in words.now) id.now)) }
-{
-    match number_if(words, id) {
-        Ok(number) => Ok(number),
-        Err(_) => Err(BAD_NUMBER),
-    }
 }
 
 /// Returns the word that a command has under a name.

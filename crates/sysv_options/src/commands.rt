@@ -1,21 +1,23 @@
 //! The command line: a table of commands, and its translation for clap.
 use clap::{Arg, ArgAction, ArgGroup, Command};
 use std::alloc::{AllocError, Global};
-
-/// The program's version.
-const VERSION: &str = "0.2.0";
+use std::fmt;
+use sysv_server::VERSION;
 
 /// The end of the help of the whole program.
 const SESSION: &str = "\
-Errors of commands are printed on standard output, as `sysvmsg: ENOMSG`; those
-of an `rcv` with --count, --follow, --raw, --zero, --json or --show-type on
-standard error.
+Clients state user 1000, group 1000 and process 1, and the server does not
+verify that. --me or SYSVMSG_ME=1 states your own.
+Errors of commands are printed on standard output, as `sysvmsg: ENOMSG`, and in
+a sentence on standard error if standard output is no terminal. Those of an
+`rcv` with --count, --follow, --raw, --zero, --json or --show-type are sentences
+on standard error.
 Exit status: 0 if all is done, 1 after an error, 2 if the command line is not
 understood, 3 if the time of --wait is over.
 
 Example:
   $ sysvmsg serve ./q &
-  sysvmsg: serving ./q, up to 1011 sessions at once, 1024 blocks
+  sysvmsg: serving ./q, up to 1011 sessions at once, 1024 messages of 64 bytes
   $ sysvmsg snd ./q 7 hello --type 5
   $ sysvmsg ipcs ./q
   key             msqid      owner perms  bytes messages
@@ -90,13 +92,13 @@ const PROCESS: Argument = (
 const STDERR: Argument = (
     "stderr",
     Form::Flag,
-    "Prints errors on stderr; also by SYSVMSG_STDERR=1",
+    "Prints errors only on stderr; also by SYSVMSG_STDERR=1",
 );
 
 const ME: Argument = (
     "me",
     Form::Flag,
-    "By default your own IDs; also by SYSVMSG_ME=1",
+    "Defaults to your own IDs; also by SYSVMSG_ME=1",
 );
 
 const WAIT: Argument = (
@@ -120,7 +122,7 @@ As many clients are served at once as there are descriptors, up to 16384; more w
 
 Example:
   $ sysvmsg serve ./q --mode 660 &
-  sysvmsg: serving ./q, up to 1011 sessions at once, 1024 blocks",
+  sysvmsg: serving ./q, up to 1011 sessions at once, 1024 messages of 64 bytes",
     arguments: &[
         (
             "path",
@@ -511,6 +513,43 @@ pub(crate) fn command_named<'a>(alloc: Global, name: &str) -> Result<Command<'a>
     command(alloc)
 }
 
+/// Returns the argument that a command has under this name, as an error shows it.
+pub(crate) fn option_named(command: &str, id: &str) -> Option<Shown> {
+    for known in COMMANDS {
+        if known.name == command {
+            return argument_named(known.arguments, id);
+        }
+    }
+    None
+}
+
+/// Returns the argument of this name, as an error shows it.
+fn argument_named(arguments: &[Argument], id: &str) -> Option<Shown> {
+    for argument in arguments {
+        if argument.0 == id {
+            return Some(Shown(*argument));
+        }
+    }
+    None
+}
+
+/// An argument as an error shows it: `<PATH>`, `--idle <SECONDS>` or `-q <ID>`.
+#[derive(Clone, Copy)]
+pub(crate) struct Shown(Argument);
+
+impl fmt::Display for Shown {
+    fn fmt<W: fmt::Write>(&self, f: &mut fmt::Formatter<W>) -> fmt::Result {
+        let (id, form, _) = self.0;
+        match form {
+            Form::Word(name) => write!(f, "<{name}>"),
+            Form::OptionalWord(name) => write!(f, "[{name}]"),
+            Form::Value(name) | Form::ValueWith(name, _) => write!(f, "--{id} <{name}>"),
+            Form::Letter(letter, name) => write!(f, "-{letter} <{name}>"),
+            Form::Flag | Form::ShortFlag(_) => write!(f, "--{id}"),
+        }
+    }
+}
+
 fn command_of<'a>(alloc: Global, known: Known) -> Result<Command<'a>, AllocError> {
     let mut command = with_arguments(alloc, known)?;
     for (place, group) in known.groups.iter().enumerate() {
@@ -541,9 +580,9 @@ fn argument_of<'a>(alloc: Global, given: Argument) -> Result<Arg<'a>, AllocError
     Ok(match form {
         Form::Word(name) => valued(argument, name).required(true),
         Form::OptionalWord(name) => valued(argument, name),
-        Form::Value(name) => valued(argument, name).long(id),
-        Form::ValueWith(name, other) => valued(argument, name).long(id).requires_arg(other)?,
-        Form::Letter(letter, name) => valued(argument, name).short(letter),
+        Form::Value(name) => option(argument, name).long(id),
+        Form::ValueWith(name, other) => option(argument, name).long(id).requires_arg(other)?,
+        Form::Letter(letter, name) => option(argument, name).short(letter),
         Form::Flag => flag(argument, id),
         Form::ShortFlag(letter) => flag(argument, id).short(letter),
     })
@@ -555,6 +594,12 @@ fn flag<'a>(argument: Arg<'a>, id: &'static str) -> Arg<'a> {
 
 fn valued<'a>(argument: Arg<'a>, name: &'static str) -> Arg<'a> {
     argument.value_name(name).action(ArgAction::Set)
+}
+
+/// Gives an option a value. A word such as `-1` after it is the value, which is then refused as one,
+/// and is not taken for an option.
+fn option<'a>(argument: Arg<'a>, name: &'static str) -> Arg<'a> {
+    valued(argument, name).allow_negative_numbers(true)
 }
 
 fn group_of<'a>(

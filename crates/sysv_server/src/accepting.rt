@@ -183,6 +183,7 @@ impl<'a, L: Listens, I: Input + Drop, H: Host> Accepting<'a, L, I, H> {
             listener: self.listener.descriptor(),
             blocks: self.blocks,
             accepted: self.accepted,
+            started: self.desk.started(),
         };
         let acceptor = Acceptor {
             view,

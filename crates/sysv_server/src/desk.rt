@@ -4,7 +4,8 @@ ghost use Rattle.sysv_engine.specs.Looks.{Looks};
 use crate::polling::{FOREVER, NO_DESCRIPTOR, asking};
 use crate::visitor::{View, Visitor};
 use libc::net::{POLLIN, POLLOUT};
-use libc::types::pollfd;
+use libc::types::{pollfd, timespec};
+use libc::{CLOCK_REALTIME, clock_gettime};
 use std::os::fd::AsRawFd;
 use std::os::unix::net::UnixListener;
 use std::sync::Wait;
@@ -17,15 +18,23 @@ use sysv_engine::Rows;
 pub(crate) struct Desk {
     listener: Option<UnixListener>,
     visitor: Option<Visitor>,
+    /// The time at which the server started, in seconds since 1970.
+    started: u64,
 }
 
 impl Desk {
-    /// Creates a desk without a socket.
+    /// Creates a desk without a socket, of a server that starts now.
     pub(crate) fn closed() -> Desk {
         Desk {
             listener: None,
             visitor: None,
+            started: present(),
         }
+    }
+
+    /// Returns the time at which the server started, in seconds since 1970.
+    pub(crate) fn started(&self) -> u64 {
+        self.started
     }
 
     /// Has readers come through this listener, if there is one.
@@ -72,4 +81,14 @@ impl Desk {
         let (stream, _address) = self.listener.as_ref()?.accept().ok()?;
         Visitor::new(stream)
     }
+}
+
+/// Returns the present time in seconds since 1970, or 0 if the clock is set before that.
+fn present() -> u64 {
+    let mut time = timespec {
+        tv_sec: 0,
+        tv_nsec: 0,
+    };
+    clock_gettime(CLOCK_REALTIME, &mut time);
+    u64::try_from(time.tv_sec).unwrap_or(0)
 }

@@ -17,3 +17,6 @@ pub use listening::{Input, Listens};
 pub use serving::{MAX_CLIENTS, serve_from, serve_listener, serve_on};
 pub use sysv_engine::{Ended, Patience, ServeFault, Sums};
 pub use terms::Terms;
+
+/// The version of the server and of its clients.
+pub const VERSION: &str = "0.2.0";

@@ -2,6 +2,7 @@
 ghost use Rattle.std.specs.Prelude.{◌≡◌, ◌≤◌, ◌+◌};
 ghost use Rattle.sysv_engine.specs.Looks.{Looks};
 
+use crate::VERSION;
 use itoa::{Buffer, Integer};
 use std::alloc::Global;
 use std::sync::Wait;
@@ -30,7 +31,13 @@ enum Kind {
 type Metric = (&'static str, &'static str, Kind, &'static str);
 
 /// The numbers of a server, in the order of `numbers`.
-const OF_SERVER: [Metric; 13] = [
+const OF_SERVER: [Metric; 14] = [
+    (
+        "start_time_seconds",
+        "sysvmsg_start_time_seconds",
+        Kind::Gauge,
+        "The time at which the server started, in seconds since 1970.",
+    ),
     (
         "sessions",
         "sysvmsg_sessions_open",
@@ -111,8 +118,16 @@ const OF_SERVER: [Metric; 13] = [
     ),
 ];
 
-/// The numbers of a queue, in the order of `Queue::numbers`.
-const OF_QUEUE: [Metric; 6] = [
+/// The version of the server.
+const BUILD: Metric = (
+    "version",
+    "sysvmsg_build_info",
+    Kind::Gauge,
+    "The version of the server, as a label.",
+);
+
+/// The numbers of a queue, in the order of `Slot::of_queue`.
+const OF_QUEUE: [Metric; 4] = [
     (
         "bytes",
         "sysvmsg_queue_bytes",
@@ -124,18 +139,6 @@ const OF_QUEUE: [Metric; 6] = [
         "sysvmsg_queue_messages",
         Kind::Gauge,
         "Messages on the queue.",
-    ),
-    (
-        "sent_total",
-        "sysvmsg_queue_sent_total",
-        Kind::Counter,
-        "Messages that were sent to the queues of this slot.",
-    ),
-    (
-        "taken_total",
-        "sysvmsg_queue_taken_total",
-        Kind::Counter,
-        "Messages that receives took from the queues of this slot.",
     ),
     (
         "waiting_receives",
@@ -151,25 +154,52 @@ const OF_QUEUE: [Metric; 6] = [
     ),
 ];
 
-/// A live queue.
+/// The numbers of a slot, in the order of `Slot::of_slot`. They go on over the queues that are in
+/// the slot one after another.
+const OF_SLOT: [Metric; 2] = [
+    (
+        "sent_total",
+        "sysvmsg_slot_sent_total",
+        Kind::Counter,
+        "Messages that were sent to the queues of the slot, also to those that are removed.",
+    ),
+    (
+        "taken_total",
+        "sysvmsg_slot_taken_total",
+        Kind::Counter,
+        "Messages that receives took from the queues of the slot, also from those that are removed.",
+    ),
+];
+
+/// A slot that has a live queue, or had messages.
 #[derive(Clone, Copy)]
-struct Queue {
-    row: Row,
+struct Slot {
+    slot: u32,
+    /// The live queue, if there is one.
+    queue: Option<Row>,
     counts: SlotCounts,
 }
 
-impl Queue {
-    /// Returns the numbers of the queue, in the order of `OF_QUEUE`.
-    fn numbers(&self) -> [u64; OF_QUEUE.len()] {
+impl Slot {
+    /// Returns the numbers of the live queue, in the order of `OF_QUEUE`.
+    fn of_queue(&self, row: &Row) -> [u64; OF_QUEUE.len()] {
         let SlotCounts {
-            arrived,
-            freed,
             receives,
             sends,
+            ..
         } = self.counts;
-        let bytes = u64::from(self.row.cbytes);
-        let messages = u64::from(self.row.qnum);
-        [bytes, messages, arrived, freed, receives, sends]
+        [u64::from(row.cbytes), u64::from(row.qnum), receives, sends]
+    }
+
+    /// Returns the numbers of the slot, in the order of `OF_SLOT`.
+    fn of_slot(&self) -> [u64; OF_SLOT.len()] {
+        let SlotCounts { arrived, freed, .. } = self.counts;
+        [arrived, freed]
+    }
+
+    /// Returns whether the slot has had messages.
+    fn is_used(&self) -> bool {
+        self.counts.arrived > 0 || self.counts.freed > 0
     }
 }
 
@@ -182,13 +212,15 @@ pub(crate) struct Admission {
     pub(crate) accepted: u64,
     /// Whether a client waits to be accepted.
     pub(crate) has_waiting: bool,
+    /// The time at which the server started, in seconds since 1970.
+    pub(crate) started: u64,
 }
 
 /// The state of a server.
 #[derive(Drop)]
 pub(crate) struct State {
     numbers: [u64; OF_SERVER.len()],
-    queues: Vec<Queue>,
+    slots: Vec<Slot>,
 }
 
 impl State {
@@ -202,16 +234,20 @@ impl State {
     ) -> Option<State>
         ensures { Looks rows.old rows.new }
     {
-        let mut queues = Vec::new(alloc);
+        let mut slots = Vec::new(alloc);
         for slot in 0..SLOTS {
-            if let Some(row) = rows.row(slot as u32) {
-                let counts = server.at_slot(slot);
-                queues.push(Queue { row, counts }).ok()?;
+            let found = Slot {
+                slot: slot as u32,
+                queue: rows.row(slot as u32),
+                counts: server.at_slot(slot),
+            };
+            if found.queue.is_some() || found.is_used() {
+                slots.push(found).ok()?;
             }
         }
         Some(State {
             numbers: numbers(&server.counted(), admission),
-            queues,
+            slots,
         })
     }
 
@@ -229,6 +265,11 @@ impl State {
 
     /// Appends the state in the text format of Prometheus.
     fn metrics(&self, text: &mut Text) -> Option<()> {
+        text.head(&BUILD)?;
+        text.put(BUILD.1)?;
+        text.put("{version=\"")?;
+        text.put(VERSION)?;
+        text.put("\"} 1\n")?;
         for (metric, number) in OF_SERVER.iter().zip(self.numbers) {
             text.head(metric)?;
             text.put(metric.1)?;
@@ -239,46 +280,111 @@ impl State {
         for (at, metric) in OF_QUEUE.iter().enumerate() {
             self.metric_of_queues(text, metric, at)?;
         }
+        for (at, metric) in OF_SLOT.iter().enumerate() {
+            self.metric_of_slots(text, metric, at)?;
+        }
         Some(())
     }
 
-    /// Appends one number of each queue in the text format of Prometheus.
+    /// Appends one number of each live queue in the text format of Prometheus.
     fn metric_of_queues(&self, text: &mut Text, metric: &Metric, at: usize) -> Option<()> {
-        if self.queues.is_empty() {
-            return Some(());
+        let mut is_first = true;
+        for slot in &self.slots {
+            if let Some(row) = &slot.queue {
+                if is_first {
+                    text.head(metric)?;
+                }
+                is_first = false;
+                text.put(metric.1)?;
+                text.put("{key=\"")?;
+                text.key(row.key)?;
+                text.put("\",msqid=\"")?;
+                text.digits(row.id)?;
+                text.put("\",slot=\"")?;
+                text.digits(slot.slot)?;
+                text.put("\"} ")?;
+                text.digits(slot.of_queue(row).get(at).copied().unwrap_or(0))?;
+                text.put("\n")?;
+            }
         }
-        text.head(metric)?;
-        for queue in &self.queues {
-            text.put(metric.1)?;
-            text.put("{key=\"")?;
-            text.key(queue.row.key)?;
-            text.put("\",msqid=\"")?;
-            text.digits(queue.row.id)?;
-            text.put("\"} ")?;
-            text.digits(queue.numbers().get(at).copied().unwrap_or(0))?;
-            text.put("\n")?;
+        Some(())
+    }
+
+    /// Appends one number of each slot that has had messages in the text format of Prometheus.
+    fn metric_of_slots(&self, text: &mut Text, metric: &Metric, at: usize) -> Option<()> {
+        let mut is_first = true;
+        for slot in &self.slots {
+            if slot.is_used() {
+                if is_first {
+                    text.head(metric)?;
+                }
+                is_first = false;
+                text.put(metric.1)?;
+                text.put("{slot=\"")?;
+                text.digits(slot.slot)?;
+                text.put("\"} ")?;
+                text.digits(slot.of_slot().get(at).copied().unwrap_or(0))?;
+                text.put("\n")?;
+            }
         }
         Some(())
     }
 
     /// Appends the state as a JSON object and an LF.
     fn json(&self, text: &mut Text) -> Option<()> {
-        text.put("{")?;
+        text.put("{\"version\":\"")?;
+        text.put(VERSION)?;
+        text.put("\",")?;
         text.members(&OF_SERVER, &self.numbers)?;
         text.put(",\"queues\":[")?;
-        for (at, queue) in self.queues.iter().enumerate() {
-            if at > 0 {
-                text.put(",")?;
-            }
-            text.put("{\"key\":\"")?;
-            text.key(queue.row.key)?;
-            text.put("\",\"msqid\":")?;
-            text.digits(queue.row.id)?;
-            text.put(",")?;
-            text.members(&OF_QUEUE, &queue.numbers())?;
-            text.put("}")?;
-        }
+        self.json_of_queues(text)?;
+        text.put("],\"slots\":[")?;
+        self.json_of_slots(text)?;
         text.put("]}\n")
+    }
+
+    /// Appends an object per live queue, with commas between them.
+    fn json_of_queues(&self, text: &mut Text) -> Option<()> {
+        let mut is_first = true;
+        for slot in &self.slots {
+            if let Some(row) = &slot.queue {
+                text.put(if is_first {
+                    "{\"key\":\""
+                } else {
+                    ",{\"key\":\""
+                })?;
+                is_first = false;
+                text.key(row.key)?;
+                text.put("\",\"msqid\":")?;
+                text.digits(row.id)?;
+                text.put(",\"slot\":")?;
+                text.digits(slot.slot)?;
+                text.put(",")?;
+                text.members(&OF_QUEUE, &slot.of_queue(row))?;
+                text.put("}")?;
+            }
+        }
+        Some(())
+    }
+
+    /// Appends an object per slot that has had messages, with commas between them.
+    fn json_of_slots(&self, text: &mut Text) -> Option<()> {
+        let mut is_first = true;
+        for slot in &self.slots {
+            if slot.is_used() {
+                text.put(if is_first {
+                    "{\"slot\":"
+                } else {
+                    ",{\"slot\":"
+                })?;
+                is_first = false;
+                text.digits(slot.slot)?;
+                text.put(",")?;
+                text.members(&OF_SLOT, &slot.of_slot())?;
+                text.put("}")?;
+            }
+        }
+        Some(())
     }
 }
 
@@ -297,8 +403,10 @@ fn numbers(counted: &Counted, admission: &Admission) -> [u64; OF_SERVER.len()] {
         blocks,
         accepted,
         has_waiting,
+        started,
     } = *admission;
     [
+        started,
         accepted.saturating_sub(over),
         at_once,
         accepted,

@@ -23,8 +23,21 @@ const ASK_MILLIS: u32 = 1_000;
 /// How long a reader may take to read the answer, in milliseconds.
 const TELL_MILLIS: u32 = 2_000;
 
-/// What is asked for over HTTP begins so.
-const HTTP: &[u8] = b"GET ";
+/// The methods of HTTP that are carried out.
+const GET: &[u8] = b"GET ";
+
+const HEAD: &[u8] = b"HEAD ";
+
+/// The other methods of HTTP. They are refused.
+const REFUSED: [&[u8]; 7] = [
+    b"POST ",
+    b"PUT ",
+    b"DELETE ",
+    b"OPTIONS ",
+    b"PATCH ",
+    b"TRACE ",
+    b"CONNECT ",
+];
 
 /// What is asked for as a JSON object begins so.
 const JSON: &[u8] = b"json";
@@ -52,6 +65,8 @@ pub(crate) struct View<'v> {
     pub(crate) blocks: u32,
     /// The number of clients that were accepted.
     pub(crate) accepted: u64,
+    /// The time at which the server started, in seconds since 1970.
+    pub(crate) started: u64,
 }
 
 impl View<'_> {
@@ -65,11 +80,13 @@ impl View<'_> {
             listener,
             blocks,
             accepted,
+            started,
         } = self;
         let admission = Admission {
             blocks,
             accepted,
             has_waiting: has_come(listener),
+            started,
         };
         let state = State::read(alloc, server, rows, &admission)?;
         state.text(alloc, form)
@@ -93,11 +110,26 @@ pub(crate) struct Visitor {
 
 /// What a reader wants.
 #[derive(Clone, Copy, PartialEq, Eq)]
-struct Wanted {
-    /// The form of the report, or `None` for what there is not.
-    form: Option<Form>,
-    /// Whether the answer has a header of HTTP.
-    http: bool,
+enum Wanted {
+    /// A report without a header.
+    Plain(Form),
+    /// An answer of HTTP.
+    Http {
+        found: Found,
+        /// Whether the answer has a body, and not only its header.
+        has_body: bool,
+    },
+}
+
+/// What a request of HTTP has found.
+#[derive(Clone, Copy, PartialEq, Eq)]
+enum Found {
+    /// A report.
+    Report(Form),
+    /// A path at which there is nothing.
+    Nothing,
+    /// A method that is refused.
+    NoMethod,
 }
 
 impl Visitor {
@@ -184,7 +216,7 @@ impl Visitor {
     /// Returns whether it has asked, or its time to do so is over.
     fn has_asked(&self) -> bool {
         let asked = self.asked();
-        let is_whole = if asked.starts_with(HTTP) {
+        let is_whole = if is_http(asked) {
             has_blank_line(asked)
         } else {
             asked.contains(&b'\n')
@@ -195,20 +227,20 @@ impl Visitor {
     /// Returns what it wants.
     fn wanted(&self) -> Wanted {
         let asked = self.asked();
-        match asked.strip_prefix(HTTP) {
-            Some(path) => Wanted {
-                form: form_at(word(path)),
-                http: true,
-            },
-            None => Wanted {
-                form: Some(if asked.starts_with(JSON) {
-                    Form::Json
-                } else {
-                    Form::Metrics
-                }),
-                http: false,
-            },
+        if let Some(path) = asked.strip_prefix(GET) {
+            return Wanted::http(found_at(path), true);
         }
+        if let Some(path) = asked.strip_prefix(HEAD) {
+            return Wanted::http(found_at(path), false);
+        }
+        if is_http(asked) {
+            return Wanted::http(Found::NoMethod, true);
+        }
+        Wanted::Plain(if asked.starts_with(JSON) {
+            Form::Json
+        } else {
+            Form::Metrics
+        })
     }
 
     /// Writes what the connection takes now. Returns whether something is left to be written.
@@ -233,53 +265,94 @@ impl Visitor {
 }
 
 impl Wanted {
+    /// Returns what a request of HTTP wants that has found this.
+    fn http(found: Found, has_body: bool) -> Wanted {
+        Wanted::Http { found, has_body }
+    }
+
     /// Returns the answer. Returns `None` if memory is refused.
+    #[tactic(auto, using(sysv_engine::proofs::Looking::looks_stay))]
     fn answer<R: Wait>(self, view: View<'_>, rows: &mut Rows<'_, R>) -> Option<Vec<u8>>
         ensures { Looks rows.old rows.new }
     {
-        let text = self.text(view, rows)?;
-        if !self.http {
-            return Some(text);
+        match self {
+            Wanted::Plain(form) => view.text(rows, form),
+            Wanted::Http { found, has_body } => found.answer(view, rows, has_body),
         }
+    }
+}
+
+impl Found {
+    /// Returns the answer of HTTP, with its body or without it. Returns `None` if memory is refused.
+    fn answer<R: Wait>(
+        self,
+        view: View<'_>,
+        rows: &mut Rows<'_, R>,
+        has_body: bool,
+    ) -> Option<Vec<u8>>
+        ensures { Looks rows.old rows.new }
+    {
+        let text = self.text(view, rows)?;
         let head = format!(in view.alloc;
-            "HTTP/1.0 {}\r\nContent-Type: {}\r\nContent-Length: {}\r\nConnection: close\r\n\r\n",
+            "HTTP/1.0 {}\r\nContent-Type: {}\r\nContent-Length: {}\r\n{}Connection: close\r\n\r\n",
             self.status(),
             self.content(),
-            text.len()
+            text.len(),
+            self.allowed()
         )
         .ok()?;
         let mut answer = Vec::new(view.alloc);
         answer.extend_from_slice(head.as_bytes()).ok()?;
-        answer.extend_from_slice(&text).ok()?;
+        if has_body {
+            answer.extend_from_slice(&text).ok()?;
+        }
         Some(answer)
     }
 
-    /// Returns the answer without a header. Returns `None` if memory is refused.
+    /// Returns the body of the answer. Returns `None` if memory is refused.
     #[tactic(auto, using(sysv_engine::proofs::Looking::looks_stay))]
     fn text<R: Wait>(self, view: View<'_>, rows: &mut Rows<'_, R>) -> Option<Vec<u8>>
         ensures { Looks rows.old rows.new }
     {
-        match self.form {
-            Some(form) => view.text(rows, form),
-            None => Some(Vec::new(view.alloc)),
+        match self {
+            Found::Report(form) => view.text(rows, form),
+            Found::Nothing | Found::NoMethod => Some(Vec::new(view.alloc)),
         }
     }
 
-    /// Returns the status of an answer with a header.
+    /// Returns the status of the answer.
     fn status(self) -> &'static str {
-        match self.form {
-            Some(_) => "200 OK",
-            None => "404 Not Found",
+        match self {
+            Found::Report(_) => "200 OK",
+            Found::Nothing => "404 Not Found",
+            Found::NoMethod => "405 Method Not Allowed",
         }
     }
 
-    /// Returns the type of the content of an answer with a header.
+    /// Returns the type of the content of the answer.
     fn content(self) -> &'static str {
-        match self.form {
-            Some(Form::Json) => "application/json",
-            Some(Form::Metrics) | None => "text/plain; version=0.0.4; charset=utf-8",
+        match self {
+            Found::Report(Form::Json) => "application/json",
+            Found::Report(Form::Metrics) | Found::Nothing | Found::NoMethod => {
+                "text/plain; version=0.0.4; charset=utf-8"
+            }
         }
     }
+
+    /// Returns the line of the header that names the methods, after a method that is refused.
+    fn allowed(self) -> &'static str {
+        match self {
+            Found::NoMethod => "Allow: GET, HEAD\r\n",
+            Found::Report(_) | Found::Nothing => "",
+        }
+    }
+}
+
+/// Returns whether a request is one of HTTP: it begins with a method.
+fn is_http(asked: &[u8]) -> bool {
+    asked.starts_with(GET)
+        || asked.starts_with(HEAD)
+        || REFUSED.iter().any(|method| asked.starts_with(method))
 }
 
 /// Returns whether a read or a write may succeed later.
@@ -301,12 +374,19 @@ fn word(bytes: &[u8]) -> &[u8] {
     bytes.get(..end).unwrap_or(bytes)
 }
 
-/// Returns the form of the report at a path of HTTP.
-fn form_at(path: &[u8]) -> Option<Form> {
+/// Returns what is at a path of HTTP, which the rest of a request begins with. A query does not
+/// matter.
+fn found_at(rest: &[u8]) -> Found {
+    let target = word(rest);
+    let end = target
+        .iter()
+        .position(|byte| *byte == b'?')
+        .unwrap_or(target.len());
+    let path = target.get(..end).unwrap_or(target);
     for (known, form) in PATHS {
         if path == known {
-            return Some(form);
+            return Found::Report(form);
         }
     }
-    None
+    Found::Nothing
 }

@@ -13,12 +13,12 @@ use clap::error::ErrorKind;
 use scripts::answer_script;
 use serving::serve_at;
 use std::fs::File;
-use std::io::Eprint;
+use std::io::{Eprint, IsTerminal};
 use std::os::fd::{AsRawFd, RawFd};
 use std::process::ExitCode;
 use std::{env, io};
 use sysv_clients::Command;
-use sysv_connect::{How, Looking, Socket, look_at, run_as, say};
+use sysv_connect::{How, Looking, Screen, Socket, Telling, look_at, run_as, say};
 use sysv_options::{Asked, credentials, no_text, own, read_words, wants_me, wants_stderr};
 
 /// The exit status if the command line is not valid.
@@ -32,7 +32,10 @@ fn main(rt: HostRuntime) -> ExitCode {
     let words = match env::args(&rt) {
         Ok(words) => words,
         Err(why) if why.kind() == io::ErrorKind::OutOfMemory => return say(&rt, "no memory"),
-        Err(_) => return tell(&rt, &no_text(rt.alloc()), wants_stderr(&rt)),
+        Err(_) => {
+            let telling = telling_in(&rt, Telling::Line);
+            return tell(&rt, &no_text(rt.alloc()), telling);
+        }
     };
     let Ok(words) = words.collect::<Vec<String>>(rt.alloc()) else {
         return say(&rt, "no memory");
@@ -53,8 +56,12 @@ fn main(rt: HostRuntime) -> ExitCode {
             run_client(&rt, path, &Command { cred, task }, how)
         }
         Err(error) => {
-            let is_aside = has_stderr(words.as_slice()) || wants_stderr(&rt);
-            tell(&rt, &error, is_aside)
+            let asked = if has_stderr(words.as_slice()) {
+                Telling::Sentence
+            } else {
+                Telling::Line
+            };
+            tell(&rt, &error, telling_in(&rt, asked))
         }
     }
 }
@@ -68,7 +75,7 @@ fn run_client(rt: &HostRuntime, path: &str, command: &Command<'_>, how: How) -> 
     requires { HasShortText command.now.task }
 {
     let how = How {
-        stderr: how.stderr || wants_stderr(rt),
+        telling: telling_in(rt, how.telling),
         ..how
     };
     let mut stream = None;
@@ -77,14 +84,14 @@ fn run_client(rt: &HostRuntime, path: &str, command: &Command<'_>, how: How) -> 
         path,
         stream: &mut stream,
     };
-    let mut screen = io::writer(rt);
+    let mut screen = Screen::new(io::writer(rt));
     run_as(rt, &mut rt.stdin(), place, path, command, &how, &mut screen)
 }
 
 /// Prints the state of a server.
 fn look(rt: &HostRuntime, looking: Looking<'_>) -> ExitCode {
     let looking = Looking {
-        is_aside: looking.is_aside || wants_stderr(rt),
+        telling: telling_in(rt, looking.telling),
         ..looking
     };
     let mut stream = None;
@@ -93,7 +100,20 @@ fn look(rt: &HostRuntime, looking: Looking<'_>) -> ExitCode {
         path: looking.path,
         stream: &mut stream,
     };
-    look_at(rt, place, &looking, &mut io::writer(rt))
+    look_at(rt, place, &looking, &mut Screen::new(io::writer(rt)))
+}
+
+/// Returns how faults are told in this environment, if the words ask for `asked`: by sentences alone
+/// if the words or the environment want that, and else by lines, with a sentence for each if
+/// standard output is no terminal.
+fn telling_in(rt: &HostRuntime, asked: Telling) -> Telling {
+    if !asked.has_line() || wants_stderr(rt) {
+        Telling::Sentence
+    } else if rt.stdout().is_terminal() {
+        Telling::Line
+    } else {
+        Telling::Both
+    }
 }
 
 /// Opens a stand-in for a closed standard stream, so that no socket gets its descriptor. A read
@@ -117,8 +137,8 @@ fn has_stderr(words: &[String]) -> bool {
 }
 
 /// Prints why a command line is not valid, or the help or the version that it requests. The former
-/// is printed on standard error if `is_aside` is true.
-fn tell(rt: &(impl Print + Eprint), error: &Error, is_aside: bool) -> ExitCode {
+/// is printed on standard output, on standard error, or on both.
+fn tell(rt: &(impl Print + Eprint), error: &Error, telling: Telling) -> ExitCode {
     match error.kind() {
         ErrorKind::OutOfMemory => say(rt, "no memory"),
         ErrorKind::DisplayHelp | ErrorKind::DisplayVersion => {
@@ -126,11 +146,12 @@ fn tell(rt: &(impl Print + Eprint), error: &Error, is_aside: bool) -> ExitCode {
             ExitCode::SUCCESS
         }
         _ => {
-            let _ = if is_aside {
-                eprint!(rt; "{error}")
-            } else {
-                rt.print(error)
-            };
+            if telling.has_line() {
+                let _ = rt.print(error);
+            }
+            if telling.has_sentence() {
+                let _ = eprint!(rt; "{error}");
+            }
             ExitCode::from(NOT_UNDERSTOOD)
         }
     }

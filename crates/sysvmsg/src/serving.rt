@@ -20,6 +20,7 @@ use std::sync::Wait;
 use std::thread::Threads;
 use std::{fs, io};
 use sysv_connect::{FAULT, complain, say};
+use sysv_model::BLOCK_BYTES;
 use sysv_options::Serving;
 use sysv_server::{
     Ended, Host, MAX_CLIENTS, Notice, Reason, ServeFault, Sums, Terms, serve_listener,
@@ -38,8 +39,8 @@ struct Reporter<'a, R> {
 }
 
 impl<R: Eprint> Reporter<'_, R> {
-    /// Reports that the server listens, how many clients it serves at once and how many blocks it
-    /// has. If there are fewer descriptors than the clients that were asked for, that is reported
+    /// Reports that the server listens, how many clients it serves at once and how many short
+    /// messages it has blocks for. If there are fewer descriptors than the clients that were asked for, that is reported
     /// too.
     fn announce(&self) {
         let Reporter {
@@ -52,7 +53,8 @@ impl<R: Eprint> Reporter<'_, R> {
         let blocks = serving.terms.blocks;
         if takes_line() {
             let _ = eprintln!(*rt;
-                "sysvmsg: serving {path}, up to {at_once} {sessions} at once, {blocks} blocks"
+                "sysvmsg: serving {path}, up to {at_once} {sessions} at once, \
+                {blocks} messages of {BLOCK_BYTES} bytes"
             );
         }
         let asked = serving.terms.at_once;

@@ -4,7 +4,7 @@ use clap::Error;
 use std::env;
 use std::process::Abort;
 use sysv_clients::{Form, Receipt, Target, Task};
-use sysv_connect::{How, Looking};
+use sysv_connect::{How, Looking, Telling};
 use sysv_model::Cred;
 use sysv_options::{
     Asked, Serving, SocketFile, Who, credentials, no_text, own, read_words, wants_me, wants_stderr,
@@ -27,7 +27,7 @@ const PLAIN: How = How {
     count: None,
     ahead: None,
     wait: None,
-    stderr: false,
+    telling: Telling::Line,
 };
 
 /// Parses a command line. Tolerates one refusal of memory.
@@ -117,7 +117,7 @@ fn a_receive_is_requested(rt: HostRuntime) {
     let who = Who { me: true, ..NOBODY };
     let how = How {
         count: Some(2),
-        stderr: true,
+        telling: Telling::Sentence,
         ..PLAIN
     };
     assert_asks(&rt, &words, client(who, task, how));
@@ -139,7 +139,7 @@ fn a_state_is_requested(rt: HostRuntime) {
         path: "./q.stats",
         json: true,
         wait: Some(0),
-        is_aside: false,
+        telling: Telling::Line,
     };
     let words = ["sysvmsg", "stats", "./q.stats", "--json", "--wait", "0"];
     assert_asks(&rt, &words, Asked::Look(looking));
@@ -186,21 +186,27 @@ const REFUSED: [(&[&str], &str); 16] = [
     (&["sysvmsg", "ipcs", ""], "a PATH has 1 to 107 bytes"),
     (
         &["sysvmsg", "serve", LONG, "--mode", "600"],
-        "with --mode a PATH has 1 to 103 bytes",
+        "invalid value of 104 bytes for '<PATH>': with --mode a PATH has 1 to 103 bytes",
     ),
     (
         &["sysvmsg", "serve", "./q", "--stats", "./q"],
         "PATH2 is PATH",
     ),
-    (&["sysvmsg", "snd", "./q", "0", "hello"], "a KEY is 1 to"),
-    (&["sysvmsg", "ipcs", "./q", "-i", "x"], "an ID is 0 to"),
     (
-        &["sysvmsg", "rcv", "./q", "7", "--type", "0"],
-        "a type is 1 to",
+        &["sysvmsg", "snd", "./q", "0", "hello"],
+        "invalid value '0' for '<KEY>': a KEY is 1 to",
     ),
     (
-        &["sysvmsg", "serve", "./q", "--blocks", "127"],
-        "blocks is 128 to 65536",
+        &["sysvmsg", "ipcs", "./q", "-i", "x"],
+        "invalid value 'x' for '-i <ID>': an ID is 0 to",
+    ),
+    (
+        &["sysvmsg", "rcv", "./q", "7", "--upto", "-1"],
+        "invalid value '-1' for '--upto <N>': a type is 1 to",
+    ),
+    (
+        &["sysvmsg", "serve", "./q", "--blocks", "x"],
+        "invalid value 'x' for '--blocks <B>': the number of blocks is 128 to 65536",
     ),
     (
         &["sysvmsg", "serve", "./q", "--workers", "17"],
@@ -211,8 +217,8 @@ const REFUSED: [(&[&str], &str); 16] = [
         "sessions at once is 1 to 16384",
     ),
     (
-        &["sysvmsg", "serve", "./q", "--idle", "4294967296"],
-        "seconds is 0 to 4294967295",
+        &["sysvmsg", "serve", "./q", "--idle", "0.5"],
+        "invalid value '0.5' for '--idle <SECONDS>': a whole number of seconds is 0 to 4294967295",
     ),
     (
         &["sysvmsg", "ipcmk", "./q", "9", "--mode", "1000"],
@@ -255,7 +261,8 @@ fn a_text_that_is_too_long_is_refused(rt: HostRuntime) {
         .repeat(rt.alloc(), 8257)
         .expect(&rt, "memory for a text");
     let words = ["sysvmsg", "snd", "./q", "7", text.as_str()];
-    assert_refused(&rt, &words, "a TEXT has at most 8256 bytes");
+    let why = "invalid value of 8257 bytes for '[TEXT]': a message has at most 8192 bytes";
+    assert_refused(&rt, &words, why);
 }
 
 #[test]

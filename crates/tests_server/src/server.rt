@@ -239,28 +239,48 @@ fn leaving(rt: &impl Net, path: &str) -> bool {
 /// The path of the socket on which a server shows its state.
 const STATE_PATH: &str = "state.socket";
 
-/// The state of a server with one session, which has sent a message of three bytes to queue 0 of
-/// key 7.
-const STATE: &[u8] = b"{\"sessions\":1,\"sessions_max\":2,\"sessions_total\":1,\
+/// The first bytes of the state of a server. A version follows, and the time of the start.
+const STATE_BEGINS: &[u8] = b"{\"version\":\"";
+
+/// The rest of the state of a server with one session, which has sent a message of three bytes to
+/// queue 0 of key 7.
+const STATE_ENDS: &[u8] = b",\"sessions\":1,\"sessions_max\":2,\"sessions_total\":1,\
     \"has_waiting_clients\":0,\"waiting_receives\":0,\"waiting_sends\":0,\"waiting_for_blocks\":0,\
     \"sent_total\":1,\"taken_total\":0,\"written_total\":0,\"lost_total\":0,\"blocks\":128,\
     \"free_blocks\":127,\
-    \"queues\":[{\"key\":\"0x00000007\",\"msqid\":0,\"bytes\":3,\"messages\":1,\"sent_total\":1,\
-    \"taken_total\":0,\"waiting_receives\":0,\"waiting_sends\":0}]}\n";
+    \"queues\":[{\"key\":\"0x00000007\",\"msqid\":0,\"slot\":0,\"bytes\":3,\"messages\":1,\
+    \"waiting_receives\":0,\"waiting_sends\":0}],\
+    \"slots\":[{\"slot\":0,\"sent_total\":1,\"taken_total\":0}]}\n";
 
-/// Returns whether a reader that asks for a JSON object reads this state, and nothing more.
-fn shows(rt: &impl Net, state: &[u8]) -> bool {
-    let mut read = [0u8; 512];
-    let read = &mut read[..state.len().min(512)];
-    match UnixStream::connect(rt, STATE_PATH) {
-        Ok(mut reader) => {
-            reader.write_all(b"json\n").is_ok()
-                && reader.read_exact(read).is_ok()
-                && &*read == state
-                && ends(&mut reader)
-        }
-        Err(_) => false,
+/// Returns whether a reader that asks for a JSON object reads that state.
+fn shows(rt: &impl Net) -> bool {
+    let mut read = [0u8; 1024];
+    let Ok(mut reader) = UnixStream::connect(rt, STATE_PATH) else {
+        return false;
+    };
+    if reader.write_all(b"json\n").is_err() {
+        return false;
     }
+    let length = read_to_end(&mut reader, &mut read);
+    match read.get(..length) {
+        Some(state) => state.starts_with(STATE_BEGINS) && state.ends_with(STATE_ENDS),
+        None => false,
+    }
+}
+
+/// Reads to the end, or until the buffer is full. Returns the number of bytes.
+fn read_to_end(reader: &mut UnixStream, buf: &mut [u8]) -> usize {
+    let mut length: usize = 0;
+    for _ in 0..buf.len() {
+        let Some(room) = buf.get_mut(length..) else {
+            return length;
+        };
+        match reader.read(room) {
+            Ok(0) | Err(_) => return length,
+            Ok(count) => length = length.saturating_add(count),
+        }
+    }
+    length
 }
 
 /// The state is read while a session is open. The reader tries again, since the server closes the
@@ -270,7 +290,7 @@ fn looking(rt: &impl Net, path: &str) -> bool {
         return false;
     };
     let sent = asks(&mut session, &[HELLO, CREATE, SEND], &[KNOWN, FOUND, SENT]);
-    let shown = shows(rt, STATE) || shows(rt, STATE);
+    let shown = shows(rt) || shows(rt);
     sent & shown & converses(rt, path, &[HELLO, RECEIVE_NOW], &[KNOWN, RECEIVED])
 }
 

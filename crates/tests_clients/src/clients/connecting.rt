@@ -5,7 +5,9 @@ use super::*;
 use std::io::Eprint;
 use std::process::ExitCode;
 use std::time::Duration;
-use sysv_connect::{FAULT, How, Leave, Looking, Place, complain, look_at, run_as, say};
+use sysv_connect::{
+    FAULT, How, Leave, Looking, Place, Screen, Telling, complain, look_at, run_as, say,
+};
 
 /// A place in memory. Its server has already sent its replies.
 #[derive(Drop)]
@@ -63,7 +65,7 @@ const PLAIN: How = How {
     count: None,
     ahead: None,
     wait: None,
-    stderr: false,
+    telling: Telling::Line,
 };
 
 /// A send of type 1 to key 7.
@@ -114,13 +116,13 @@ fn run(
     if dialogue.requests.len() > 0 {
         return exit;
     }
-    dialogue.screen.bytes.clear();
     run_once(rt, dialogue, input, &command, how)
 }
 
-/// Runs a client with this command at the place of a server, and returns how it ends.
+/// Runs a client with this command at the place of a server, with an empty screen. Returns how it
+/// ends.
 fn run_once(
-    rt: &(impl Print + Eprint + AllocGlobal),
+    rt: &(impl Print + Eprint + AllocGlobal + Abort),
     dialogue: &mut Dialogue,
     input: &mut Tape,
     command: &Command<'_>,
@@ -129,7 +131,10 @@ fn run_once(
     requires { HasShortText command.now.task }
 {
     let place = make_desk(&mut dialogue.replies, &mut dialogue.requests, how, true);
-    run_as(rt, input, place, "./q", command, how, &mut dialogue.screen)
+    let mut screen = Screen::new(Tape::new(rt, rt.alloc()));
+    let exit = run_as(rt, input, place, "./q", command, how, &mut screen);
+    dialogue.screen = screen.writer;
+    exit
 }
 
 #[test]
@@ -180,15 +185,8 @@ fn a_client_without_a_server_fails(rt: HostRuntime) {
         cred: WHO,
         task: LIST,
     };
-    let exit = run_as(
-        &rt,
-        &mut input,
-        place,
-        "./q",
-        &command,
-        &PLAIN,
-        &mut dialogue.screen,
-    );
+    let mut screen = Screen::new(Tape::new(&rt, rt.alloc()));
+    let exit = run_as(&rt, &mut input, place, "./q", &command, &PLAIN, &mut screen);
     assert_is(&rt, exit, ExitCode::from(FAULT));
 }
 
@@ -196,15 +194,18 @@ fn a_client_without_a_server_fails(rt: HostRuntime) {
 const STATE: &[u8] = b"sysvmsg_sessions_open 3\n";
 
 /// Shows the state of a server as a JSON object, and returns how that ends.
-fn look(rt: &(impl Print + Eprint + AllocGlobal), dialogue: &mut Dialogue) -> ExitCode {
+fn look(rt: &(impl Print + Eprint + AllocGlobal + Abort), dialogue: &mut Dialogue) -> ExitCode {
     let looking = Looking {
         path: "./q.stats",
         json: true,
         wait: None,
-        is_aside: false,
+        telling: Telling::Line,
     };
     let place = make_desk(&mut dialogue.replies, &mut dialogue.requests, &PLAIN, true);
-    look_at(rt, place, &looking, &mut dialogue.screen)
+    let mut screen = Screen::new(Tape::new(rt, rt.alloc()));
+    let exit = look_at(rt, place, &looking, &mut screen);
+    dialogue.screen = screen.writer;
+    exit
 }
 
 #[test]
@@ -224,4 +225,41 @@ fn a_state_is_requested_and_shown(rt: HostRuntime) {
 fn a_fault_is_reported(rt: HostRuntime) {
     complain(&rt, "./q", &io::Error::from(ErrorKind::NotFound), "");
     assert_is(&rt, say(&rt, "no server"), ExitCode::from(FAULT));
+}
+
+#[test]
+fn a_screen_remembers_how_it_failed(rt: HostRuntime) {
+    let mut bytes = [0; 3];
+    let mut screen = Screen::new(&mut bytes[..]);
+    assert_is(&rt, screen.write_all(b"abc").is_ok(), true);
+    assert_is(&rt, screen.flush().is_ok(), true);
+    assert_is(&rt, screen.failure.is_none(), true);
+    assert_is(&rt, screen.flushes, 1);
+    assert_is(&rt, screen.write_all(b"d").is_err(), true);
+    assert_is(&rt, screen.flushes, 1);
+}
+
+#[test]
+fn faults_are_told_by_a_line_or_a_sentence_or_both(rt: HostRuntime) {
+    for (telling, has_line, has_sentence) in [
+        (Telling::Line, true, false),
+        (Telling::Both, true, true),
+        (Telling::Sentence, false, true),
+    ] {
+        assert_is(&rt, telling.has_line(), has_line);
+        assert_is(&rt, telling.has_sentence(), has_sentence);
+    }
+}
+
+#[test]
+fn a_fault_is_told_aside(rt: HostRuntime) {
+    let mut dialogue = Dialogue::new(&rt, rt.alloc(), &[WELCOME]);
+    let mut input = Tape::new(&rt, rt.alloc());
+    let how = How {
+        telling: Telling::Sentence,
+        ..PLAIN
+    };
+    let exit = run(&rt, &mut dialogue, &mut input, RECEIVE_ANY, &how);
+    assert_is(&rt, exit, ExitCode::from(FAULT));
+    dialogue.assert_shown(&rt, b"", 0);
 }

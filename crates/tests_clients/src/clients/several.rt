@@ -1,7 +1,8 @@
 //! Lines that are sent as messages, and the removal of all queues.
 use super::*;
+use std::fmt::Display;
 use sysv_clients::{
-    ClientFault, Cut, Feed, Refusal, Sending, Unsent, remove_all, send_feed, send_lines,
+    ClientFault, Cut, Feed, Refusal, Sending, Stop, Unsent, remove_all, send_feed, send_lines,
 };
 use sysv_model::Errno;
 
@@ -320,4 +321,28 @@ fn a_removal_without_a_reply_ends_it(rt: HostRuntime) {
         let asked: &[&[u8]] = &[HELLO, FIRST, SECOND, REMOVE_SECOND];
         dialogue.assert_requests(&rt, rt.alloc(), asked);
     }
+}
+
+/// Asserts that a fault has this text. Tolerates one refusal of memory.
+fn assert_text<F: Display>(rt: &impl Abort, alloc: Global, fault: &F, wanted: &str) {
+    let text = match format!(in alloc; "{fault}") {
+        Ok(text) => text,
+        Err(_) => format!(in alloc; "{fault}").expect(rt, "a second try"),
+    };
+    assert_is(rt, text.as_str(), wanted);
+}
+
+#[test]
+fn ends_of_sessions_have_texts(rt: HostRuntime) {
+    let alloc = rt.alloc();
+    let refused = ClientFault::Refused(Errno::EPERM);
+    assert_text(&rt, alloc, &Stop::Fault(refused), "EPERM");
+    assert_text(&rt, alloc, &Stop::Screen, "cannot write");
+    assert_text(&rt, alloc, &Unsent::Fault(refused), "EPERM");
+    assert_text(&rt, alloc, &Unsent::Cut(LOST), "no reply");
+    let long = Unsent::Long { before: 2 };
+    assert_text(&rt, alloc, &long, "a line is too long after 2 lines");
+    assert_text(&rt, alloc, &Unsent::Many, "too many lines");
+    let unread = Unsent::Input(io::Error::from(ErrorKind::NotFound));
+    assert_text(&rt, alloc, &unread, "cannot read: entity not found");
 }

@@ -7,10 +7,6 @@ use Rattle.sysv_connect.proofs.connection.run_within.Goals as goal
 pub returns : goal.returns
 returns g c success =
     let done = c.show.ensures success in
-    let within = sym (to_z-of_z w32 c.status_within.result (record { sfits = c.status_within.type_inv })) ∙ done.0 in
-    let ended = c.status_within.ensures within in
-    let zero = sym (to_z-of_z w32 c.run_on-status.result (record { sfits = c.run_on-status.type_inv }))
-    ∙ ended in
-    let text = c.text_within-text.ensures ended ∙ c.as_slice.ensures.value in
-    shown_again c.args.command.now _ _ _ _ _ _ c.run_on-status.new.screen.items _ refl c.in-Ok.ensures.items text
-    (c.run_on-status.ensures zero) done.1
+    let zero = sym (to_z-of_z w32 c.run_on-status.result (record { sfits = c.run_on-status.type_inv })) ∙ done.0 in
+    shown_again c.args.command.now _ _ _ _ _ _ c.run_on-status.new.screen.items _ refl c.in-Ok.ensures.items
+    c.as_slice.ensures.value (c.run_on-status.ensures zero) done.1

@@ -1,0 +1,69 @@
+//! What keeps a message from its queue.
+use crate::link::Link;
+use crate::place::Leave;
+use bitflags::Flags as _;
+use std::alloc::Global;
+use std::io::Write;
+use sysv_model::{Body, Flags, Instrumented, QUEUE_MESSAGES, Stat};
+use sysv_wire::{Ask, ReplyContent, Request, Version, read_reply, write_request};
+
+/// What keeps a message from its queue.
+#[derive(Clone, Copy, PartialEq, Eq, Debug)]
+pub(crate) enum Room {
+    /// It does not fit on the queue, which has these attributes.
+    Queue(Stat),
+    /// The queue has room, but too few blocks of the server's pool are free.
+    Pool,
+}
+
+impl Room {
+    /// Returns what keeps a message of this number of bytes from a queue with these attributes.
+    fn lacking(stat: Stat, len: usize) -> Room {
+        let left = stat.qbytes.saturating_sub(stat.cbytes);
+        let has_bytes = u32::try_from(len).is_ok_and(|len| len <= left);
+        let has_place = u64::from(stat.qnum) < QUEUE_MESSAGES as u64;
+        if has_bytes && has_place {
+            Room::Pool
+        } else {
+            Room::Queue(stat)
+        }
+    }
+}
+
+/// Looks at the queue of this key after a message of `len` bytes was refused there for want of
+/// room. Returns what keeps it from the queue, or `None` if the server does not say.
+pub(crate) fn look<R: Leave, W: Write + Drop>(
+    alloc: Global,
+    link: &mut Link<R, W>,
+    key: i32,
+    len: usize,
+) -> Option<Room> {
+    let find = Ask::Get {
+        key,
+        flags: Flags::empty(),
+    };
+    let ReplyContent::Get { id } = answer(alloc, link, find)? else {
+        return None;
+    };
+    match answer(alloc, link, Ask::Stat { id })? {
+        ReplyContent::Stat(stat) => Some(Room::lacking(stat, len)),
+        _ => None,
+    }
+}
+
+/// Makes a request without a body, and returns the result in its reply, if there is one.
+fn answer<R: Leave, W: Write + Drop>(
+    alloc: Global,
+    link: &mut Link<R, W>,
+    ask: Ask,
+) -> Option<ReplyContent> {
+    let mut body = Body::open(alloc).ok()?;
+    let request = Request {
+        version: Version::Two,
+        ask,
+    };
+    write_request(&mut Instrumented::new(&mut link.writer), &request, &body).ok()?;
+    link.writer.flush().ok()?;
+    let reply = read_reply(&mut Instrumented::new(&mut link.reader), &mut body).ok()??;
+    (reply.op == ask.op().number()).then_some(reply.result)
+}

@@ -1,0 +1,54 @@
+//! Screens that remember how they failed.
+ghost use Rattle.std.specs.Prelude.{◌≡◌, None};
+
+use std::io;
+use std::io::Write;
+
+/// A writer that remembers why it failed last, and how often it was flushed.
+///
+/// Writes and flushes pass on unchanged.
+#[derive(Drop)]
+pub struct Screen<S> {
+    /// What is written to.
+    pub writer: S,
+    /// Why it failed last, if it has failed.
+    pub failure: Option<io::Error>,
+    /// The number of flushes that succeeded.
+    pub flushes: u64,
+}
+
+impl<S> Screen<S> {
+    /// Returns a screen that writes to `writer` and has not failed.
+    pub fn new(writer: S) -> Screen<S>
+        ensures writer { result.writer ≡ writer }
+        ensures failure { result.failure ≡ None }
+        ensures flushes { result.flushes ≡ 0 }
+    {
+        Screen {
+            writer,
+            failure: None,
+            flushes: 0,
+        }
+    }
+}
+
+impl<S: Write> Write for Screen<S> {
+    ghost contents = { λ screen. S.contents screen.writer };
+
+    fn write(&mut self, buf: &[u8]) -> io::Result<usize> {
+        let outcome = self.writer.write(buf);
+        if let Err(why) = &outcome {
+            self.failure = Some(*why);
+        }
+        outcome
+    }
+
+    fn flush(&mut self) -> io::Result<()> {
+        let outcome = self.writer.flush();
+        match &outcome {
+            Ok(()) => self.flushes = self.flushes.saturating_add(1),
+            Err(why) => self.failure = Some(*why),
+        }
+        outcome
+    }
+}
