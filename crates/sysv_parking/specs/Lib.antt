@@ -4,4 +4,6 @@ pub mod Places
 pub mod Due
 pub mod Barriers
 pub mod Lines
+pub mod Changes
 pub mod Looks
+pub mod Agenda

@@ -1,62 +1,145 @@
 //! Which parked calls are looked at.
-ghost use Rattle.std.specs.Prelude.{◌≡◌, ◌≢◌, ◌⊎◌, ◌↔◌, ℕ, None, Some, true, IsTrue, Option};
+ghost use Rattle.std.specs.Prelude.{◌≡◌, ◌≢◌, ◌⊎◌, ◌↔◌, ◌<◌, ℕ, None, Some, true, false, IsTrue, Option};
+ghost use Rattle.std.specs.List.{Contains};
+ghost use Rattle.sysv_parking.specs.Agenda.{Heeded, HeedsChange, IsHeedful, KeepsWork, TakesFirst};
 ghost use Rattle.sysv_parking.specs.Due.{is_due};
 ghost use Rattle.sysv_parking.specs.Barriers.{IsStopped};
 ghost use Rattle.sysv_parking.specs.Keys.{Names, line_of};
 ghost use Rattle.sysv_parking.specs.Lines.{Takes};
 ghost use Rattle.sysv_parking.specs.Looks.{AnAskerFound, IsHeeded, IsUnwanted, IsUnwantedIn, IsNaming, IsStep, IsStop, OnlyEnds, known_after};
-ghost use Rattle.sysv_parking.specs.Parking.{AreInLines, MovesOnly, Parking, key_at, why_at};
+ghost use Rattle.sysv_parking.specs.Parking.{AreInLines, MovesOnly, Parking, key_at, parked_at, why_at};
 
 use crate::barriers::Barriers;
 use crate::due::Why;
+use crate::envelope::Envelope;
 use crate::found::{Found, LookedFor};
 use crate::key::{Key, any_line, exact_line, except_line, up_to_line};
 use crate::lines::Lines;
 use sysv_keys::slot_of_id;
 use sysv_rules::qualifies;
 
-/// A worker, as those see it that decide which of its parked calls are looked at. `B` is what has
-/// it look.
+/// A worker, as those see it that decide which of its parked calls are looked at, and what it tells
+/// other workers. `B` is what has it look, and what the workers share.
 pub trait Calls<B> {
+    ghost use Rattle.sysv_parking.specs.Agenda.{Agenda};
+    ghost use Rattle.sysv_parking.specs.declared.changes.Change.{Change};
+    ghost use Rattle.sysv_parking.specs.declared.changes.Change.TheVariants.{Anything};
+    ghost use Rattle.sysv_parking.specs.declared.envelope.Envelope.{Envelope};
     ghost use Rattle.sysv_parking.specs.declared.found.Found.{Found};
     ghost use Rattle.sysv_parking.specs.declared.key.Key.{Key};
 
     /// What the worker keeps while its calls are looked at.
     ghost keeps: { Self → Self → Type 0 };
 
-    /// The lines of its parked calls.
-    ghost parking: { Self → Parking };
+    /// What the worker has still to do for its parked calls.
+    ghost agenda: { Self → Agenda };
 
     /// The call of this place, which waited for this, was looked at, with this result.
-    ghost looked: { Self → ℕ → Option Key → Found → Type 0 };
+    ghost looked: { ℕ → Option Key → Found → Type 0 };
+
+    /// The worker's calls were parked so at one moment.
+    ghost had: { Parking → Type 0 };
+
+    /// The worker of this number was sent this envelope.
+    ghost sent: { ℕ → Envelope → Type 0 };
+
+    /// The worker of this number was told of this change.
+    ghost told: { ℕ → Change → Type 0 };
+
+    /// There was no envelope for the worker at one moment.
+    ghost emptied: { Type 0 };
+
+    /// The worker looks for envelopes before it sleeps.
+    ghost awake: { Type 0 };
 
     /// Returns the lines of the parked calls.
     fn lines(&self) -> &Lines
-        ensures { result.now ≡ parking self.now };
+        ensures lines { result.now ≡ (agenda self.now).parking }
+        ensures had { had (agenda self.now).parking };
 
     /// Takes the first of the places that are due.
     fn take_due(&mut self) -> Option<(usize, Why)>
-        ensures takes { Takes result (parking self.old) (parking self.new) }
-        ensures looked { (place : ℕ) (key : Option Key) (found : Found) →
-            looked self.old place key found → looked self.new place key found }
+        ensures takes { Takes result (agenda self.old).parking (agenda self.new).parking }
+        ensures rest { agenda self.new
+            ≡ record (agenda self.old) { parking = (agenda self.new).parking } }
+        ensures keeps { keeps self.old self.new };
+
+    /// Takes a change that is to be heeded, and makes the parked calls due whose wait it may end.
+    /// Returns whether there was one.
+    fn heed_change(&mut self, by: &B) -> bool
+        ensures heeds { result ≡ true → HeedsChange (agenda self.old) (agenda self.new) }
+        ensures none { result ≡ false → IsHeedful (agenda self.new) }
+        ensures same { result ≡ false → agenda self.new ≡ agenda self.old }
         ensures keeps { keeps self.old self.new };
 
     /// Returns whether one more look is within the worker's share.
-    fn may_look(&self) -> bool;
+    fn may_look(&self) -> bool
+        ensures { result ≡ false → (agenda self.now).looks ≡ 0 };
 
     /// Looks whether the call of a place may go on, and has it go on. `mtype` is the type of the
     /// message for which it is looked at, or 0.
     fn look(&mut self, by: &B, place: usize, mtype: i64) -> Found
-        ensures look { looked self.new place (key_at (parking self.old) place) result }
-        ensures looked { (other : ℕ) (key : Option Key) (found : Found) →
-            looked self.old other key found → looked self.new other key found }
-        ensures moves { MovesOnly place (parking self.old) (parking self.new) }
-        ensures in_lines { AreInLines (parking self.new) }
-        ensures waits { result ≡ Found.Nothing →
-            key_at (parking self.new) place ≡ key_at (parking self.old) place }
+        ensures look { looked place (key_at (agenda self.old).parking place) result }
+        ensures moves { MovesOnly place (agenda self.old).parking (agenda self.new).parking }
+        ensures in_lines { AreInLines (agenda self.new).parking }
+        ensures waits { result ≡ Found.Nothing → key_at (agenda self.new).parking place
+            ≡ key_at (agenda self.old).parking place }
         ensures over { (result ≡ Found.Message) ⊎ (result ≡ Found.Over) →
-            key_at (parking self.new) place ≡ None }
+            key_at (agenda self.new).parking place ≡ None }
+        ensures work { KeepsWork (agenda self.old) (agenda self.new) }
         ensures keeps { keeps self.old self.new };
+
+    /// Takes the first of the envelopes that the worker keeps.
+    fn take_envelope(&mut self) -> Option<Envelope>
+        ensures takes { TakesFirst result (agenda self.old).envelopes
+            (agenda self.new).envelopes }
+        ensures rest { agenda self.new
+            ≡ record (agenda self.old) { envelopes = (agenda self.new).envelopes } }
+        ensures keeps { keeps self.old self.new };
+
+    /// Keeps an envelope, before all others. If memory is refused, all workers are told that
+    /// anything may have happened.
+    fn put_off(&mut self, by: &B, envelope: Envelope)
+        ensures one { Contains (agenda self.new).envelopes envelope
+            ⊎ ((worker : ℕ) → worker < 64 → told worker Anything) }
+        ensures work { KeepsWork (agenda self.old) (agenda self.new) }
+        ensures parking { (agenda self.new).parking ≡ (agenda self.old).parking }
+        ensures keeps { keeps self.old self.new };
+
+    /// Returns the number of the worker that looks first for the message of an envelope of this
+    /// worker.
+    fn first_for(&mut self, by: &B, envelope: &Envelope) -> usize
+        ensures same { agenda self.new ≡ agenda self.old }
+        ensures keeps { keeps self.old self.new };
+
+    /// Returns the worker's number.
+    fn number(&self) -> usize
+        ensures { result ≡ (agenda self.now).number };
+
+    /// Sends an envelope to a worker. Returns whether it has it: else it was told that anything may
+    /// have happened.
+    fn send(&self, by: &B, to: usize, envelope: Envelope) -> bool
+        ensures sent { result ≡ true → sent to envelope }
+        ensures told { result ≡ false → told to Anything };
+
+    /// Has it be known that no calls of this worker are parked under a word.
+    fn unmark(&self, by: &B, word: usize)
+        requires { parked_at (agenda self.now).parking word ≡ 0 };
+
+    /// Keeps the next envelope that was sent to this worker, after all others. Returns whether there
+    /// was one.
+    fn read_envelope(&mut self, by: &B) -> bool
+        ensures none { result ≡ false → emptied }
+        ensures work { KeepsWork (agenda self.old) (agenda self.new) }
+        ensures parking { (agenda self.new).parking ≡ (agenda self.old).parking }
+        ensures keeps { keeps self.old self.new };
+
+    /// Returns whether the worker keeps as many envelopes as it reads in a round.
+    fn is_laden(&self) -> bool;
+
+    /// Has the worker look for envelopes before it sleeps.
+    fn stay_awake(&self, by: &B)
+        ensures { awake };
 
     ghost keeps_itself: { (x : Self) → keeps x x };
 
@@ -66,8 +149,9 @@ pub trait Calls<B> {
 /// Looks at the calls that are due, except those that would still wait, as looks at others have
 /// shown. Those that are left once the share of looks is used up are still due.
 pub fn look_at_due<B, C: Calls<B>>(by: &B, calls: &mut C)
-    ensures heeded { (place : ℕ) → is_due (why_at (C.parking calls.old) place) ≡ true →
-        IsHeeded (C.looked calls.new) (C.parking calls.old) (C.parking calls.new) place }
+    ensures heeded { (place : ℕ) → is_due (why_at (C.agenda calls.old).parking place) ≡ true →
+        IsHeeded C.looked (C.agenda calls.old).parking (C.agenda calls.new).parking place }
+    ensures work { Heeded C.looked C.had C.sent C.told (C.agenda calls.old) (C.agenda calls.new) }
     ensures keeps { C.keeps calls.old calls.new }
 {
     let mut barriers = Barriers::new();
@@ -90,10 +174,10 @@ fn look_unless<B, C: Calls<B>>(
     place: usize,
     why: Why,
 )
-    ensures step { IsStep (C.looked calls.new) (C.parking calls.old) (C.parking calls.new)
+    ensures step { IsStep C.looked (C.agenda calls.old).parking (C.agenda calls.new).parking
         barriers.old barriers.new place why }
-    ensures looked { (other : ℕ) (key : Option Key) (found : Found) →
-        C.looked calls.old other key found → C.looked calls.new other key found }
+    ensures heeded { Heeded C.looked C.had C.sent C.told (C.agenda calls.old)
+        (C.agenda calls.new) }
     ensures keeps { C.keeps calls.old calls.new }
 {
     let key = calls.lines().key(place);
@@ -127,11 +211,13 @@ fn learn(barriers: &mut Barriers, found: Found, key: Option<Key>)
 /// the type or finds none.
 pub fn look_for_message<B, C: Calls<B>>(by: &B, calls: &mut C, slot: usize, mtype: i64) -> LookedFor
     ensures taken { result ≡ LookedFor.Taken →
-        AnAskerFound (C.looked calls.new) slot mtype Found.Message }
+        AnAskerFound C.looked slot mtype Found.Message }
     ensures gone { result ≡ LookedFor.Gone →
-        AnAskerFound (C.looked calls.new) slot mtype Found.Nothing }
+        AnAskerFound C.looked slot mtype Found.Nothing }
     ensures unwanted { result ≡ LookedFor.Unwanted →
-        IsUnwanted (C.parking calls.new) slot mtype }
+        IsUnwanted (C.agenda calls.new).parking slot mtype }
+    ensures had { result ≡ LookedFor.Unwanted → C.had (C.agenda calls.new).parking }
+    ensures work { Heeded C.looked C.had C.sent C.told (C.agenda calls.old) (C.agenda calls.new) }
     ensures keeps { C.keeps calls.old calls.new }
 {
     match look_along(by, calls, exact_line(slot, mtype), slot, mtype) {
@@ -158,13 +244,15 @@ fn look_along<B, C: Calls<B>>(
     mtype: i64,
 ) -> LookedFor
     ensures taken { result ≡ LookedFor.Taken →
-        AnAskerFound (C.looked calls.new) slot mtype Found.Message }
+        AnAskerFound C.looked slot mtype Found.Message }
     ensures gone { result ≡ LookedFor.Gone →
-        AnAskerFound (C.looked calls.new) slot mtype Found.Nothing }
+        AnAskerFound C.looked slot mtype Found.Nothing }
     ensures unwanted { result ≡ LookedFor.Unwanted →
-        IsUnwantedIn line_of line (C.parking calls.new) slot mtype }
+        IsUnwantedIn line_of line (C.agenda calls.new).parking slot mtype }
     ensures ends { result ≡ LookedFor.Unwanted →
-        OnlyEnds (C.parking calls.old) (C.parking calls.new) }
+        OnlyEnds (C.agenda calls.old).parking (C.agenda calls.new).parking }
+    ensures had { result ≡ LookedFor.Unwanted → C.had (C.agenda calls.new).parking }
+    ensures work { Heeded C.looked C.had C.sent C.told (C.agenda calls.old) (C.agenda calls.new) }
     ensures keeps { C.keeps calls.old calls.new }
 {
     let mut index: usize = 0;

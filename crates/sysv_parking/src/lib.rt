@@ -7,13 +7,19 @@
 
 mod barriers;
 mod calls;
+mod changes;
 mod due;
+mod envelope;
 mod found;
+mod heeding;
 mod key;
 mod lines;
 
 pub use calls::{Calls, look_at_due, look_for_message};
+pub use changes::{CHANGE_BITS, CHANGE_WORDS, Change, Changes};
 pub use due::Why;
+pub use envelope::Envelope;
 pub use found::{Found, LookedFor};
+pub use heeding::{heed_all, read_envelopes};
 pub use key::{BLOCKS_WORD, Caller, Key, SETTLED_WORD, WORDS, room_word};
 pub use lines::Lines;

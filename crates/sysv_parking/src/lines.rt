@@ -1,11 +1,13 @@
 //! The parked calls of a worker, by what they wait for.
 ghost use Rattle.std.specs.Prelude.{◌≡◌, ◌-◌, ◌≢◌, ◌↔◌, ◌++◌, ◌∷◌, ◌<◌, ◌≤◌, ℕ, [], None, Some, true, false, IfSome, IsTrue, IsSome, MatchOption, length, replicate, slice_index, slice_set, vec_len};
+ghost use Rattle.sysv_parking.specs.Changes.{Heeds};
 ghost use Rattle.sysv_parking.specs.Due.{both, by_all, by_raise, is_due as due, not_due, why_changed};
 ghost use Rattle.sysv_parking.specs.Keys.{bounded_sum, line_of, line_room};
 ghost use Rattle.sysv_parking.specs.Parking.{AreInLines, MovesOnly, key_at, line_at, parked_at, why_at};
 ghost use Rattle.sysv_parking.specs.Parking.{item_at};
 ghost use Rattle.sysv_parking.specs.Places.{Appends, EachIsEmpty, IsAt, IsNowhere, Removes, TakesOut, places_in};
 
+use crate::changes::Change;
 use crate::due::Why;
 use crate::key::{BLOCKS_LINE, Key, LINES, SETTLED_LINE, WORDS, room_line};
 use std::alloc::Global;
@@ -126,6 +128,19 @@ impl Lines {
         remove(&mut self.lines, self.alloc, key.line(), place);
         self.keys[place] = None;
         count_less(&mut self.counts, key.word());
+    }
+
+    /// Makes the parked calls due that a change may end.
+    pub fn heed(&mut self, change: Change)
+        ensures { Heeds change self.old self.new }
+    {
+        match change {
+            Change::Queue { slot } => self.note_change(slot),
+            Change::Room { slot } => self.note_room(slot),
+            Change::Blocks => self.note_blocks(),
+            Change::Settled => self.note_settled(),
+            Change::Anything => self.note_everything(),
+        }
     }
 
     /// Notes that the queue of a slot was set or removed: the calls that are parked there are due.

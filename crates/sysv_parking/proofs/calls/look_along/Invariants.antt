@@ -2,6 +2,7 @@
 -- were parked before.
 use Rattle.std.proofs.Common.{◌≡◌, ℕ, ◌<◌, get_or, Some}
 use Rattle.sysv_parking.specs.declared.key.Key.{Key}
+use Rattle.sysv_parking.specs.Agenda.{Heeded}
 use Rattle.sysv_parking.specs.Keys.{Names}
 use Rattle.sysv_parking.specs.Looks.{OnlyEnds}
 use Rattle.sysv_parking.specs.Parking.{key_at, line_at}
@@ -10,10 +11,12 @@ use Rattle.sysv_parking.proofs.calls.look_along.Given as goal
 
 abbrev pub invariant-loop : goal.invariant-loop
 invariant-loop g l =
-    let now = g.C.Calls.parking l.calls in
+    let now = (g.C.Calls.agenda l.calls).parking in
     record {
       keeps : g.C.Calls.keeps l.fn.calls l.calls;
-      ends : OnlyEnds (g.C.Calls.parking l.fn.calls) now;
+      work : Heeded g.C.Calls.looked g.C.Calls.had g.C.Calls.sent g.C.Calls.told (g.C.Calls.agenda l.fn.calls)
+        (g.C.Calls.agenda l.calls);
+      ends : OnlyEnds (g.C.Calls.agenda l.fn.calls).parking now;
       passed : (j : ℕ) → j < l.index → (key : Key) → key_at now (get_or (line_at now l.line) j 0) ≡ Some key →
           Names l.slot l.mtype key → ⊥;
     }

@@ -8,27 +8,33 @@ use Rattle.sysv_parking.specs.Keys.{line_any, line_except, line_exact, line_of, 
 use Rattle.sysv_parking.specs.Looks.{AnAskerFound, IsUnwanted, IsUnwantedIn}
 use Rattle.sysv_parking.specs.Parking.{Parking}
 use Rattle.sysv_parking.proofs.Walking.{unwanted_in_all}
+use Rattle.sysv_parking.proofs.Working.{heeds_on}
 use Rattle.sysv_parking.proofs.calls.look_for_message.Goals as goal
 
 pub returns-in_default-look_along : goal.returns-in_default-look_along
 returns-in_default-look_along g c =
     let e = to_z-of_z w64 c.args.mtype c.ranges.mtype in
-    let L = g.C.Calls.looked c.look_along-2.new.calls in
+    let L = g.C.Calls.looked in
     record {
       taken = λ is. subst (λ (t : ℤ). AnAskerFound L c.args.slot t found.Message) e (c.look_along-2.ensures.taken is);
       gone = λ is. subst (λ (t : ℤ). AnAskerFound L c.args.slot t found.Nothing) e (c.look_along-2.ensures.gone is);
       unwanted = λ is. absurd (c.in_default-look_along.not-Unwanted is);
+      had = λ is. absurd (c.in_default-look_along.not-Unwanted is);
+      work = heeds_on _ _ _ c.look_along.ensures.work c.look_along-2.ensures.work;
       keeps = g.met.C.Calls.keeps_on _ _ _ c.look_along.ensures.keeps c.look_along-2.ensures.keeps;
     }
 
 pub returns-in_default-look_along-2 : goal.returns-in_default-look_along-2
 returns-in_default-look_along-2 g c =
     let e = to_z-of_z w64 c.args.mtype c.ranges.mtype in
-    let L = g.C.Calls.looked c.look_along-3.new.calls in
+    let L = g.C.Calls.looked in
     record {
       taken = λ is. subst (λ (t : ℤ). AnAskerFound L c.args.slot t found.Message) e (c.look_along-3.ensures.taken is);
       gone = λ is. subst (λ (t : ℤ). AnAskerFound L c.args.slot t found.Nothing) e (c.look_along-3.ensures.gone is);
       unwanted = λ is. absurd (c.in_default-look_along-2.not-Unwanted is);
+      had = λ is. absurd (c.in_default-look_along-2.not-Unwanted is);
+      work = heeds_on _ _ _ c.look_along.ensures.work (heeds_on _ _ _ c.look_along-2.ensures.work
+          c.look_along-3.ensures.work);
       keeps = g.met.C.Calls.keeps_on _ _ _ c.look_along.ensures.keeps
           (g.met.C.Calls.keeps_on _ _ _ c.look_along-2.ensures.keeps c.look_along-3.ensures.keeps);
     }
@@ -36,10 +42,10 @@ returns-in_default-look_along-2 g c =
 pub returns-clause-unwanted : goal.returns-clause-unwanted
 returns-clause-unwanted g c =
     let m = to_z w64 (of_z w64 c.args.mtype) in
-    let one = g.C.Calls.parking c.look_along.new.calls in
-    let two = g.C.Calls.parking c.look_along-2.new.calls in
-    let three = g.C.Calls.parking c.look_along-3.new.calls in
-    let four = g.C.Calls.parking c.look_along-4.new.calls in
+    let one = (g.C.Calls.agenda c.look_along.new.calls).parking in
+    let two = (g.C.Calls.agenda c.look_along-2.new.calls).parking in
+    let three = (g.C.Calls.agenda c.look_along-3.new.calls).parking in
+    let four = (g.C.Calls.agenda c.look_along-4.new.calls).parking in
     λ is. subst (λ (t : ℤ). IsUnwanted four c.args.slot t) (to_z-of_z w64 c.args.mtype c.ranges.mtype)
     (unwanted_in_all c.args.slot m one two three four
     (subst (λ (n : ℕ). IsUnwantedIn line_of n one c.args.slot m) c.exact_line.ensures
@@ -53,3 +59,8 @@ returns-clause-unwanted g c =
     (subst (λ (n : ℕ). IsUnwantedIn line_of n four c.args.slot m) c.except_line.ensures
     (c.look_along-4.ensures.unwanted is))
     (c.look_along-4.ensures.ends is))
+
+pub returns-clause-work : goal.returns-clause-work
+returns-clause-work g c =
+    heeds_on _ _ _ c.look_along.ensures.work (heeds_on _ _ _ c.look_along-2.ensures.work
+    (heeds_on _ _ _ c.look_along-3.ensures.work c.look_along-4.ensures.work))

@@ -67,7 +67,7 @@ module _ (W : Key → Type 0) where
   alike caller Settled Settled a b = absurd a
 
   -- Its queue grants a call that is granted.
-  granted : (known : Barriers) (key : Key) → AreShown W known → IsGranted known key →
+  pub granted : (known : Barriers) (key : Key) → AreShown W known → IsGranted known key →
       (other : Key) × W other × IsGrantedAlike other key
   granted known (Message caller selector) shown is =
       let one = shown.reads caller is in (Message caller one.0, one.1, refl)
@@ -77,7 +77,7 @@ module _ (W : Key → Type 0) where
       let one = shown.writes caller is in (one.0, one.1, alike caller (Blocks caller length) one.0 one.2 refl)
   granted known Settled shown is = absurd is
 
-  lacking : (known : Barriers) (key : Key) → AreShown W known → IsLacking known key →
+  pub lacking : (known : Barriers) (key : Key) → AreShown W known → IsLacking known key →
       (other : Key) × W other × NeedsNoMore other key
   lacking known (Message caller selector) shown is = absurd is
   lacking known (Room caller length) shown is =

@@ -1,0 +1,115 @@
+-- What is done is done.
+use Rattle.std.proofs.Common.{rules, ◌≡◌, ◌∙◌, ◌⊎◌, ℕ, List, [], ◌∷◌, Option, None, Some, inl, inr, ap, sym, subst, arith, refl}
+use Rattle.std.specs.Prelude.{slice_index_or}
+use Rattle.std.specs.List.{Contains}
+use Rattle.std.proofs.lemmas.List.Elements.{Contains-append_cases}
+use Rattle.sysv_parking.specs.declared.due.Why.{Why}
+use Rattle.sysv_parking.specs.declared.envelope.Envelope.{Envelope}
+use Rattle.sysv_parking.specs.Agenda.{Agenda, Heeded, HeedsOne, IsAtRest, IsSpent, TakesFirst}
+use Rattle.sysv_parking.specs.Changes.{Holds, IsWithin}
+use Rattle.sysv_parking.specs.Lines.{NoneIsDue}
+use Rattle.sysv_parking.specs.Parking.{Parking, key_at, why_at}
+use Rattle.sysv_parking.proofs.heeding.heed_all.Given as given
+use Rattle.sysv_parking.proofs.Working.{heeds_on}
+use Rattle.sysv_parking.proofs.heeding.heed_all.Goals as goal
+
+pub loop-preserved-then-has_due : goal.loop-preserved-then-has_due
+loop-preserved-then-has_due g c = record {
+  runs = search rules;
+  keeps = g.met.C.Calls.keeps_on _ _ _ c.loop.invariant.keeps
+      (g.met.C.Calls.keeps_on _ _ _ c.heed_changes.ensures.keeps c.look_at_due.ensures.keeps);
+  heeded = heeds_on _ _ _ c.loop.invariant.heeded (heeds_on _ _ _ c.heed_changes.ensures.heeded c.look_at_due.ensures.work);
+}
+
+pub returns-then-not-may_look-clause-heeded : goal.returns-then-not-may_look-clause-heeded
+returns-then-not-may_look-clause-heeded g c = heeds_on _ _ _ c.loop.invariant.heeded c.heed_changes.ensures.heeded
+
+contains_one : (e envelope : Envelope) → Contains (envelope ∷ []) e → e ≡ envelope
+contains_one e envelope is =
+    let first : is.0 ≡ 0 = omega (arith, is.1) in
+    sym (subst (λ (n : ℕ). slice_index_or (envelope ∷ []) n e ≡ e) first is.2)
+
+-- The envelope that was taken is handled, and the others are kept.
+module _ (g : given.Over) (before taken after : Agenda) (envelope : Envelope)
+    (takes : before.envelopes ≡ envelope ∷ taken.envelopes)
+    (rest : taken ≡ record before { envelopes = taken.envelopes })
+    (heeds : HeedsOne g.C.Calls.looked g.C.Calls.had g.C.Calls.sent g.C.Calls.told envelope taken after) where
+  number : taken.number ≡ before.number
+  number = ap (λ (a : Agenda). a.number) rest
+
+  spent_before : (e : Envelope) → IsSpent g.C.Calls.looked g.C.Calls.had g.C.Calls.sent g.C.Calls.told taken.number e →
+      IsSpent g.C.Calls.looked g.C.Calls.had g.C.Calls.sent g.C.Calls.told before.number e
+  spent_before e = subst (λ (n : ℕ). IsSpent g.C.Calls.looked g.C.Calls.had g.C.Calls.sent g.C.Calls.told n e) number
+
+  one_heeds : Heeded g.C.Calls.looked g.C.Calls.had g.C.Calls.sent g.C.Calls.told before after
+  one_heeds = record {
+    number = heeds.heeded.number ∙ number;
+    owed = λ place key why owes. heeds.heeded.owed place key why (
+      ap (λ (a : Agenda). key_at a.parking place) rest ∙ owes.0,
+      elim owes.1 [
+        | inl due ↦ inl (subst (λ (w : Why). IsWithin why w)
+          (sym (ap (λ (a : Agenda). why_at a.parking place) rest)) due)
+        | inr change ↦ inr (change.0, change.1, subst (λ (words : List ℕ). Holds words change.0)
+          (sym (ap (λ (a : Agenda). a.changes) rest)) change.2, change.3)
+      ],
+    );
+    envelopes = λ e is. elim (Contains-append_cases (envelope ∷ []) taken.envelopes e
+        (subst (λ (es : List Envelope). Contains es e) takes is)) [
+      | inl first ↦ let same = contains_one e envelope first in
+          elim heeds.one [
+            | inl kept ↦ inl (subst (λ (x : Envelope). Contains after.envelopes x) (sym same) kept)
+            | inr spent ↦ inr (spent_before e (subst (λ (x : Envelope).
+              IsSpent g.C.Calls.looked g.C.Calls.had g.C.Calls.sent g.C.Calls.told taken.number x) (sym same) spent))
+          ]
+      | inr other ↦ elim (heeds.heeded.envelopes e other) [
+        | inl kept ↦ inl kept
+        | inr spent ↦ inr (spent_before e spent)
+      ]
+    ];
+  }
+
+pub loop-preserved : goal.loop-preserved
+loop-preserved g c =
+    let before = g.C.Calls.agenda c.heed_changes.new.calls in
+    let taken = g.C.Calls.agenda c.take_envelope.new.self in
+    let after = g.C.Calls.agenda c.send_off.new.calls in
+    let takes : before.envelopes ≡ c.in-Some-take_envelope.envelope ∷ taken.envelopes =
+    subst (λ (t : Option Envelope). TakesFirst t before.envelopes taken.envelopes) c.in-Some-take_envelope.is
+    c.take_envelope.ensures.takes in
+    record {
+      runs = search rules;
+      keeps = g.met.C.Calls.keeps_on _ _ _ c.loop.invariant.keeps
+          (g.met.C.Calls.keeps_on _ _ _ c.heed_changes.ensures.keeps
+          (g.met.C.Calls.keeps_on _ _ _ c.take_envelope.ensures.keeps c.send_off.ensures.keeps));
+      heeded = heeds_on _ _ _ c.loop.invariant.heeded (heeds_on _ _ _ c.heed_changes.ensures.heeded
+          (one_heeds g before taken after c.in-Some-take_envelope.envelope takes c.take_envelope.ensures.rest
+          c.send_off.ensures.heeds));
+    }
+
+none_taken : (before taken : Agenda) → TakesFirst None before.envelopes taken.envelopes →
+    taken ≡ record before { envelopes = taken.envelopes } → taken ≡ before
+none_taken before taken takes rest =
+    rest ∙ ap (λ (es : List Envelope). record before { envelopes = es }) (takes.1 ∙ sym takes.0)
+
+pub returns-in_default-clause-heeded : goal.returns-in_default-clause-heeded
+returns-in_default-clause-heeded g c =
+    let before = g.C.Calls.agenda c.heed_changes.new.calls in
+    let taken = g.C.Calls.agenda c.take_envelope.new.self in
+    let takes = subst (λ (t : Option Envelope). TakesFirst t before.envelopes taken.envelopes) c.in_default.is
+    c.take_envelope.ensures.takes in
+    subst (λ (a : Agenda). Heeded g.C.Calls.looked g.C.Calls.had g.C.Calls.sent g.C.Calls.told
+    (g.C.Calls.agenda c.args.calls.now) a) (sym (none_taken before taken takes c.take_envelope.ensures.rest))
+    (heeds_on _ _ _ c.loop.invariant.heeded c.heed_changes.ensures.heeded)
+
+pub returns-in_default-clause-rest : goal.returns-in_default-clause-rest
+returns-in_default-clause-rest g c =
+    let before = g.C.Calls.agenda c.heed_changes.new.calls in
+    let taken = g.C.Calls.agenda c.take_envelope.new.self in
+    let takes = subst (λ (t : Option Envelope). TakesFirst t before.envelopes taken.envelopes) c.in_default.is
+    c.take_envelope.ensures.takes in
+    let calls = subst (λ (p : Parking). NoneIsDue p) c.lines.ensures.lines (c.has_due.ensures.none c.if-has_due.false) in
+    inr (subst (λ (a : Agenda). IsAtRest a) (sym (none_taken before taken takes c.take_envelope.ensures.rest)) (record {
+      changes = c.heed_changes.ensures.none;
+      calls = calls;
+      envelopes = takes.0;
+    }))
