@@ -70,3 +70,6 @@ module _ (words : List ℕ) (at : ℕ) (there : at < length words) (k i : ℕ) (
           ∙ same i low (apart e) ∙ subst (λ (j : ℕ). bit_at (slice_index words j) i ≡ 1) e is)
         | inr ne ↦ ap (λ (w : ℕ). bit_at w i) (get_or-set_other words at k less 0 ne) ∙ is
       ]
+
+pub or_second : (n m i : ℕ) → bit_at m i ≡ 1 → bit_at (bit_or n m) i ≡ 1
+or_second n m i is = omega (arith, bit_at_or n m i, is, bit_at-lt n i)

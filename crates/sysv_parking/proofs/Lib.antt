@@ -1,3 +1,4 @@
+pub mod Announcing
 pub mod Bits
 pub mod Counts
 pub mod Crossing

@@ -1,7 +1,7 @@
 -- What looks at calls that still wait show stays true.
-use Rattle.std.proofs.Common.{◌≡◌, ◌≢◌, ◌∙◌, ℕ, ℤ, ◌≤◌, ◌⊎◌, Option, None, Some, Bool, true, false, min, cond, inl, inr}
+use Rattle.std.proofs.Common.{◌≡◌, ◌≢◌, ◌∙◌, ℕ, ℤ, ◌⊎◌, Option, None, Some, Bool, true, false, min, inl, inr}
 use Rattle.std.proofs.Common.{sym, ap, subst, refl, arith}
-use Rattle.std.specs.Prelude.{if◌then◌else◌, List, slice_set, slice_index_or}
+use Rattle.std.specs.Prelude.{if◌then◌else◌, List, slice_index_or}
 use Rattle.std.specs.Ordering.{int_eq}
 use Rattle.std.proofs.lemmas.Bool.{cases_eq}
 use Rattle.std.proofs.lemmas.Bool.Decides.{Decides-int_eq}
@@ -15,11 +15,11 @@ use Rattle.sysv_parking.specs.declared.found.Found.TheVariants as found
 use Rattle.sysv_parking.specs.declared.key.Caller.{Caller}
 use Rattle.sysv_parking.specs.declared.key.Key.{Key}
 use Rattle.sysv_parking.specs.declared.key.Key.TheVariants.{Message, Room, Blocks, Settled}
-use Rattle.sysv_parking.specs.Barriers.{IsGranted, IsLacking, IsStopped, learned, least_blocks, least_room}
+use Rattle.sysv_parking.specs.Barriers.{IsGranted, IsLacking, learned, least_blocks, least_room}
 use Rattle.sysv_parking.specs.Due.{IsGrantedAlike, NeedsNoMore, is_due, not_due}
 use Rattle.sysv_parking.specs.Lines.{TakesDue}
 use Rattle.sysv_parking.specs.Looks.{IsHeeded, IsStep, IsStop, StillWaits, WasLookedAt, WouldWait, known_after}
-use Rattle.sysv_parking.specs.Parking.{MovesOnly, Parking, key_at, why_at}
+use Rattle.sysv_parking.specs.Parking.{Parking, key_at, why_at}
 
 -- The call is a send of this caller.
 abbrev pub IsSendOf : Caller → Key → Type 0

@@ -3,7 +3,6 @@ use Rattle.std.proofs.Common.{◌≡◌, ◌≢◌, ◌∙◌, ◌==◌, ℕ, �
 use Rattle.std.proofs.Common.{Option, None, Some, Bool, true, false, not, cond, zero-add, inl, inr, sym, ap, subst}
 use Rattle.std.proofs.Common.{refl, arith}
 use Rattle.std.specs.Prelude.{slice_get}
-use Rattle.std.specs.List.{filter}
 use Rattle.std.proofs.lemmas.Bool.{cases_eq}
 use Rattle.std.proofs.lemmas.Bool.Decides.{nat_tests}
 use Rattle.std.proofs.lemmas.Option.{get_or_from_slice_get, slice_get_cases}

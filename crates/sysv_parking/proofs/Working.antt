@@ -1,7 +1,7 @@
 -- What becomes of the work of a worker, step by step.
-use Rattle.std.proofs.Common.{◌≡◌, ◌≢◌, ◌∙◌, ◌⊎◌, ◌<◌, ℕ, ℤ, Option, None, Some, Bool, true, false, inl, inr, List, Decides}
+use Rattle.std.proofs.Common.{◌≡◌, ◌≢◌, ◌∙◌, ◌⊎◌, ℕ, Option, None, Some, Bool, true, false, inl, inr, List}
 use Rattle.std.proofs.Common.{sym, ap, subst, refl}
-use Rattle.std.specs.Prelude.{◌||◌, ◌==◌, slice_set, slice_index_or}
+use Rattle.std.specs.Prelude.{◌||◌, slice_index_or}
 use Rattle.std.specs.List.{Contains}
 use Rattle.std.proofs.lemmas.Bool.{cases_eq}
 use Rattle.std.proofs.lemmas.List.{get_or-set_other}
@@ -12,13 +12,13 @@ use Rattle.sysv_parking.specs.declared.due.Why.{Why}
 use Rattle.sysv_parking.specs.declared.envelope.Envelope.{Envelope}
 use Rattle.sysv_parking.specs.declared.found.Found.{Found}
 use Rattle.sysv_parking.specs.declared.key.Key.{Key}
-use Rattle.sysv_parking.specs.Agenda.{Agenda, Heeded, HeedsChange, HeedsOne, IsSettled, IsSpent, KeepsWork, Owes}
+use Rattle.sysv_parking.specs.Agenda.{Agenda, Heeded, HeedsChange, IsSettled, IsSpent, KeepsWork, Owes}
 use Rattle.sysv_parking.specs.Barriers.{IsStopped}
-use Rattle.sysv_parking.specs.Changes.{Concerns, Heeds, Holds, HoldsOn, IsThere, IsWithin}
-use Rattle.sysv_parking.specs.Due.{both, by_all, by_change, by_raise, is_due, not_due, why_changed}
+use Rattle.sysv_parking.specs.Changes.{Concerns, Heeds, Holds, IsWithin}
+use Rattle.sysv_parking.specs.Due.{both, by_raise, not_due, why_changed}
 use Rattle.sysv_parking.specs.Keys.{line_blocks, line_of, line_room, line_settled, slot_in}
 use Rattle.sysv_parking.specs.Lines.{NotesAll, NotesChange, NotesLine, TakesDue}
-use Rattle.sysv_parking.specs.Looks.{IsStep, IsStop, StillWaits, WasLookedAt, WouldWait}
+use Rattle.sysv_parking.specs.Looks.{IsStep, IsStop, StillWaits, WouldWait}
 use Rattle.sysv_parking.specs.Parking.{MovesOnly, Parking, key_at, why_at}
 use Rattle.sysv_parking.proofs.Shown.{AreShown, granted, lacking}
 

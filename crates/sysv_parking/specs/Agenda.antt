@@ -1,15 +1,20 @@
 -- What a worker has still to do for its parked calls (this project's profile), and what it does.
-use Rattle.std.specs.Prelude.{◌≡◌, ◌⊎◌, ◌<◌, ◌/◌, ◌%◌, ℕ, ℤ, List, [], ◌∷◌, Option, None, Some, slice_index}
+use Rattle.std.specs.Prelude.{◌≡◌, ◌⊎◌, ◌<◌, ◌%◌, ℕ, ℤ, List, [], ◌∷◌, Option, None, Some}
 use Rattle.std.specs.Int.{bit_at}
 use Rattle.std.specs.List.{Contains}
+use Rattle.sysv_keys.specs.declared.identifier.TheConstants.{SLOTS}
 use Rattle.sysv_parking.specs.declared.changes.Change.{Change}
-use Rattle.sysv_parking.specs.declared.changes.Change.TheVariants.{Anything}
+use Rattle.sysv_parking.specs.declared.changes.Change.TheVariants.{Queue, Room, Blocks, Settled, Anything}
 use Rattle.sysv_parking.specs.declared.due.Why.{Why}
 use Rattle.sysv_parking.specs.declared.envelope.Envelope.{Envelope}
+use Rattle.sysv_parking.specs.declared.envelope.News.{News}
+use Rattle.sysv_parking.specs.declared.envelope.News.TheVariants.{Message, Changed}
 use Rattle.sysv_parking.specs.declared.found.Found.{Found}
 use Rattle.sysv_parking.specs.declared.found.Found.TheVariants as found
 use Rattle.sysv_parking.specs.declared.key.Key.{Key}
+use Rattle.sysv_parking.specs.declared.key.TheConstants.{BLOCKS_WORD, SETTLED_WORD}
 use Rattle.sysv_parking.specs.Changes.{Concerns, Heeds, Holds, HoldsOn, IsThere, IsWithin}
+use Rattle.sysv_parking.specs.Keys.{bounded_sum}
 use Rattle.sysv_parking.specs.Lines.{NoneIsDue}
 use Rattle.sysv_parking.specs.Looks.{AnAskerFound, IsUnwanted, WasLookedAt, WouldWait}
 use Rattle.sysv_parking.specs.Parking.{Parking, key_at, why_at}
@@ -109,3 +114,60 @@ pub record KeepsWork (old new : Agenda) : Type 0 where
   pub number : new.number ≡ old.number
   pub changes : HoldsOn old.changes new.changes
   pub envelopes : (envelope : Envelope) → Contains old.envelopes envelope → Contains new.envelopes envelope
+
+-- ---- what is told
+
+-- The calls that such a change may end are parked under this word.
+abbrev pub IsWordOf : Change → ℕ → Type 0
+IsWordOf (Queue slot) word = (word ≡ slot) ⊎ ((word ≡ bounded_sum SLOTS slot) ⊎ (word ≡ BLOCKS_WORD))
+IsWordOf (Room slot) word = word ≡ bounded_sum SLOTS slot
+IsWordOf Blocks word = word ≡ BLOCKS_WORD
+IsWordOf Settled word = word ≡ SETTLED_WORD
+IsWordOf Anything word = ⊥
+
+-- `Read word workers`: this word was read, and these were the workers with calls parked under it.
+module _ (Told : ℕ → Change → Type 0) (Read : ℕ → ℕ → Type 0) where
+  -- The worker of this bit was told of the change, or is this one and is to heed it.
+  abbrev pub IsHeard : Change → Agenda → ℕ → Type 0
+  IsHeard change agenda worker = ((to : ℕ) × (bit_of to ≡ worker) × Told to change)
+      ⊎ ((worker ≡ bit_of agenda.number) × Holds agenda.changes change)
+
+  -- Each of these workers was told of the change.
+  abbrev pub AreTold : Change → ℕ → Type 0
+  AreTold change workers = (worker : ℕ) → worker < 64 → bit_at workers worker ≡ 1 →
+      (to : ℕ) × (bit_of to ≡ worker) × Told to change
+
+  -- Each of these workers heard of the change.
+  abbrev pub HearOf : Change → ℕ → Agenda → Type 0
+  HearOf change workers agenda = (worker : ℕ) → worker < 64 → bit_at workers worker ≡ 1 → IsHeard change agenda worker
+
+  -- These are all workers with calls parked that such a change may end.
+  abbrev pub AreParkedFor : Change → ℕ → Type 0
+  AreParkedFor change workers = (word : ℕ) → IsWordOf change word → (there : ℕ) × Read word there
+      × ((worker : ℕ) → bit_at there worker ≡ 1 → bit_at workers worker ≡ 1)
+
+  -- Each worker heard of the change that had calls parked that it may end.
+  abbrev pub IsSpread : Change → Agenda → Type 0
+  IsSpread change agenda = (word : ℕ) → IsWordOf change word → (there : ℕ) × Read word there × HearOf change there agenda
+
+  -- Of a message that has arrived an envelope is kept, for all workers with receives parked at its slot. If
+  -- it was refused, all workers were told that anything may have happened.
+  abbrev pub IsPosted : ℕ → ℤ → Agenda → Type 0
+  IsPosted slot mtype agenda = (there : ℕ) × Read slot there × ((there ≡ 0)
+      ⊎ (Contains agenda.envelopes (record { slot = slot; mtype = mtype; rest = there })
+      ⊎ ((worker : ℕ) → worker < 64 → Told worker Anything)))
+
+  -- What a call has changed is told to all whom it may concern, or kept for them.
+  abbrev pub IsAnnounced : News → Agenda → Type 0
+  IsAnnounced (Message slot mtype) agenda = IsPosted slot mtype agenda
+  IsAnnounced (Changed change) agenda = IsThere change → IsSpread change agenda
+
+  -- The news were announced, or are a change of these, which are to be told.
+  abbrev pub IsTaken : News → List ℕ → Agenda → Type 0
+  IsTaken news changes agenda = ((change : Change) × (news ≡ Changed change) × (IsThere change → Holds changes change))
+      ⊎ IsAnnounced news agenda
+
+-- One of the news was taken, if there are any.
+abbrev pub TakesNews : Option News → (old new : List News) → Type 0
+TakesNews None old new = old ≡ []
+TakesNews (Some news) old new = (other : News) → Contains old other → (other ≡ news) ⊎ Contains new other

@@ -1,5 +1,5 @@
 -- What looks at calls that still wait show of other calls (this project's profile).
-use Rattle.std.specs.Prelude.{◌≡◌, ◌≤◌, ℕ, ℤ, Bool, true, false, Option, None, Some, min, if◌then◌else◌}
+use Rattle.std.specs.Prelude.{◌≡◌, ◌≤◌, ℕ, ℤ, true, Option, None, Some, min, if◌then◌else◌}
 use Rattle.std.specs.Ordering.{int_eq}
 use Rattle.sysv_parking.specs.declared.barriers.Barriers.{Barriers}
 use Rattle.sysv_parking.specs.declared.barriers.Shortage.{Shortage}

@@ -1,11 +1,10 @@
 -- Why parked calls are due (this project's profile). A change makes those calls due whose wait it
 -- may end. A call that is due is looked at, unless a look at another call has shown that it would
 -- wait again: one that still waits although what this call waits for, too, would have ended it.
-use Rattle.std.specs.Prelude.{◌≡◌, ◌≤◌, ℕ, Bool, true, false, ◌||◌, Option, None, Some}
+use Rattle.std.specs.Prelude.{◌≡◌, ◌≤◌, Bool, true, false, ◌||◌}
 use Rattle.sysv_parking.specs.declared.due.Why.{Why}
-use Rattle.sysv_parking.specs.declared.key.Caller.{Caller}
 use Rattle.sysv_parking.specs.declared.key.Key.{Key}
-use Rattle.sysv_parking.specs.declared.key.Key.TheVariants.{Message, Room, Blocks, Settled}
+use Rattle.sysv_parking.specs.declared.key.Key.TheVariants.{Message, Room, Blocks}
 
 abbrev pub is_due : Why → Bool
 is_due why = why.changed || why.raised

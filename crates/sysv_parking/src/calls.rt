@@ -1,7 +1,8 @@
 //! Which parked calls are looked at.
-ghost use Rattle.std.specs.Prelude.{◌≡◌, ◌≢◌, ◌⊎◌, ◌↔◌, ◌<◌, ℕ, None, Some, true, false, IsTrue, Option};
+ghost use Rattle.std.specs.Prelude.{◌≡◌, ◌≢◌, ◌⊎◌, ◌↔◌, ◌<◌, ℕ, None, Some, true, false, IsTrue, List, Option};
 ghost use Rattle.std.specs.List.{Contains};
-ghost use Rattle.sysv_parking.specs.Agenda.{Heeded, HeedsChange, IsHeedful, KeepsWork, TakesFirst};
+ghost use Rattle.sysv_parking.specs.Agenda.{Heeded, HeedsChange, IsHeedful, KeepsWork, TakesFirst, TakesNews};
+ghost use Rattle.sysv_parking.specs.Changes.{Holds, IsThere};
 ghost use Rattle.sysv_parking.specs.Due.{is_due};
 ghost use Rattle.sysv_parking.specs.Barriers.{IsStopped};
 ghost use Rattle.sysv_parking.specs.Keys.{Names, line_of};
@@ -10,8 +11,9 @@ ghost use Rattle.sysv_parking.specs.Looks.{AnAskerFound, IsHeeded, IsUnwanted, I
 ghost use Rattle.sysv_parking.specs.Parking.{AreInLines, MovesOnly, Parking, key_at, parked_at, why_at};
 
 use crate::barriers::Barriers;
+use crate::changes::Change;
 use crate::due::Why;
-use crate::envelope::Envelope;
+use crate::envelope::{Envelope, News};
 use crate::found::{Found, LookedFor};
 use crate::key::{Key, any_line, exact_line, except_line, up_to_line};
 use crate::lines::Lines;
@@ -25,6 +27,7 @@ pub trait Calls<B> {
     ghost use Rattle.sysv_parking.specs.declared.changes.Change.{Change};
     ghost use Rattle.sysv_parking.specs.declared.changes.Change.TheVariants.{Anything};
     ghost use Rattle.sysv_parking.specs.declared.envelope.Envelope.{Envelope};
+    ghost use Rattle.sysv_parking.specs.declared.envelope.News.{News};
     ghost use Rattle.sysv_parking.specs.declared.found.Found.{Found};
     ghost use Rattle.sysv_parking.specs.declared.key.Key.{Key};
 
@@ -45,6 +48,12 @@ pub trait Calls<B> {
 
     /// The worker of this number was told of this change.
     ghost told: { ℕ → Change → Type 0 };
+
+    /// This word was read, and these were the workers with calls parked under it.
+    ghost read: { ℕ → ℕ → Type 0 };
+
+    /// What calls of the worker have changed, and was not told yet.
+    ghost news: { Self → List News };
 
     /// There was no envelope for the worker at one moment.
     ghost emptied: { Type 0 };
@@ -121,6 +130,47 @@ pub trait Calls<B> {
     fn send(&self, by: &B, to: usize, envelope: Envelope) -> bool
         ensures sent { result ≡ true → sent to envelope }
         ensures told { result ≡ false → told to Anything };
+
+    /// Tells a worker of a change.
+    fn tell(&self, by: &B, to: usize, change: Change)
+        ensures { told to change };
+
+    /// Returns which workers have calls parked under this word.
+    fn word(&self, by: &B, word: usize) -> u64
+        ensures { read word result };
+
+    /// Returns all workers.
+    fn everyone(&self, by: &B) -> u64;
+
+    /// Takes what a call of the worker has changed, if it was not told yet.
+    fn take_news(&mut self, by: &B) -> Option<News>
+        ensures takes { TakesNews result (news self.old) (news self.new) }
+        ensures same { agenda self.new ≡ agenda self.old }
+        ensures keeps { keeps self.old self.new };
+
+    /// Adds a change to those that the worker has still to heed.
+    fn add_change(&mut self, change: Change)
+        ensures added { IsThere change → Holds (agenda self.new).changes change }
+        ensures work { KeepsWork (agenda self.old) (agenda self.new) }
+        ensures parking { (agenda self.new).parking ≡ (agenda self.old).parking }
+        ensures news { news self.new ≡ news self.old }
+        ensures keeps { keeps self.old self.new };
+
+    /// Keeps an envelope, after all others. If memory is refused, all workers are told that anything
+    /// may have happened.
+    fn keep(&mut self, by: &B, envelope: Envelope)
+        ensures one { Contains (agenda self.new).envelopes envelope
+            ⊎ ((worker : ℕ) → worker < 64 → told worker Anything) }
+        ensures work { KeepsWork (agenda self.old) (agenda self.new) }
+        ensures parking { (agenda self.new).parking ≡ (agenda self.old).parking }
+        ensures news { news self.new ≡ news self.old }
+        ensures keeps { keeps self.old self.new };
+
+    /// Returns whether it is the turn of other workers to heed a change first.
+    fn is_last(&mut self) -> bool
+        ensures same { agenda self.new ≡ agenda self.old }
+        ensures news { news self.new ≡ news self.old }
+        ensures keeps { keeps self.old self.new };
 
     /// Has it be known that no calls of this worker are parked under a word.
     fn unmark(&self, by: &B, word: usize)

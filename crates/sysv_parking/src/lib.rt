@@ -14,12 +14,14 @@ mod found;
 mod heeding;
 mod key;
 mod lines;
+mod telling;
 
 pub use calls::{Calls, look_at_due, look_for_message};
 pub use changes::{CHANGE_BITS, CHANGE_WORDS, Change, Changes};
 pub use due::Why;
-pub use envelope::Envelope;
+pub use envelope::{Envelope, News};
 pub use found::{Found, LookedFor};
 pub use heeding::{heed_all, read_envelopes};
 pub use key::{BLOCKS_WORD, Caller, Key, SETTLED_WORD, WORDS, room_word};
 pub use lines::Lines;
+pub use telling::collect;

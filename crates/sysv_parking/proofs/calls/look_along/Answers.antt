@@ -1,6 +1,6 @@
 -- The walk passes calls that request no message of this type, and looks at the others.
-use Rattle.std.proofs.Common.{◌≡◌, ◌∙◌, ◌≤◌, ◌+◌, ℕ, ℤ, Option, None, Some, sym, ap, subst, arith, refl, to_z, of_z}
-use Rattle.std.proofs.Common.{w64, inr, Bool, true}
+use Rattle.std.proofs.Common.{◌≡◌, ◌∙◌, ℤ, Option, None, Some, sym, ap, subst, arith, to_z, of_z}
+use Rattle.std.proofs.Common.{w64, inr, true}
 use Rattle.std.proofs.lemmas.Int.{to_z-of_z}
 use Rattle.sysv_parking.specs.declared.key.Key.{Key}
 use Rattle.sysv_parking.specs.Keys.{line_of}

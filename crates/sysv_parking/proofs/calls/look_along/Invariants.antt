@@ -6,7 +6,6 @@ use Rattle.sysv_parking.specs.Agenda.{Heeded}
 use Rattle.sysv_parking.specs.Keys.{Names}
 use Rattle.sysv_parking.specs.Looks.{OnlyEnds}
 use Rattle.sysv_parking.specs.Parking.{key_at, line_at}
-use Rattle.sysv_parking.proofs.Walking.{without_before, has_index, without_none}
 use Rattle.sysv_parking.proofs.calls.look_along.Given as goal
 
 abbrev pub invariant-loop : goal.invariant-loop

@@ -1,9 +1,9 @@
 -- A call that was due is heeded at each step.
-use Rattle.std.proofs.Common.{ℕ, Option, None, Some, subst}
+use Rattle.std.proofs.Common.{ℕ, Option, None, subst}
 use Rattle.sysv_parking.specs.declared.due.Why.{Why}
 use Rattle.sysv_parking.specs.declared.found.Found.{Found}
 use Rattle.sysv_parking.specs.declared.key.Key.{Key}
-use Rattle.sysv_parking.specs.Lines.{Takes, TakesDue}
+use Rattle.sysv_parking.specs.Lines.{Takes}
 use Rattle.sysv_parking.proofs.Shown.{all_heeded, all_keys, still_shown}
 use Rattle.sysv_parking.proofs.Working.{due_heeds, heeds_on, heeds_same}
 use Rattle.sysv_parking.proofs.calls.look_at_due.Goals as goal

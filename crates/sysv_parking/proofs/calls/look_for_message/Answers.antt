@@ -1,12 +1,9 @@
 -- The receives that request messages of a type are in four lines.
-use Rattle.std.proofs.Common.{◌≡◌, ◌∙◌, ℕ, ℤ, sym, ap, subst, refl, to_z, of_z, w64, Option, Some}
+use Rattle.std.proofs.Common.{ℕ, ℤ, subst, to_z, of_z, w64}
 use Rattle.std.proofs.lemmas.Int.{to_z-of_z}
-use Rattle.sysv_parking.specs.declared.found.Found.{Found}
 use Rattle.sysv_parking.specs.declared.found.Found.TheVariants as found
-use Rattle.sysv_parking.specs.declared.key.Key.{Key}
-use Rattle.sysv_parking.specs.Keys.{line_any, line_except, line_exact, line_of, line_up_to}
+use Rattle.sysv_parking.specs.Keys.{line_of}
 use Rattle.sysv_parking.specs.Looks.{AnAskerFound, IsUnwanted, IsUnwantedIn}
-use Rattle.sysv_parking.specs.Parking.{Parking}
 use Rattle.sysv_parking.proofs.Walking.{unwanted_in_all}
 use Rattle.sysv_parking.proofs.Working.{heeds_on}
 use Rattle.sysv_parking.proofs.calls.look_for_message.Goals as goal

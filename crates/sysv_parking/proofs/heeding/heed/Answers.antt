@@ -1,5 +1,5 @@
 -- The envelope is spent, or kept.
-use Rattle.std.proofs.Common.{◌≡◌, ◌∙◌, ◌<◌, ◌≢◌, ◌⊎◌, ◌^◌, ℕ, ℤ, w64, rules, to_z, of_z, inl, inr, sym, ap, subst, refl, arith}
+use Rattle.std.proofs.Common.{◌≡◌, ◌∙◌, ◌<◌, ◌≢◌, ◌^◌, ℕ, ℤ, w64, rules, to_z, of_z, inl, inr, sym, ap, subst, arith}
 use Rattle.std.proofs.lemmas.Bool.{cases_eq}
 use Rattle.std.specs.Int.{bit_at}
 use Rattle.sysv_parking.specs.declared.found.Found.TheVariants as found

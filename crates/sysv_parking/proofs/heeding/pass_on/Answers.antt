@@ -1,7 +1,6 @@
 -- One more worker was told.
-use Rattle.std.proofs.Common.{rules, ◌≡◌, ◌∙◌, ◌<◌, ◌⊎◌, ◌%◌, ◌-◌, ℕ, bit_and, inl, inr, sym, ap, subst, refl, arith}
+use Rattle.std.proofs.Common.{rules, ◌-◌, bit_and, inl, inr, sym, ap, subst, arith}
 use Rattle.std.proofs.lemmas.Bool.{cases_eq}
-use Rattle.std.specs.Int.{bit_at}
 use Rattle.sysv_parking.specs.declared.envelope.Envelope.{Envelope}
 use Rattle.sysv_parking.specs.Agenda.{bit_of}
 use Rattle.sysv_parking.proofs.Bits.{still_left}

@@ -1,5 +1,5 @@
 -- The envelope is passed on.
-use Rattle.std.proofs.Common.{inr, subst, sym, ap}
+use Rattle.std.proofs.Common.{inr, subst, sym}
 use Rattle.sysv_parking.specs.Agenda.{Agenda, Heeded}
 use Rattle.sysv_parking.proofs.Working.{heeds_none}
 use Rattle.sysv_parking.proofs.heeding.send_off.Goals as goal

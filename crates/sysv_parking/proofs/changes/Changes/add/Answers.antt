@@ -1,10 +1,10 @@
 -- The change has its bit.
-use Rattle.std.proofs.Common.{◌≡◌, ◌∙◌, ◌/◌, ◌%◌, ◌<◌, ◌^◌, ℕ, Option, Some, arith, sym, subst, ap, bit_or}
+use Rattle.std.proofs.Common.{◌≡◌, ◌∙◌, ◌/◌, ◌%◌, ◌<◌, ◌^◌, ℕ, Some, arith, sym, subst, ap, bit_or}
 use Rattle.std.specs.Int.{bit_at}
 use Rattle.std.specs.Prelude.{slice_index}
 use Rattle.sysv_parking.specs.declared.changes.Change.{Change}
 use Rattle.sysv_parking.specs.declared.changes.Change.TheVariants.{Queue, Room, Blocks, Settled, Anything}
-use Rattle.sysv_parking.specs.Changes.{Holds, IsThere, number_of}
+use Rattle.sysv_parking.specs.Changes.{IsThere, number_of}
 use Rattle.sysv_parking.proofs.Bits.{set_same}
 use Rattle.sysv_parking.proofs.changes.Changes.add.Goals as goal
 

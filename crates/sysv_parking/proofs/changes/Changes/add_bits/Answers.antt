@@ -1,5 +1,5 @@
 -- A word has more bits.
-use Rattle.std.proofs.Common.{◌≡◌, ◌/◌, ◌%◌, ◌<◌, ℕ, List, length, arith, sym, subst}
+use Rattle.std.proofs.Common.{◌/◌, ◌%◌, ℕ, List, arith, sym, subst}
 use Rattle.sysv_parking.specs.Changes.{Holds, number_of}
 use Rattle.sysv_parking.proofs.Bits.{set_more}
 use Rattle.sysv_parking.proofs.changes.Changes.add_bits.Goals as goal

@@ -1,5 +1,5 @@
 -- The bit of the change is gone.
-use Rattle.std.proofs.Common.{rules, ◌≡◌, ◌≢◌, ◌∙◌, ◌+◌, ◌*◌, ◌/◌, ◌%◌, ◌<◌, ℕ, List, Some, inl, inr, arith, sym, subst, ap, w64}
+use Rattle.std.proofs.Common.{rules, ◌≡◌, ◌∙◌, ◌+◌, ◌*◌, ◌/◌, ◌%◌, ℕ, List, Some, inl, inr, arith, sym, subst, ap, w64}
 use Rattle.std.proofs.Common.{length}
 use Rattle.std.specs.Int.{trailing_zeros}
 use Rattle.std.specs.Prelude.{slice_index}

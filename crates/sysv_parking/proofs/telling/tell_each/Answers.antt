@@ -1,0 +1,60 @@
+-- Each of the workers heard of the change.
+use Rattle.std.proofs.Common.{◌≡◌, ◌≢◌, ◌∙◌, ◌<◌, ◌^◌, ◌-◌, ℕ, bit_and, inl, inr, ap, sym, subst, arith}
+use Rattle.std.specs.Int.{bit_at}
+use Rattle.std.proofs.lemmas.Bool.{cases_eq}
+use Rattle.sysv_parking.specs.declared.changes.Change.{Change}
+use Rattle.sysv_parking.specs.Agenda.{Agenda, AreTold, bit_of}
+use Rattle.sysv_parking.proofs.Bits.{none_own, still_left}
+use Rattle.sysv_parking.proofs.telling.tell_each.Goals as goal
+use Rattle.sysv_parking.proofs.telling.tell_each.Goals.{else-workers-own-via-then-workers-own+else-is_last, else-workers-own-via-else-workers-own}
+
+-- Another worker was told.
+module _ (Told : ℕ → Change → Type 0) (Read : ℕ → ℕ → Type 0) (change : Change) (workers own k : ℕ) (is : own ≡ 2 ^ k)
+    (within : k < 64) (told : AreTold Told Read change (bit_and workers (18446744073709551615 - own))) where
+  other : (worker : ℕ) → worker < 64 → worker ≢ k → bit_at workers worker ≡ 1 →
+      (to : ℕ) × (bit_of to ≡ worker) × Told to change
+  other worker low apart there = told worker low (still_left workers own k worker is within low apart there)
+
+pub returns-then-workers-own-eq0-clause-heard : goal.returns-then-workers-own-eq0-clause-heard
+returns-then-workers-own-eq0-clause-heard g c = λ there worker low is.
+    let number = (g.C.Calls.agenda c.args.calls.now).number in
+    let own = c.bit-own.ensures ∙ ap (λ (n : ℕ). 2 ^ bit_of n) c.number.ensures in
+    elim (cases_eq worker (bit_of number)) [
+      | inl e ↦ absurd (let none = none_own c.args.workers c.bit-own.result (bit_of number) own
+        c.if-workers-own-eq0.true in let here : bit_at c.args.workers (bit_of number) ≡ 1 =
+        subst (λ (k : ℕ). bit_at c.args.workers k ≡ 1) e is in omega (arith, none, here))
+      | inr ne ↦ inl (other g.C.Calls.told g.C.Calls.read c.args.change c.args.workers c.bit-own.result (bit_of number) own
+        (omega arith) c.tell_others.ensures worker low ne is)
+    ]
+
+pub returns-then-is_last-clause-heard : goal.returns-then-is_last-clause-heard
+returns-then-is_last-clause-heard g c = λ there worker low is.
+    let number = (g.C.Calls.agenda c.args.calls.now).number in
+    let own = c.bit-own.ensures ∙ ap (λ (n : ℕ). 2 ^ bit_of n) c.number.ensures in
+    elim (cases_eq worker (bit_of number)) [
+      | inl e ↦ inl (
+        c.number-then-is_last.result,
+        ap bit_of (c.number-then-is_last.ensures ∙ ap (λ (a : Agenda). a.number) c.is_last.ensures.same) ∙ sym e,
+        c.tell.ensures,
+      )
+      | inr ne ↦ inl (other g.C.Calls.told g.C.Calls.read c.args.change c.args.workers c.bit-own.result (bit_of number) own
+        (omega arith) c.tell_others.ensures worker low ne is)
+    ]
+
+pub returns-else-workers-own-clause-heard : goal.returns-else-workers-own-clause-heard
+returns-else-workers-own-clause-heard g c = λ there worker low is.
+    let was = g.C.Calls.agenda c.args.calls.now in
+    let own = c.bit-own.ensures ∙ ap (λ (n : ℕ). 2 ^ bit_of n) c.number.ensures in
+    let same : g.C.Calls.agenda c.else-workers-own.calls ≡ was =
+    elim c.else-workers-own.branch [
+      else-workers-own-via-then-workers-own+else-is_last w ↦ ap g.C.Calls.agenda w.calls-is ∙ w.is_last.ensures.same
+      | else-workers-own-via-else-workers-own w ↦ ap g.C.Calls.agenda w.calls-is
+    ] in
+    elim (cases_eq worker (bit_of was.number)) [
+      | inl e ↦ inr (
+        e ∙ sym (ap bit_of (c.add_change.ensures.work.number ∙ ap (λ (a : Agenda). a.number) same)),
+        c.add_change.ensures.added there,
+      )
+      | inr ne ↦ inl (other g.C.Calls.told g.C.Calls.read c.args.change c.args.workers c.bit-own.result (bit_of was.number)
+        own (omega arith) c.tell_others.ensures worker low ne is)
+    ]

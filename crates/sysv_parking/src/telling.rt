@@ -1,0 +1,139 @@
+//! How a worker tells what its clients' calls have changed for parked calls.
+ghost use Rattle.std.specs.Prelude.{◌≡◌};
+ghost use Rattle.std.specs.List.{Contains};
+ghost use Rattle.sysv_parking.specs.declared.envelope.News.{News};
+ghost use Rattle.sysv_parking.specs.declared.changes.Change.{Change};
+ghost use Rattle.sysv_parking.specs.Agenda.{AreParkedFor, AreTold, HearOf, IsAnnounced, IsPosted, IsSpread, IsTaken, KeepsWork};
+ghost use Rattle.sysv_parking.specs.Changes.{Holds, IsThere};
+
+use crate::calls::Calls;
+use crate::changes::{Change, Changes};
+use crate::envelope::{Envelope, News};
+use crate::heeding::bit;
+use crate::key::{BLOCKS_WORD, SETTLED_WORD, room_word};
+use std::sync::Wait;
+
+/// Tells all whom it may concern what the calls of this worker have changed, or keeps it for them.
+pub fn collect<B, C: Calls<B>>(rt: &impl Wait, by: &B, calls: &mut C)
+    ensures announced { (news : News) → Contains (C.news calls.old) news
+        → IsAnnounced C.told C.read news (C.agenda calls.new) }
+    ensures work { KeepsWork (C.agenda calls.old) (C.agenda calls.new) }
+    ensures parking { (C.agenda calls.new).parking ≡ (C.agenda calls.old).parking }
+    ensures keeps { C.keeps calls.old calls.new }
+{
+    let mut changes = Changes::none();
+    take_all(rt, by, calls, &mut changes);
+    tell_all(rt, by, calls, &mut changes);
+}
+
+/// Takes what the calls of this worker have changed: a message that has arrived is posted, and each
+/// other change is added to those that are to be told.
+fn take_all<B, C: Calls<B>>(rt: &impl Wait, by: &B, calls: &mut C, changes: &mut Changes)
+    ensures taken { (news : News) → Contains (C.news calls.old) news
+        → IsTaken C.told C.read news changes.new (C.agenda calls.new) }
+    ensures work { KeepsWork (C.agenda calls.old) (C.agenda calls.new) }
+    ensures parking { (C.agenda calls.new).parking ≡ (C.agenda calls.old).parking }
+    ensures keeps { C.keeps calls.old calls.new }
+{
+    for _ in rt.forever() {
+        match calls.take_news(by) {
+            Some(News::Message { slot, mtype }) => post(by, calls, slot, mtype),
+            Some(News::Changed { change }) => changes.add(change),
+            None => return,
+        }
+    }
+}
+
+/// Keeps an envelope of a message that has arrived, if receives are parked at its queue.
+fn post<B, C: Calls<B>>(by: &B, calls: &mut C, slot: usize, mtype: i64)
+    ensures posted { IsPosted C.told C.read slot mtype (C.agenda calls.new) }
+    ensures work { KeepsWork (C.agenda calls.old) (C.agenda calls.new) }
+    ensures parking { (C.agenda calls.new).parking ≡ (C.agenda calls.old).parking }
+    ensures news { C.news calls.new ≡ C.news calls.old }
+    ensures keeps { C.keeps calls.old calls.new }
+{
+    let rest = calls.word(by, slot);
+    if rest != 0 {
+        calls.keep(by, Envelope { slot, mtype, rest });
+    }
+}
+
+/// Tells of all these changes each worker that has calls parked which they may end.
+fn tell_all<B, C: Calls<B>>(rt: &impl Wait, by: &B, calls: &mut C, changes: &mut Changes)
+    ensures spread { (change : Change) → IsThere change → Holds changes.old change
+        → IsSpread C.told C.read change (C.agenda calls.new) }
+    ensures work { KeepsWork (C.agenda calls.old) (C.agenda calls.new) }
+    ensures parking { (C.agenda calls.new).parking ≡ (C.agenda calls.old).parking }
+    ensures keeps { C.keeps calls.old calls.new }
+{
+    for _ in rt.forever() {
+        let Some(change) = changes.take() else {
+            return;
+        };
+        let workers = parked_for(by, calls, change);
+        tell_each(rt, by, calls, workers, change);
+    }
+}
+
+/// Returns which workers have parked calls that such a change may end.
+fn parked_for<B, C: Calls<B>>(by: &B, calls: &C, change: Change) -> u64
+    ensures { AreParkedFor C.told C.read change result }
+{
+    match change {
+        Change::Queue { slot } => calls.word(by, slot)
+            | calls.word(by, room_word(slot))
+            | calls.word(by, BLOCKS_WORD),
+        Change::Room { slot } => calls.word(by, room_word(slot)),
+        Change::Blocks => calls.word(by, BLOCKS_WORD),
+        Change::Settled => calls.word(by, SETTLED_WORD),
+        Change::Anything => calls.everyone(by),
+    }
+}
+
+/// Tells each of these workers of a change. This one heeds it at once or, in turn, after the others:
+/// else its own clients might have all that becomes free.
+fn tell_each<B, C: Calls<B>>(
+    rt: &impl Wait,
+    by: &B,
+    calls: &mut C,
+    workers: u64,
+    change: Change,
+)
+    ensures heard { IsThere change
+        → HearOf C.told C.read change workers (C.agenda calls.new) }
+    ensures work { KeepsWork (C.agenda calls.old) (C.agenda calls.new) }
+    ensures parking { (C.agenda calls.new).parking ≡ (C.agenda calls.old).parking }
+    ensures keeps { C.keeps calls.old calls.new }
+{
+    let own = bit(calls.number());
+    tell_others(rt, by, calls, workers & !own, change);
+    if workers & own == 0 {
+        return;
+    }
+    if workers != own && calls.is_last() {
+        calls.tell(by, calls.number(), change);
+    } else {
+        calls.add_change(change);
+    }
+}
+
+/// Tells each of these workers of a change.
+fn tell_others<B, C: Calls<B>>(
+    rt: &impl Wait,
+    by: &B,
+    calls: &C,
+    workers: u64,
+    change: Change,
+)
+    ensures { AreTold C.told C.read change workers }
+{
+    let mut rest = workers;
+    for _ in rt.forever() {
+        if rest == 0 {
+            return;
+        }
+        let to = rest.trailing_zeros() as usize;
+        calls.tell(by, to, change);
+        rest &= !bit(to);
+    }
+}
