@@ -117,6 +117,7 @@ impl Changes {
     pub fn take(&mut self) -> Option<Change>
         ensures none { result ≡ None → (change : Change) → IsThere change
             → Holds self.old change → ⊥ }
+        ensures same { result ≡ None → self.new ≡ self.old }
         ensures kept { (change : Change) → IsThere change → Holds self.old change
             → (result ≡ Some change) ⊎ Holds self.new change }
     {

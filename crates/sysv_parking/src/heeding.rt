@@ -8,7 +8,7 @@ use crate::found::LookedFor;
 use std::sync::Wait;
 
 /// The maximum number of envelopes that a worker reads in a round.
-const MOST_ENVELOPES: u32 = 256;
+const MOST_READ: u32 = 256;
 
 /// The number of workers that a word can name.
 const BITS: usize = 64;
@@ -125,7 +125,7 @@ pub fn read_envelopes<B, C: Calls<B>>(by: &B, calls: &mut C)
     ensures read { C.emptied ⊎ C.awake }
     ensures keeps { C.keeps calls.old calls.new }
 {
-    for _ in 0..MOST_ENVELOPES {
+    for _ in 0..MOST_READ {
         if calls.is_laden() {
             break;
         }

@@ -5,6 +5,7 @@
 //! looked at, or a look at another call has shown that it would wait again.
 #![tactic(auto)]
 
+mod agenda;
 mod barriers;
 mod calls;
 mod changes;
@@ -16,6 +17,7 @@ mod key;
 mod lines;
 mod telling;
 
+pub use agenda::Agenda;
 pub use calls::{Calls, look_at_due, look_for_message};
 pub use changes::{CHANGE_BITS, CHANGE_WORDS, Change, Changes};
 pub use due::Why;
