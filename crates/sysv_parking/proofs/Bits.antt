@@ -54,8 +54,8 @@ module _ (words : List ℕ) (at : ℕ) (there : at < length words) (k i : ℕ) (
       let more = bit_or (slice_index words at) bits in
       elim (cases_eq k at) [
         | inl e ↦ subst (λ (j : ℕ). bit_at (slice_index (slice_set words at more) j) i ≡ 1) (sym e)
-          (ap (λ (w : ℕ). bit_at w i) (get_or-set_same words at more 0 there)
-          ∙ or_more (slice_index words at) bits i (subst (λ (j : ℕ). bit_at (slice_index words j) i ≡ 1) e is))
+            (ap (λ (w : ℕ). bit_at w i) (get_or-set_same words at more 0 there)
+            ∙ or_more (slice_index words at) bits i (subst (λ (j : ℕ). bit_at (slice_index words j) i ≡ 1) e is))
         | inr ne ↦ ap (λ (w : ℕ). bit_at w i) (get_or-set_other words at k more 0 ne) ∙ is
       ]
 
@@ -66,8 +66,8 @@ module _ (words : List ℕ) (at : ℕ) (there : at < length words) (k i : ℕ) (
   set_less bit less apart same low =
       elim (cases_eq k at) [
         | inl e ↦ subst (λ (j : ℕ). bit_at (slice_index (slice_set words at less) j) i ≡ 1) (sym e)
-          (ap (λ (w : ℕ). bit_at w i) (get_or-set_same words at less 0 there)
-          ∙ same i low (apart e) ∙ subst (λ (j : ℕ). bit_at (slice_index words j) i ≡ 1) e is)
+            (ap (λ (w : ℕ). bit_at w i) (get_or-set_same words at less 0 there)
+            ∙ same i low (apart e) ∙ subst (λ (j : ℕ). bit_at (slice_index words j) i ≡ 1) e is)
         | inr ne ↦ ap (λ (w : ℕ). bit_at w i) (get_or-set_other words at k less 0 ne) ∙ is
       ]
 

@@ -205,7 +205,7 @@ module _ {Looked : ℕ → Option Key → Found → Type 0} {Had : Parking → T
             | inl due ↦ inl (noted_more old.parking new.parking p k owes.0 change heeds.heeds why due)
             | inr other ↦ elim (heeds.others other.0 other.1 other.2) [
               | inl same ↦ inl (noted_due old.parking new.parking p k owes.0 change heeds.heeds why
-                (subst (λ (c : Change). Concerns c k why) same other.3))
+                  (subst (λ (c : Change). Concerns c k why) same other.3))
               | inr still ↦ inr (other.0, other.1, still, other.3)
             ]
           ],
@@ -248,8 +248,8 @@ module _ {Looked : ℕ → Option Key → Found → Type 0} {Had : Parking → T
     due_owed q key less is within =
         elim (cases_eq q place) [
           | inl e ↦ inr (subst (λ (p : ℕ). IsSettled Looked Had Sent Told p key less) (sym e) (here_settled key less
-            (subst (λ (p : ℕ). key_at before.parking p ≡ Some key) e is)
-            (subst (λ (p : ℕ). IsWithin less (why_at before.parking p)) e within)))
+              (subst (λ (p : ℕ). key_at before.parking p ≡ Some key) e is)
+              (subst (λ (p : ℕ). IsWithin less (why_at before.parking p)) e within)))
           | inr ne ↦ heeded.owed q key less (
             taken_key q ∙ is,
             inl (within_same less _ _ (sym (taken_why q ne)) within),
@@ -267,7 +267,7 @@ module _ {Looked : ℕ → Option Key → Found → Type 0} {Had : Parking → T
             change.0,
             change.1,
             subst (λ (words : List ℕ). Holds words change.0)
-            (sym (ap (λ (agenda : Agenda). agenda.changes) rest)) change.2,
+                (sym (ap (λ (agenda : Agenda). agenda.changes) rest)) change.2,
             change.3,
           ),
         )
@@ -275,8 +275,8 @@ module _ {Looked : ℕ → Option Key → Found → Type 0} {Had : Parking → T
       envelopes = λ envelope is. elim (heeded.envelopes envelope
           (subst (λ (es : List Envelope). Contains es envelope)
           (sym (ap (λ (agenda : Agenda). agenda.envelopes) rest)) is)) [
-        | inl still ↦ inl still
-        | inr spent ↦ inr (subst (λ (n : ℕ). IsSpent Looked Had Sent Told n envelope)
-          (ap (λ (agenda : Agenda). agenda.number) rest) spent)
-      ];
+            | inl still ↦ inl still
+            | inr spent ↦ inr (subst (λ (n : ℕ). IsSpent Looked Had Sent Told n envelope)
+                (ap (λ (agenda : Agenda). agenda.number) rest) spent)
+          ];
     }

@@ -89,13 +89,7 @@ fn heed<B, C: Calls<B>>(rt: &impl Wait, by: &B, calls: &mut C, envelope: Envelop
 }
 
 /// Gives an envelope to the first worker that has not had it, from the one of this number on.
-fn pass_on<B, C: Calls<B>>(
-    rt: &impl Wait,
-    by: &B,
-    calls: &C,
-    from: usize,
-    envelope: Envelope,
-)
+fn pass_on<B, C: Calls<B>>(rt: &impl Wait, by: &B, calls: &C, from: usize, envelope: Envelope)
     ensures { ArePassed C.looked C.had C.sent C.told envelope.slot envelope.mtype envelope.rest }
 {
     let mut left = envelope;

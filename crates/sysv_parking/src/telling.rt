@@ -92,13 +92,7 @@ fn parked_for<B, C: Calls<B>>(by: &B, calls: &C, change: Change) -> u64
 
 /// Tells each of these workers of a change. This one heeds it at once or, in turn, after the others:
 /// else its own clients might have all that becomes free.
-fn tell_each<B, C: Calls<B>>(
-    rt: &impl Wait,
-    by: &B,
-    calls: &mut C,
-    workers: u64,
-    change: Change,
-)
+fn tell_each<B, C: Calls<B>>(rt: &impl Wait, by: &B, calls: &mut C, workers: u64, change: Change)
     ensures heard { IsThere change
         → HearOf C.told C.read change workers (C.agenda calls.new) }
     ensures work { KeepsWork (C.agenda calls.old) (C.agenda calls.new) }
@@ -118,13 +112,7 @@ fn tell_each<B, C: Calls<B>>(
 }
 
 /// Tells each of these workers of a change.
-fn tell_others<B, C: Calls<B>>(
-    rt: &impl Wait,
-    by: &B,
-    calls: &C,
-    workers: u64,
-    change: Change,
-)
+fn tell_others<B, C: Calls<B>>(rt: &impl Wait, by: &B, calls: &C, workers: u64, change: Change)
     ensures { AreTold C.told C.read change workers }
 {
     let mut rest = workers;

@@ -14,7 +14,7 @@ invariant-loop g l =
     record {
       keeps : g.C.Calls.keeps l.fn.calls l.calls;
       work : Heeded g.C.Calls.looked g.C.Calls.had g.C.Calls.sent g.C.Calls.told (g.C.Calls.agenda l.fn.calls)
-        (g.C.Calls.agenda l.calls);
+          (g.C.Calls.agenda l.calls);
       ends : OnlyEnds (g.C.Calls.agenda l.fn.calls).parking now;
       passed : (j : ℕ) → j < l.index → (key : Key) → key_at now (get_or (line_at now l.line) j 0) ≡ Some key →
           Names l.slot l.mtype key → ⊥;

@@ -15,7 +15,7 @@ invariant-loop g l =
     record {
       keeps : g.C.Calls.keeps l.fn.calls l.calls;
       work : Heeded Looked g.C.Calls.had g.C.Calls.sent g.C.Calls.told (g.C.Calls.agenda l.fn.calls)
-        (g.C.Calls.agenda l.calls);
+          (g.C.Calls.agenda l.calls);
       heeded : (place : ℕ) → is_due (why_at was place) ≡ true → IsHeeded Looked was now place;
       keys : (place : ℕ) → WasLookedAt Looked place ⊎ (key_at now place ≡ key_at was place);
       shown : AreShown (StillWaits Looked) l.barriers;

@@ -18,9 +18,9 @@ returns-in-Taken-clause-heeds g c =
       heeded = c.look_for_message.ensures.work;
       one = elim c.in-Taken.is [
         | inl e ↦ inr (inl (subst (λ (t : ℤ). AnAskerFound g.C.Calls.looked c.args.envelope.slot t found.Message) same
-          (c.look_for_message.ensures.taken e)))
+            (c.look_for_message.ensures.taken e)))
         | inr e ↦ inr (inr (inl (subst (λ (t : ℤ). AnAskerFound g.C.Calls.looked c.args.envelope.slot t found.Nothing)
-          same (c.look_for_message.ensures.gone e))))
+            same (c.look_for_message.ensures.gone e))))
       ];
     }
 
@@ -49,15 +49,20 @@ returns-clause-heeds g c =
     let own_is = own g c in
     let same : to_z w64 (of_z w64 c.args.envelope.mtype) ≡ c.args.envelope.mtype = search rules in
     elim c.if-envelope-own-ne0.branch [
-      then-envelope-own-ne0+in-Unwanted w ↦ record {
+      | then-envelope-own-ne0+in-Unwanted w ↦ record {
         heeded = subst (λ calls. Heeded g.C.Calls.looked g.C.Calls.had g.C.Calls.sent g.C.Calls.told was
             (g.C.Calls.agenda calls)) (sym w.calls-is) w.look_for_message.ensures.work;
         one = inr (inr (inr (λ worker low is. elim (cases_eq worker (bit_of was.number)) [
-          | inl e ↦ inl (e, ((g.C.Calls.agenda w.look_for_message.new.calls).parking,
-            w.look_for_message.ensures.had w.in-Unwanted.is,
-            subst (λ (t : ℤ). IsUnwanted (g.C.Calls.agenda w.look_for_message.new.calls).parking c.args.envelope.slot t)
-            same
-            (w.look_for_message.ensures.unwanted w.in-Unwanted.is)))
+          | inl e ↦ inl (
+            e,
+            (
+              (g.C.Calls.agenda w.look_for_message.new.calls).parking,
+              w.look_for_message.ensures.had w.in-Unwanted.is,
+              subst (λ (t : ℤ). IsUnwanted (g.C.Calls.agenda w.look_for_message.new.calls).parking c.args.envelope.slot t)
+                  same
+                  (w.look_for_message.ensures.unwanted w.in-Unwanted.is),
+            ),
+          )
           | inr ne ↦ inr (others g c worker low ne is)
         ])));
       }
@@ -66,8 +71,8 @@ returns-clause-heeds g c =
             (g.C.Calls.agenda calls)) (sym w.calls-is) (heeds_none was);
         one = inr (inr (inr (λ worker low is. elim (cases_eq worker (bit_of was.number)) [
           | inl e ↦ absurd (let none = none_own c.args.envelope.rest c.bit-own.result (bit_of was.number) own_is
-            w.if-envelope-own-ne0.false in let here : bit_at c.args.envelope.rest (bit_of was.number) ≡ 1 =
-            subst (λ (k : ℕ). bit_at c.args.envelope.rest k ≡ 1) e is in omega (arith, none, here))
+              w.if-envelope-own-ne0.false in let here : bit_at c.args.envelope.rest (bit_of was.number) ≡ 1 =
+              subst (λ (k : ℕ). bit_at c.args.envelope.rest k ≡ 1) e is in omega (arith, none, here))
           | inr ne ↦ inr (others g c worker low ne is)
         ])));
       }

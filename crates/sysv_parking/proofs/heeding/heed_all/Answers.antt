@@ -48,24 +48,29 @@ module _ (g : given.Over) (before taken after : Agenda) (envelope : Envelope)
       ap (λ (a : Agenda). key_at a.parking place) rest ∙ owes.0,
       elim owes.1 [
         | inl due ↦ inl (subst (λ (w : Why). IsWithin why w)
-          (sym (ap (λ (a : Agenda). why_at a.parking place) rest)) due)
-        | inr change ↦ inr (change.0, change.1, subst (λ (words : List ℕ). Holds words change.0)
-          (sym (ap (λ (a : Agenda). a.changes) rest)) change.2, change.3)
+            (sym (ap (λ (a : Agenda). why_at a.parking place) rest)) due)
+        | inr change ↦ inr (
+          change.0,
+          change.1,
+          subst (λ (words : List ℕ). Holds words change.0)
+              (sym (ap (λ (a : Agenda). a.changes) rest)) change.2,
+          change.3,
+        )
       ],
     );
     envelopes = λ e is. elim (Contains-append_cases (envelope ∷ []) taken.envelopes e
         (subst (λ (es : List Envelope). Contains es e) takes is)) [
-      | inl first ↦ let same = contains_one e envelope first in
-          elim heeds.one [
-            | inl kept ↦ inl (subst (λ (x : Envelope). Contains after.envelopes x) (sym same) kept)
-            | inr spent ↦ inr (spent_before e (subst (λ (x : Envelope).
-              IsSpent g.C.Calls.looked g.C.Calls.had g.C.Calls.sent g.C.Calls.told taken.number x) (sym same) spent))
+          | inl first ↦ let same = contains_one e envelope first in
+              elim heeds.one [
+                | inl kept ↦ inl (subst (λ (x : Envelope). Contains after.envelopes x) (sym same) kept)
+                | inr spent ↦ inr (spent_before e (subst (λ (x : Envelope).
+                    IsSpent g.C.Calls.looked g.C.Calls.had g.C.Calls.sent g.C.Calls.told taken.number x) (sym same) spent))
+              ]
+          | inr other ↦ elim (heeds.heeded.envelopes e other) [
+            | inl kept ↦ inl kept
+            | inr spent ↦ inr (spent_before e spent)
           ]
-      | inr other ↦ elim (heeds.heeded.envelopes e other) [
-        | inl kept ↦ inl kept
-        | inr spent ↦ inr (spent_before e spent)
-      ]
-    ];
+        ];
   }
 
 pub loop-preserved : goal.loop-preserved

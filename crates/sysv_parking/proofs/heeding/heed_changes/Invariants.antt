@@ -7,5 +7,5 @@ invariant-loop g l = record {
   runs : (goal.iterator-loop g).can_next l.iterator' × (goal.iterator-loop g).is_finite l.iterator';
   keeps : g.C.Calls.keeps l.fn.calls l.calls;
   heeded : Heeded g.C.Calls.looked g.C.Calls.had g.C.Calls.sent g.C.Calls.told (g.C.Calls.agenda l.fn.calls)
-    (g.C.Calls.agenda l.calls);
+      (g.C.Calls.agenda l.calls);
 }

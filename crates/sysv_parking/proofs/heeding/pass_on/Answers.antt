@@ -26,7 +26,7 @@ loop-preserved g c =
         | inl left ↦ elim (cases_eq worker (bit_of c.next_of-next.result)) [
           | inl e ↦ inr (inl (c.next_of-next.result, sym e, told))
           | inr ne ↦ inl (still_left c.loop.left.rest c.bit.result (bit_of c.next_of-next.result) worker c.bit.ensures
-            (omega arith) low ne left)
+              (omega arith) low ne left)
         ]
         | inr told ↦ inr told
       ];

@@ -6,5 +6,5 @@ abbrev pub invariant-loop : goal.invariant-loop
 invariant-loop g l = record {
   keeps : g.C.Calls.keeps l.fn.calls l.calls;
   heeded : Heeded g.C.Calls.looked g.C.Calls.had g.C.Calls.sent g.C.Calls.told (g.C.Calls.agenda l.fn.calls)
-    (g.C.Calls.agenda l.calls);
+      (g.C.Calls.agenda l.calls);
 }

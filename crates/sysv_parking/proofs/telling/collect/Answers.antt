@@ -11,6 +11,6 @@ returns-clause-announced g c =
     let after = g.C.Calls.agenda c.tell_all.new.calls in
     λ news is. elim (c.take_all.ensures.taken news is) [
       | inl change ↦ subst (λ (n : News). IsAnnounced g.C.Calls.told g.C.Calls.read n after) (sym change.1)
-        (λ there. c.tell_all.ensures.spread change.0 there (change.2 there))
+          (λ there. c.tell_all.ensures.spread change.0 there (change.2 there))
       | inr told ↦ announced_on g.C.Calls.told g.C.Calls.read taken after c.tell_all.ensures.work news told
     ]

@@ -25,7 +25,7 @@ loop-preserved g c =
           | inr still ↦ inl still
         ]
         | inr done ↦ inr (taken_on g.C.Calls.told g.C.Calls.read before after work c.loop.changes c.add.new.self
-          c.add.ensures.kept news done)
+            c.add.ensures.kept news done)
       ];
       work = work_on _ _ _ c.loop.invariant.work work;
       parking = ap (λ (a : Agenda). a.parking) c.take_news.ensures.same ∙ c.loop.invariant.parking;
@@ -52,7 +52,7 @@ loop-preserved-in-Some-Message g c =
           | inr still ↦ inl (subst (λ (ns : List News). Contains ns news) (sym c.post.ensures.news) still)
         ]
         | inr done ↦ inr (taken_on g.C.Calls.told g.C.Calls.read before after work c.loop.changes c.loop.changes
-          (λ change holds. holds) news done)
+            (λ change holds. holds) news done)
       ];
       work = work_on _ _ _ c.loop.invariant.work work;
       parking = c.post.ensures.parking ∙ ap (λ (a : Agenda). a.parking) c.take_news.ensures.same

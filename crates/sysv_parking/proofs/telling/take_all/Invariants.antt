@@ -9,7 +9,7 @@ abbrev pub invariant-loop : goal.invariant-loop
 invariant-loop g l = record {
   runs : (goal.iterator-loop g).can_next l.iterator' × (goal.iterator-loop g).is_finite l.iterator';
   taken : (news : News) → Contains (g.C.Calls.news l.fn.calls) news → Contains (g.C.Calls.news l.calls) news
-    ⊎ IsTaken g.C.Calls.told g.C.Calls.read news l.changes (g.C.Calls.agenda l.calls);
+      ⊎ IsTaken g.C.Calls.told g.C.Calls.read news l.changes (g.C.Calls.agenda l.calls);
   work : KeepsWork (g.C.Calls.agenda l.fn.calls) (g.C.Calls.agenda l.calls);
   parking : (g.C.Calls.agenda l.calls).parking ≡ (g.C.Calls.agenda l.fn.calls).parking;
   keeps : g.C.Calls.keeps l.fn.calls l.calls;

@@ -27,7 +27,7 @@ loop-preserved g c =
           | inr still ↦ inl still
         ]
         | inr told ↦ inr (spread_on g.C.Calls.told g.C.Calls.read (g.C.Calls.agenda c.loop.calls) after
-          c.tell_each.ensures.work change told)
+            c.tell_each.ensures.work change told)
       ];
       work = work_on _ _ _ c.loop.invariant.work c.tell_each.ensures.work;
       parking = c.tell_each.ensures.parking ∙ c.loop.invariant.parking;

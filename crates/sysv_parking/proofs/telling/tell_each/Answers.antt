@@ -21,10 +21,10 @@ returns-then-workers-own-eq0-clause-heard g c = λ there worker low is.
     let own = c.bit-own.ensures ∙ ap (λ (n : ℕ). 2 ^ bit_of n) c.number.ensures in
     elim (cases_eq worker (bit_of number)) [
       | inl e ↦ absurd (let none = none_own c.args.workers c.bit-own.result (bit_of number) own
-        c.if-workers-own-eq0.true in let here : bit_at c.args.workers (bit_of number) ≡ 1 =
-        subst (λ (k : ℕ). bit_at c.args.workers k ≡ 1) e is in omega (arith, none, here))
+          c.if-workers-own-eq0.true in let here : bit_at c.args.workers (bit_of number) ≡ 1 =
+          subst (λ (k : ℕ). bit_at c.args.workers k ≡ 1) e is in omega (arith, none, here))
       | inr ne ↦ inl (other g.C.Calls.told g.C.Calls.read c.args.change c.args.workers c.bit-own.result (bit_of number) own
-        (omega arith) c.tell_others.ensures worker low ne is)
+          (omega arith) c.tell_others.ensures worker low ne is)
     ]
 
 pub returns-then-is_last-clause-heard : goal.returns-then-is_last-clause-heard
@@ -38,7 +38,7 @@ returns-then-is_last-clause-heard g c = λ there worker low is.
         c.tell.ensures,
       )
       | inr ne ↦ inl (other g.C.Calls.told g.C.Calls.read c.args.change c.args.workers c.bit-own.result (bit_of number) own
-        (omega arith) c.tell_others.ensures worker low ne is)
+          (omega arith) c.tell_others.ensures worker low ne is)
     ]
 
 pub returns-else-workers-own-clause-heard : goal.returns-else-workers-own-clause-heard
@@ -47,7 +47,7 @@ returns-else-workers-own-clause-heard g c = λ there worker low is.
     let own = c.bit-own.ensures ∙ ap (λ (n : ℕ). 2 ^ bit_of n) c.number.ensures in
     let same : g.C.Calls.agenda c.else-workers-own.calls ≡ was =
     elim c.else-workers-own.branch [
-      else-workers-own-via-then-workers-own+else-is_last w ↦ ap g.C.Calls.agenda w.calls-is ∙ w.is_last.ensures.same
+      | else-workers-own-via-then-workers-own+else-is_last w ↦ ap g.C.Calls.agenda w.calls-is ∙ w.is_last.ensures.same
       | else-workers-own-via-else-workers-own w ↦ ap g.C.Calls.agenda w.calls-is
     ] in
     elim (cases_eq worker (bit_of was.number)) [
@@ -56,5 +56,5 @@ returns-else-workers-own-clause-heard g c = λ there worker low is.
         c.add_change.ensures.added there,
       )
       | inr ne ↦ inl (other g.C.Calls.told g.C.Calls.read c.args.change c.args.workers c.bit-own.result (bit_of was.number)
-        own (omega arith) c.tell_others.ensures worker low ne is)
+          own (omega arith) c.tell_others.ensures worker low ne is)
     ]

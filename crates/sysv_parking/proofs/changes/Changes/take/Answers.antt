@@ -22,8 +22,8 @@ returns-then-word-ne0-clause-kept c =
     elim (cases_eq n (c.loop-at.at * 64 + bit)) [
       | inl e ↦ inl (ap Some (c.of.ensures change there e))
       | inr ne ↦ inr (set_less words c.loop-at.at (omega (arith, c.loop-at-test.true, long)) (n / 64) (n % 64)
-        (subst (λ (ws : List ℕ). Holds ws change)
-        (sym c.self.view_is ∙ sym (ap (λ (i : Inside). i.words) c.loop-at.invariant.same)) holds) bit _
-        (λ at low. ne (omega (arith, at, low))) (λ j low apart. bit_at_clear_other w64 word bit lowest.0 j low apart)
-        (omega arith))
+          (subst (λ (ws : List ℕ). Holds ws change)
+          (sym c.self.view_is ∙ sym (ap (λ (i : Inside). i.words) c.loop-at.invariant.same)) holds) bit _
+          (λ at low. ne (omega (arith, at, low))) (λ j low apart. bit_at_clear_other w64 word bit lowest.0 j low apart)
+          (omega arith))
     ]
