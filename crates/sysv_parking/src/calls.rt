@@ -20,31 +20,19 @@ use crate::lines::Lines;
 use sysv_keys::slot_of_id;
 use sysv_rules::qualifies;
 
-/// A worker, as those see it that decide which of its parked calls are looked at, and what it tells
-/// other workers. `B` is what has it look, and what the workers share.
-pub trait Calls<B> {
+/// A worker, as those see it that have it tell other workers what has changed. `B` is what the
+/// workers share.
+pub trait Tells<B> {
     ghost use Rattle.sysv_parking.specs.Agenda.{Agenda};
     ghost use Rattle.sysv_parking.specs.declared.changes.Change.{Change};
     ghost use Rattle.sysv_parking.specs.declared.changes.Change.TheVariants.{Anything};
-    ghost use Rattle.sysv_parking.specs.declared.envelope.Envelope.{Envelope};
     ghost use Rattle.sysv_parking.specs.declared.envelope.News.{News};
-    ghost use Rattle.sysv_parking.specs.declared.found.Found.{Found};
-    ghost use Rattle.sysv_parking.specs.declared.key.Key.{Key};
 
     /// What the worker keeps while its calls are looked at.
     ghost keeps: { Self → Self → Type 0 };
 
     /// What the worker has still to do for its parked calls.
     ghost agenda: { Self → Agenda };
-
-    /// The call of this place, which waited for this, was looked at, with this result.
-    ghost looked: { ℕ → Option Key → Found → Type 0 };
-
-    /// The worker's calls were parked so at one moment.
-    ghost had: { Parking → Type 0 };
-
-    /// The worker of this number was sent this envelope.
-    ghost sent: { ℕ → Envelope → Type 0 };
 
     /// The worker of this number was told of this change.
     ghost told: { ℕ → Change → Type 0 };
@@ -55,81 +43,9 @@ pub trait Calls<B> {
     /// What calls of the worker have changed, and was not told yet.
     ghost news: { Self → List News };
 
-    /// There was no envelope for the worker at one moment.
-    ghost emptied: { Type 0 };
-
-    /// The worker looks for envelopes before it sleeps.
-    ghost awake: { Type 0 };
-
-    /// Returns the lines of the parked calls.
-    fn lines(&self) -> &Lines
-        ensures lines { result.now ≡ (agenda self.now).parking }
-        ensures had { had (agenda self.now).parking };
-
-    /// Takes the first of the places that are due.
-    fn take_due(&mut self) -> Option<(usize, Why)>
-        ensures takes { Takes result (agenda self.old).parking (agenda self.new).parking }
-        ensures rest { agenda self.new
-            ≡ record (agenda self.old) { parking = (agenda self.new).parking } }
-        ensures keeps { keeps self.old self.new };
-
-    /// Takes a change that is to be heeded, and makes the parked calls due whose wait it may end.
-    /// Returns whether there was one.
-    fn heed_change(&mut self, by: &B) -> bool
-        ensures heeds { result ≡ true → HeedsChange (agenda self.old) (agenda self.new) }
-        ensures none { result ≡ false → IsHeedful (agenda self.new) }
-        ensures same { result ≡ false → agenda self.new ≡ agenda self.old }
-        ensures keeps { keeps self.old self.new };
-
-    /// Returns whether one more look is within the worker's share.
-    fn may_look(&self) -> bool
-        ensures { result ≡ false → (agenda self.now).looks ≡ 0 };
-
-    /// Looks whether the call of a place may go on, and has it go on. `mtype` is the type of the
-    /// message for which it is looked at, or 0.
-    fn look(&mut self, by: &B, place: usize, mtype: i64) -> Found
-        ensures look { looked place (key_at (agenda self.old).parking place) result }
-        ensures moves { MovesOnly place (agenda self.old).parking (agenda self.new).parking }
-        ensures in_lines { AreInLines (agenda self.new).parking }
-        ensures waits { result ≡ Found.Nothing → key_at (agenda self.new).parking place
-            ≡ key_at (agenda self.old).parking place }
-        ensures over { (result ≡ Found.Message) ⊎ (result ≡ Found.Over) →
-            key_at (agenda self.new).parking place ≡ None }
-        ensures work { KeepsWork (agenda self.old) (agenda self.new) }
-        ensures keeps { keeps self.old self.new };
-
-    /// Takes the first of the envelopes that the worker keeps.
-    fn take_envelope(&mut self) -> Option<Envelope>
-        ensures takes { TakesFirst result (agenda self.old).envelopes
-            (agenda self.new).envelopes }
-        ensures rest { agenda self.new
-            ≡ record (agenda self.old) { envelopes = (agenda self.new).envelopes } }
-        ensures keeps { keeps self.old self.new };
-
-    /// Keeps an envelope, before all others. If memory is refused, all workers are told that
-    /// anything may have happened.
-    fn put_off(&mut self, by: &B, envelope: Envelope)
-        ensures one { Contains (agenda self.new).envelopes envelope
-            ⊎ ((worker : ℕ) → worker < 64 → told worker Anything) }
-        ensures work { KeepsWork (agenda self.old) (agenda self.new) }
-        ensures parking { (agenda self.new).parking ≡ (agenda self.old).parking }
-        ensures keeps { keeps self.old self.new };
-
-    /// Returns the number of the worker that looks first for the message of an envelope of this
-    /// worker.
-    fn first_for(&mut self, by: &B, envelope: &Envelope) -> usize
-        ensures same { agenda self.new ≡ agenda self.old }
-        ensures keeps { keeps self.old self.new };
-
     /// Returns the worker's number.
     fn number(&self) -> usize
         ensures { result ≡ (agenda self.now).number };
-
-    /// Sends an envelope to a worker. Returns whether it has it: else it was told that anything may
-    /// have happened.
-    fn send(&self, by: &B, to: usize, envelope: Envelope) -> bool
-        ensures sent { result ≡ true → sent to envelope }
-        ensures told { result ≡ false → told to Anything };
 
     /// Tells a worker of a change.
     fn tell(&self, by: &B, to: usize, change: Change)
@@ -172,17 +88,110 @@ pub trait Calls<B> {
         ensures news { news self.new ≡ news self.old }
         ensures keeps { keeps self.old self.new };
 
+    ghost keeps_itself: { (x : Self) → keeps x x };
+
+    ghost keeps_on: { (x y z : Self) → keeps x y → keeps y z → keeps x z };
+}
+
+/// A worker, as those see it that decide which of its parked calls are looked at.
+pub trait Calls<B>: Tells<B> {
+    ghost use Rattle.sysv_parking.specs.declared.changes.Change.TheVariants.{Anything};
+    ghost use Rattle.sysv_parking.specs.declared.envelope.Envelope.{Envelope};
+    ghost use Rattle.sysv_parking.specs.declared.found.Found.{Found};
+    ghost use Rattle.sysv_parking.specs.declared.key.Key.{Key};
+
+    /// The call of this place, which waited for this, was looked at, with this result.
+    ghost looked: { ℕ → Option Key → Found → Type 0 };
+
+    /// The worker's calls were parked so at one moment.
+    ghost had: { Parking → Type 0 };
+
+    /// The worker of this number was sent this envelope.
+    ghost sent: { ℕ → Envelope → Type 0 };
+
+    /// There was no envelope for the worker at one moment.
+    ghost emptied: { Type 0 };
+
+    /// The worker looks for envelopes before it sleeps.
+    ghost awake: { Type 0 };
+
+    /// Returns the lines of the parked calls.
+    fn lines(&self) -> &Lines
+        ensures lines { result.now ≡ (Self.agenda self.now).parking }
+        ensures had { had (Self.agenda self.now).parking };
+
+    /// Takes the first of the places that are due.
+    fn take_due(&mut self) -> Option<(usize, Why)>
+        ensures takes { Takes result (Self.agenda self.old).parking (Self.agenda self.new).parking }
+        ensures rest { Self.agenda self.new
+            ≡ record (Self.agenda self.old) { parking = (Self.agenda self.new).parking } }
+        ensures keeps { Self.keeps self.old self.new };
+
+    /// Takes a change that is to be heeded, and makes the parked calls due whose wait it may end.
+    /// Returns whether there was one.
+    fn heed_change(&mut self, by: &B) -> bool
+        ensures heeds { result ≡ true → HeedsChange (Self.agenda self.old) (Self.agenda self.new) }
+        ensures none { result ≡ false → IsHeedful (Self.agenda self.new) }
+        ensures same { result ≡ false → Self.agenda self.new ≡ Self.agenda self.old }
+        ensures keeps { Self.keeps self.old self.new };
+
+    /// Returns whether one more look is within the worker's share.
+    fn may_look(&self) -> bool
+        ensures { result ≡ false → (Self.agenda self.now).looks ≡ 0 };
+
+    /// Looks whether the call of a place may go on, and has it go on. `mtype` is the type of the
+    /// message for which it is looked at, or 0.
+    fn look(&mut self, by: &B, place: usize, mtype: i64) -> Found
+        ensures look { looked place (key_at (Self.agenda self.old).parking place) result }
+        ensures moves { MovesOnly place (Self.agenda self.old).parking (Self.agenda self.new).parking }
+        ensures in_lines { AreInLines (Self.agenda self.new).parking }
+        ensures waits { result ≡ Found.Nothing → key_at (Self.agenda self.new).parking place
+            ≡ key_at (Self.agenda self.old).parking place }
+        ensures over { (result ≡ Found.Message) ⊎ (result ≡ Found.Over) →
+            key_at (Self.agenda self.new).parking place ≡ None }
+        ensures work { KeepsWork (Self.agenda self.old) (Self.agenda self.new) }
+        ensures keeps { Self.keeps self.old self.new };
+
+    /// Takes the first of the envelopes that the worker keeps.
+    fn take_envelope(&mut self) -> Option<Envelope>
+        ensures takes { TakesFirst result (Self.agenda self.old).envelopes
+            (Self.agenda self.new).envelopes }
+        ensures rest { Self.agenda self.new
+            ≡ record (Self.agenda self.old) { envelopes = (Self.agenda self.new).envelopes } }
+        ensures keeps { Self.keeps self.old self.new };
+
+    /// Keeps an envelope, before all others. If memory is refused, all workers are told that
+    /// anything may have happened.
+    fn put_off(&mut self, by: &B, envelope: Envelope)
+        ensures one { Contains (Self.agenda self.new).envelopes envelope
+            ⊎ ((worker : ℕ) → worker < 64 → Self.told worker Anything) }
+        ensures work { KeepsWork (Self.agenda self.old) (Self.agenda self.new) }
+        ensures parking { (Self.agenda self.new).parking ≡ (Self.agenda self.old).parking }
+        ensures keeps { Self.keeps self.old self.new };
+
+    /// Returns the number of the worker that looks first for the message of an envelope of this
+    /// worker.
+    fn first_for(&mut self, by: &B, envelope: &Envelope) -> usize
+        ensures same { Self.agenda self.new ≡ Self.agenda self.old }
+        ensures keeps { Self.keeps self.old self.new };
+
+    /// Sends an envelope to a worker. Returns whether it has it: else it was told that anything may
+    /// have happened.
+    fn send(&self, by: &B, to: usize, envelope: Envelope) -> bool
+        ensures sent { result ≡ true → sent to envelope }
+        ensures told { result ≡ false → Self.told to Anything };
+
     /// Has it be known that no calls of this worker are parked under a word.
     fn unmark(&self, by: &B, word: usize)
-        requires { parked_at (agenda self.now).parking word ≡ 0 };
+        requires { parked_at (Self.agenda self.now).parking word ≡ 0 };
 
     /// Keeps the next envelope that was sent to this worker, after all others. Returns whether there
     /// was one.
     fn read_envelope(&mut self, by: &B) -> bool
         ensures none { result ≡ false → emptied }
-        ensures work { KeepsWork (agenda self.old) (agenda self.new) }
-        ensures parking { (agenda self.new).parking ≡ (agenda self.old).parking }
-        ensures keeps { keeps self.old self.new };
+        ensures work { KeepsWork (Self.agenda self.old) (Self.agenda self.new) }
+        ensures parking { (Self.agenda self.new).parking ≡ (Self.agenda self.old).parking }
+        ensures keeps { Self.keeps self.old self.new };
 
     /// Returns whether the worker keeps as many envelopes as it reads in a round.
     fn is_laden(&self) -> bool;
@@ -190,10 +199,6 @@ pub trait Calls<B> {
     /// Has the worker look for envelopes before it sleeps.
     fn stay_awake(&self, by: &B)
         ensures { awake };
-
-    ghost keeps_itself: { (x : Self) → keeps x x };
-
-    ghost keeps_on: { (x y z : Self) → keeps x y → keeps y z → keeps x z };
 }
 
 /// Looks at the calls that are due, except those that would still wait, as looks at others have

@@ -18,7 +18,7 @@ mod lines;
 mod telling;
 
 pub use agenda::Agenda;
-pub use calls::{Calls, look_at_due, look_for_message};
+pub use calls::{Calls, Tells, look_at_due, look_for_message};
 pub use changes::{CHANGE_BITS, CHANGE_WORDS, Change, Changes};
 pub use due::Why;
 pub use envelope::{Envelope, News};

@@ -6,7 +6,7 @@ ghost use Rattle.sysv_parking.specs.declared.changes.Change.{Change};
 ghost use Rattle.sysv_parking.specs.Agenda.{AreParkedFor, AreTold, HearOf, IsAnnounced, IsPosted, IsSpread, IsTaken, KeepsWork};
 ghost use Rattle.sysv_parking.specs.Changes.{Holds, IsThere};
 
-use crate::calls::Calls;
+use crate::calls::Tells;
 use crate::changes::{Change, Changes};
 use crate::envelope::{Envelope, News};
 use crate::heeding::bit;
@@ -14,7 +14,7 @@ use crate::key::{BLOCKS_WORD, SETTLED_WORD, room_word};
 use std::sync::Wait;
 
 /// Tells all whom it may concern what the calls of this worker have changed, or keeps it for them.
-pub fn collect<B, C: Calls<B>>(rt: &impl Wait, by: &B, calls: &mut C)
+pub fn collect<B, C: Tells<B>>(rt: &impl Wait, by: &B, calls: &mut C)
     ensures announced { (news : News) → Contains (C.news calls.old) news
         → IsAnnounced C.told C.read news (C.agenda calls.new) }
     ensures work { KeepsWork (C.agenda calls.old) (C.agenda calls.new) }
@@ -28,7 +28,7 @@ pub fn collect<B, C: Calls<B>>(rt: &impl Wait, by: &B, calls: &mut C)
 
 /// Takes what the calls of this worker have changed: a message that has arrived is posted, and each
 /// other change is added to those that are to be told.
-fn take_all<B, C: Calls<B>>(rt: &impl Wait, by: &B, calls: &mut C, changes: &mut Changes)
+fn take_all<B, C: Tells<B>>(rt: &impl Wait, by: &B, calls: &mut C, changes: &mut Changes)
     ensures taken { (news : News) → Contains (C.news calls.old) news
         → IsTaken C.told C.read news changes.new (C.agenda calls.new) }
     ensures work { KeepsWork (C.agenda calls.old) (C.agenda calls.new) }
@@ -45,7 +45,7 @@ fn take_all<B, C: Calls<B>>(rt: &impl Wait, by: &B, calls: &mut C, changes: &mut
 }
 
 /// Keeps an envelope of a message that has arrived, if receives are parked at its queue.
-fn post<B, C: Calls<B>>(by: &B, calls: &mut C, slot: usize, mtype: i64)
+fn post<B, C: Tells<B>>(by: &B, calls: &mut C, slot: usize, mtype: i64)
     ensures posted { IsPosted C.told C.read slot mtype (C.agenda calls.new) }
     ensures work { KeepsWork (C.agenda calls.old) (C.agenda calls.new) }
     ensures parking { (C.agenda calls.new).parking ≡ (C.agenda calls.old).parking }
@@ -59,7 +59,7 @@ fn post<B, C: Calls<B>>(by: &B, calls: &mut C, slot: usize, mtype: i64)
 }
 
 /// Tells of all these changes each worker that has calls parked which they may end.
-fn tell_all<B, C: Calls<B>>(rt: &impl Wait, by: &B, calls: &mut C, changes: &mut Changes)
+fn tell_all<B, C: Tells<B>>(rt: &impl Wait, by: &B, calls: &mut C, changes: &mut Changes)
     ensures spread { (change : Change) → IsThere change → Holds changes.old change
         → IsSpread C.told C.read change (C.agenda calls.new) }
     ensures work { KeepsWork (C.agenda calls.old) (C.agenda calls.new) }
@@ -76,7 +76,7 @@ fn tell_all<B, C: Calls<B>>(rt: &impl Wait, by: &B, calls: &mut C, changes: &mut
 }
 
 /// Returns which workers have parked calls that such a change may end.
-fn parked_for<B, C: Calls<B>>(by: &B, calls: &C, change: Change) -> u64
+fn parked_for<B, C: Tells<B>>(by: &B, calls: &C, change: Change) -> u64
     ensures { AreParkedFor C.told C.read change result }
 {
     match change {
@@ -92,7 +92,7 @@ fn parked_for<B, C: Calls<B>>(by: &B, calls: &C, change: Change) -> u64
 
 /// Tells each of these workers of a change. This one heeds it at once or, in turn, after the others:
 /// else its own clients might have all that becomes free.
-fn tell_each<B, C: Calls<B>>(rt: &impl Wait, by: &B, calls: &mut C, workers: u64, change: Change)
+fn tell_each<B, C: Tells<B>>(rt: &impl Wait, by: &B, calls: &mut C, workers: u64, change: Change)
     ensures heard { IsThere change
         → HearOf C.told C.read change workers (C.agenda calls.new) }
     ensures work { KeepsWork (C.agenda calls.old) (C.agenda calls.new) }
@@ -112,7 +112,7 @@ fn tell_each<B, C: Calls<B>>(rt: &impl Wait, by: &B, calls: &mut C, workers: u64
 }
 
 /// Tells each of these workers of a change.
-fn tell_others<B, C: Calls<B>>(rt: &impl Wait, by: &B, calls: &C, workers: u64, change: Change)
+fn tell_others<B, C: Tells<B>>(rt: &impl Wait, by: &B, calls: &C, workers: u64, change: Change)
     ensures { AreTold C.told C.read change workers }
 {
     let mut rest = workers;

@@ -12,7 +12,7 @@ use Rattle.sysv_parking.proofs.calls.look_along.Goals as goal
 
 pub returns-in_default-clause-unwanted : goal.returns-in_default-clause-unwanted
 returns-in_default-clause-unwanted g c =
-    let now = (g.C.Calls.agenda c.loop.calls).parking in
+    let now = (g.C.Tells.agenda c.loop.calls).parking in
     let m = to_z w64 (of_z w64 c.args.mtype) in
     λ unwanted. subst (λ (t : ℤ). IsUnwantedIn line_of c.args.line now c.args.slot t)
     (to_z-of_z w64 c.args.mtype c.ranges.mtype)
@@ -23,7 +23,7 @@ returns-in_default-clause-unwanted g c =
 
 pub loop-preserved-then-not-names : goal.loop-preserved-then-not-names
 loop-preserved-then-not-names g c =
-    let now = (g.C.Calls.agenda c.loop.calls).parking in
+    let now = (g.C.Tells.agenda c.loop.calls).parking in
     let m = to_z w64 (of_z w64 c.args.mtype) in
     let there : item_at (line_at now c.args.line) c.loop.index ≡ Some c.in-Some.place =
     sym (ap (λ (p : Parking). item_at (line_at p c.args.line) c.loop.index) c.lines.ensures.lines)
@@ -44,8 +44,8 @@ loop-preserved-then-not-names g c =
 
 pub loop-preserved : goal.loop-preserved
 loop-preserved g c =
-    let now = (g.C.Calls.agenda c.loop.calls).parking in
-    let after = (g.C.Calls.agenda c.look.new.self).parking in
+    let now = (g.C.Tells.agenda c.loop.calls).parking in
+    let after = (g.C.Tells.agenda c.look.new.self).parking in
     let m = to_z w64 (of_z w64 c.args.mtype) in
     let there : item_at (line_at now c.args.line) c.loop.index ≡ Some c.in-Some.place =
     sym (ap (λ (p : Parking). item_at (line_at p c.args.line) c.loop.index) c.lines.ensures.lines)
@@ -57,11 +57,11 @@ loop-preserved g c =
     subst (λ (k : Option Key). IsNaming c.args.slot m k) key (c.names.ensures.0 yes) in
     let over : key_at after c.in-Some.place ≡ None = c.look.ensures.over (inr c.in-Over.is) in
     record {
-      keeps = g.met.C.Calls.keeps_on _ _ _ c.loop.invariant.keeps c.look.ensures.keeps;
+      keeps = g.met.C.Tells.keeps_on _ _ _ c.loop.invariant.keeps c.look.ensures.keeps;
       work = heeds_on _ _ _ c.loop.invariant.work (look_heeds _ _ _ _ _ c.look.ensures.look c.look.ensures.moves
           c.look.ensures.work);
       ends = ends_after now c.args.line c.args.slot m c.loop.index c.in-Some.place there c.loop.invariant.passed after
-          naming c.look.ensures.moves over c.look.ensures.in_lines (g.C.Calls.agenda c.args.calls.now).parking
+          naming c.look.ensures.moves over c.look.ensures.in_lines (g.C.Tells.agenda c.args.calls.now).parking
           c.loop.invariant.ends;
       passed =
           passed_after now c.args.line c.args.slot m c.loop.index c.in-Some.place there c.loop.invariant.passed after

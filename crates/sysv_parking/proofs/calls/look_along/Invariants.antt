@@ -10,12 +10,12 @@ use Rattle.sysv_parking.proofs.calls.look_along.Given as goal
 
 abbrev pub invariant-loop : goal.invariant-loop
 invariant-loop g l =
-    let now = (g.C.Calls.agenda l.calls).parking in
+    let now = (g.C.Tells.agenda l.calls).parking in
     record {
-      keeps : g.C.Calls.keeps l.fn.calls l.calls;
-      work : Heeded g.C.Calls.looked g.C.Calls.had g.C.Calls.sent g.C.Calls.told (g.C.Calls.agenda l.fn.calls)
-          (g.C.Calls.agenda l.calls);
-      ends : OnlyEnds (g.C.Calls.agenda l.fn.calls).parking now;
+      keeps : g.C.Tells.keeps l.fn.calls l.calls;
+      work : Heeded g.C.Calls.looked g.C.Calls.had g.C.Calls.sent g.C.Tells.told (g.C.Tells.agenda l.fn.calls)
+          (g.C.Tells.agenda l.calls);
+      ends : OnlyEnds (g.C.Tells.agenda l.fn.calls).parking now;
       passed : (j : ℕ) → j < l.index → (key : Key) → key_at now (get_or (line_at now l.line) j 0) ≡ Some key →
           Names l.slot l.mtype key → ⊥;
     }

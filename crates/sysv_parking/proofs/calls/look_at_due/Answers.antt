@@ -10,10 +10,10 @@ use Rattle.sysv_parking.proofs.calls.look_at_due.Goals as goal
 
 pub loop-preserved : goal.loop-preserved
 loop-preserved g c =
-    let was = (g.C.Calls.agenda c.args.calls.now).parking in
-    let before = (g.C.Calls.agenda c.loop.calls).parking in
-    let taken = (g.C.Calls.agenda c.take_due.new.self).parking in
-    let after = (g.C.Calls.agenda c.look_unless.new.calls).parking in
+    let was = (g.C.Tells.agenda c.args.calls.now).parking in
+    let before = (g.C.Tells.agenda c.loop.calls).parking in
+    let taken = (g.C.Tells.agenda c.take_due.new.self).parking in
+    let after = (g.C.Tells.agenda c.look_unless.new.calls).parking in
     let takes = c.in-Some.ensures.takes in
     let step = c.look_unless.ensures.step in
     let keys = c.loop.invariant.keys in
@@ -23,10 +23,10 @@ loop-preserved g c =
     g.C.Calls.looked p k f =
     λ p k f l. l in
     record {
-      keeps = g.met.C.Calls.keeps_on _ _ _ c.loop.invariant.keeps
-          (g.met.C.Calls.keeps_on _ _ _ c.take_due.ensures.keeps c.look_unless.ensures.keeps);
-      work = heeds_on _ _ _ c.loop.invariant.work (due_heeds (g.C.Calls.agenda c.loop.calls)
-          (g.C.Calls.agenda c.take_due.new.self) (g.C.Calls.agenda c.look_unless.new.calls) c.in-Some.place c.in-Some.why
+      keeps = g.met.C.Tells.keeps_on _ _ _ c.loop.invariant.keeps
+          (g.met.C.Tells.keeps_on _ _ _ c.take_due.ensures.keeps c.look_unless.ensures.keeps);
+      work = heeds_on _ _ _ c.loop.invariant.work (due_heeds (g.C.Tells.agenda c.loop.calls)
+          (g.C.Tells.agenda c.take_due.new.self) (g.C.Tells.agenda c.look_unless.new.calls) c.in-Some.place c.in-Some.why
           c.loop.barriers c.look_unless.new.barriers takes c.take_due.ensures.rest step shown
           c.look_unless.ensures.heeded);
       heeded = all_heeded kept was before taken after c.in-Some.place c.in-Some.why c.loop.barriers
@@ -39,8 +39,8 @@ loop-preserved g c =
 
 pub returns-in_default-clause-work : goal.returns-in_default-clause-work
 returns-in_default-clause-work g c =
-    let none : Takes None (g.C.Calls.agenda c.loop.calls).parking (g.C.Calls.agenda c.take_due.new.self).parking =
-    subst (λ (t : Option (ℕ × Why)). Takes t (g.C.Calls.agenda c.loop.calls).parking
-    (g.C.Calls.agenda c.take_due.new.self).parking) c.in_default.is c.take_due.ensures.takes in
-    heeds_on _ _ _ c.loop.invariant.work (heeds_same (g.C.Calls.agenda c.loop.calls) (g.C.Calls.agenda c.take_due.new.self)
+    let none : Takes None (g.C.Tells.agenda c.loop.calls).parking (g.C.Tells.agenda c.take_due.new.self).parking =
+    subst (λ (t : Option (ℕ × Why)). Takes t (g.C.Tells.agenda c.loop.calls).parking
+    (g.C.Tells.agenda c.take_due.new.self).parking) c.in_default.is c.take_due.ensures.takes in
+    heeds_on _ _ _ c.loop.invariant.work (heeds_same (g.C.Tells.agenda c.loop.calls) (g.C.Tells.agenda c.take_due.new.self)
     c.take_due.ensures.rest none.1)

@@ -10,12 +10,12 @@ use Rattle.sysv_parking.proofs.calls.look_at_due.Given as goal
 abbrev pub invariant-loop : goal.invariant-loop
 invariant-loop g l =
     let Looked = g.C.Calls.looked in
-    let was = (g.C.Calls.agenda l.fn.calls).parking in
-    let now = (g.C.Calls.agenda l.calls).parking in
+    let was = (g.C.Tells.agenda l.fn.calls).parking in
+    let now = (g.C.Tells.agenda l.calls).parking in
     record {
-      keeps : g.C.Calls.keeps l.fn.calls l.calls;
-      work : Heeded Looked g.C.Calls.had g.C.Calls.sent g.C.Calls.told (g.C.Calls.agenda l.fn.calls)
-          (g.C.Calls.agenda l.calls);
+      keeps : g.C.Tells.keeps l.fn.calls l.calls;
+      work : Heeded Looked g.C.Calls.had g.C.Calls.sent g.C.Tells.told (g.C.Tells.agenda l.fn.calls)
+          (g.C.Tells.agenda l.calls);
       heeded : (place : ℕ) → is_due (why_at was place) ≡ true → IsHeeded Looked was now place;
       keys : (place : ℕ) → WasLookedAt Looked place ⊎ (key_at now place ≡ key_at was place);
       shown : AreShown (StillWaits Looked) l.barriers;

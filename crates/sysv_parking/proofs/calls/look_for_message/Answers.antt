@@ -18,7 +18,7 @@ returns-in_default-look_along g c =
       unwanted = λ is. absurd (c.in_default-look_along.not-Unwanted is);
       had = λ is. absurd (c.in_default-look_along.not-Unwanted is);
       work = heeds_on _ _ _ c.look_along.ensures.work c.look_along-2.ensures.work;
-      keeps = g.met.C.Calls.keeps_on _ _ _ c.look_along.ensures.keeps c.look_along-2.ensures.keeps;
+      keeps = g.met.C.Tells.keeps_on _ _ _ c.look_along.ensures.keeps c.look_along-2.ensures.keeps;
     }
 
 pub returns-in_default-look_along-2 : goal.returns-in_default-look_along-2
@@ -32,17 +32,17 @@ returns-in_default-look_along-2 g c =
       had = λ is. absurd (c.in_default-look_along-2.not-Unwanted is);
       work = heeds_on _ _ _ c.look_along.ensures.work (heeds_on _ _ _ c.look_along-2.ensures.work
           c.look_along-3.ensures.work);
-      keeps = g.met.C.Calls.keeps_on _ _ _ c.look_along.ensures.keeps
-          (g.met.C.Calls.keeps_on _ _ _ c.look_along-2.ensures.keeps c.look_along-3.ensures.keeps);
+      keeps = g.met.C.Tells.keeps_on _ _ _ c.look_along.ensures.keeps
+          (g.met.C.Tells.keeps_on _ _ _ c.look_along-2.ensures.keeps c.look_along-3.ensures.keeps);
     }
 
 pub returns-clause-unwanted : goal.returns-clause-unwanted
 returns-clause-unwanted g c =
     let m = to_z w64 (of_z w64 c.args.mtype) in
-    let one = (g.C.Calls.agenda c.look_along.new.calls).parking in
-    let two = (g.C.Calls.agenda c.look_along-2.new.calls).parking in
-    let three = (g.C.Calls.agenda c.look_along-3.new.calls).parking in
-    let four = (g.C.Calls.agenda c.look_along-4.new.calls).parking in
+    let one = (g.C.Tells.agenda c.look_along.new.calls).parking in
+    let two = (g.C.Tells.agenda c.look_along-2.new.calls).parking in
+    let three = (g.C.Tells.agenda c.look_along-3.new.calls).parking in
+    let four = (g.C.Tells.agenda c.look_along-4.new.calls).parking in
     λ is. subst (λ (t : ℤ). IsUnwanted four c.args.slot t) (to_z-of_z w64 c.args.mtype c.ranges.mtype)
     (unwanted_in_all c.args.slot m one two three four
     (subst (λ (n : ℕ). IsUnwantedIn line_of n one c.args.slot m) c.exact_line.ensures

@@ -34,31 +34,31 @@ returns-in-Short-clause-heeds g c = record {
 }
 
 module _ (g : given.Over) (c : goal.After-pass_on g) where
-  own : c.bit-own.result ≡ 2 ^ bit_of (g.C.Calls.agenda c.args.calls.now).number
+  own : c.bit-own.result ≡ 2 ^ bit_of (g.C.Tells.agenda c.args.calls.now).number
   own = c.bit-own.ensures ∙ ap (λ (n : ℕ). 2 ^ bit_of n) c.number.ensures
 
-  others : (worker : ℕ) → worker < 64 → worker ≢ bit_of (g.C.Calls.agenda c.args.calls.now).number →
-      bit_at c.args.envelope.rest worker ≡ 1 → IsTold g.C.Calls.looked g.C.Calls.had g.C.Calls.sent g.C.Calls.told
+  others : (worker : ℕ) → worker < 64 → worker ≢ bit_of (g.C.Tells.agenda c.args.calls.now).number →
+      bit_at c.args.envelope.rest worker ≡ 1 → IsTold g.C.Calls.looked g.C.Calls.had g.C.Calls.sent g.C.Tells.told
       c.args.envelope.slot c.args.envelope.mtype worker
   others worker low ne is = c.pass_on.ensures worker low (still_left c.args.envelope.rest c.bit-own.result
-      (bit_of (g.C.Calls.agenda c.args.calls.now).number) worker own (omega arith) low ne is)
+      (bit_of (g.C.Tells.agenda c.args.calls.now).number) worker own (omega arith) low ne is)
 
 pub returns-clause-heeds : goal.returns-clause-heeds
 returns-clause-heeds g c =
-    let was = g.C.Calls.agenda c.args.calls.now in
+    let was = g.C.Tells.agenda c.args.calls.now in
     let own_is = own g c in
     let same : to_z w64 (of_z w64 c.args.envelope.mtype) ≡ c.args.envelope.mtype = search rules in
     elim c.if-envelope-own-ne0.branch [
       | then-envelope-own-ne0+in-Unwanted w ↦ record {
-        heeded = subst (λ calls. Heeded g.C.Calls.looked g.C.Calls.had g.C.Calls.sent g.C.Calls.told was
-            (g.C.Calls.agenda calls)) (sym w.calls-is) w.look_for_message.ensures.work;
+        heeded = subst (λ calls. Heeded g.C.Calls.looked g.C.Calls.had g.C.Calls.sent g.C.Tells.told was
+            (g.C.Tells.agenda calls)) (sym w.calls-is) w.look_for_message.ensures.work;
         one = inr (inr (inr (λ worker low is. elim (cases_eq worker (bit_of was.number)) [
           | inl e ↦ inl (
             e,
             (
-              (g.C.Calls.agenda w.look_for_message.new.calls).parking,
+              (g.C.Tells.agenda w.look_for_message.new.calls).parking,
               w.look_for_message.ensures.had w.in-Unwanted.is,
-              subst (λ (t : ℤ). IsUnwanted (g.C.Calls.agenda w.look_for_message.new.calls).parking c.args.envelope.slot t)
+              subst (λ (t : ℤ). IsUnwanted (g.C.Tells.agenda w.look_for_message.new.calls).parking c.args.envelope.slot t)
                   same
                   (w.look_for_message.ensures.unwanted w.in-Unwanted.is),
             ),
@@ -67,8 +67,8 @@ returns-clause-heeds g c =
         ])));
       }
       | else-envelope-own-ne0 w ↦ record {
-        heeded = subst (λ calls. Heeded g.C.Calls.looked g.C.Calls.had g.C.Calls.sent g.C.Calls.told was
-            (g.C.Calls.agenda calls)) (sym w.calls-is) (heeds_none was);
+        heeded = subst (λ calls. Heeded g.C.Calls.looked g.C.Calls.had g.C.Calls.sent g.C.Tells.told was
+            (g.C.Tells.agenda calls)) (sym w.calls-is) (heeds_none was);
         one = inr (inr (inr (λ worker low is. elim (cases_eq worker (bit_of was.number)) [
           | inl e ↦ absurd (let none = none_own c.args.envelope.rest c.bit-own.result (bit_of was.number) own_is
               w.if-envelope-own-ne0.false in let here : bit_at c.args.envelope.rest (bit_of was.number) ≡ 1 =

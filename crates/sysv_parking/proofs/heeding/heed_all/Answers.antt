@@ -16,8 +16,8 @@ use Rattle.sysv_parking.proofs.heeding.heed_all.Goals as goal
 pub loop-preserved-then-has_due : goal.loop-preserved-then-has_due
 loop-preserved-then-has_due g c = record {
   runs = search rules;
-  keeps = g.met.C.Calls.keeps_on _ _ _ c.loop.invariant.keeps
-      (g.met.C.Calls.keeps_on _ _ _ c.heed_changes.ensures.keeps c.look_at_due.ensures.keeps);
+  keeps = g.met.C.Tells.keeps_on _ _ _ c.loop.invariant.keeps
+      (g.met.C.Tells.keeps_on _ _ _ c.heed_changes.ensures.keeps c.look_at_due.ensures.keeps);
   heeded = heeds_on _ _ _ c.loop.invariant.heeded (heeds_on _ _ _ c.heed_changes.ensures.heeded c.look_at_due.ensures.work);
 }
 
@@ -33,15 +33,15 @@ contains_one e envelope is =
 module _ (g : given.Over) (before taken after : Agenda) (envelope : Envelope)
     (takes : before.envelopes ≡ envelope ∷ taken.envelopes)
     (rest : taken ≡ record before { envelopes = taken.envelopes })
-    (heeds : HeedsOne g.C.Calls.looked g.C.Calls.had g.C.Calls.sent g.C.Calls.told envelope taken after) where
+    (heeds : HeedsOne g.C.Calls.looked g.C.Calls.had g.C.Calls.sent g.C.Tells.told envelope taken after) where
   number : taken.number ≡ before.number
   number = ap (λ (a : Agenda). a.number) rest
 
-  spent_before : (e : Envelope) → IsSpent g.C.Calls.looked g.C.Calls.had g.C.Calls.sent g.C.Calls.told taken.number e →
-      IsSpent g.C.Calls.looked g.C.Calls.had g.C.Calls.sent g.C.Calls.told before.number e
-  spent_before e = subst (λ (n : ℕ). IsSpent g.C.Calls.looked g.C.Calls.had g.C.Calls.sent g.C.Calls.told n e) number
+  spent_before : (e : Envelope) → IsSpent g.C.Calls.looked g.C.Calls.had g.C.Calls.sent g.C.Tells.told taken.number e →
+      IsSpent g.C.Calls.looked g.C.Calls.had g.C.Calls.sent g.C.Tells.told before.number e
+  spent_before e = subst (λ (n : ℕ). IsSpent g.C.Calls.looked g.C.Calls.had g.C.Calls.sent g.C.Tells.told n e) number
 
-  one_heeds : Heeded g.C.Calls.looked g.C.Calls.had g.C.Calls.sent g.C.Calls.told before after
+  one_heeds : Heeded g.C.Calls.looked g.C.Calls.had g.C.Calls.sent g.C.Tells.told before after
   one_heeds = record {
     number = heeds.heeded.number ∙ number;
     owed = λ place key why owes. heeds.heeded.owed place key why (
@@ -64,7 +64,7 @@ module _ (g : given.Over) (before taken after : Agenda) (envelope : Envelope)
               elim heeds.one [
                 | inl kept ↦ inl (subst (λ (x : Envelope). Contains after.envelopes x) (sym same) kept)
                 | inr spent ↦ inr (spent_before e (subst (λ (x : Envelope).
-                    IsSpent g.C.Calls.looked g.C.Calls.had g.C.Calls.sent g.C.Calls.told taken.number x) (sym same) spent))
+                    IsSpent g.C.Calls.looked g.C.Calls.had g.C.Calls.sent g.C.Tells.told taken.number x) (sym same) spent))
               ]
           | inr other ↦ elim (heeds.heeded.envelopes e other) [
             | inl kept ↦ inl kept
@@ -75,17 +75,17 @@ module _ (g : given.Over) (before taken after : Agenda) (envelope : Envelope)
 
 pub loop-preserved : goal.loop-preserved
 loop-preserved g c =
-    let before = g.C.Calls.agenda c.heed_changes.new.calls in
-    let taken = g.C.Calls.agenda c.take_envelope.new.self in
-    let after = g.C.Calls.agenda c.send_off.new.calls in
+    let before = g.C.Tells.agenda c.heed_changes.new.calls in
+    let taken = g.C.Tells.agenda c.take_envelope.new.self in
+    let after = g.C.Tells.agenda c.send_off.new.calls in
     let takes : before.envelopes ≡ c.in-Some-take_envelope.envelope ∷ taken.envelopes =
     subst (λ (t : Option Envelope). TakesFirst t before.envelopes taken.envelopes) c.in-Some-take_envelope.is
     c.take_envelope.ensures.takes in
     record {
       runs = search rules;
-      keeps = g.met.C.Calls.keeps_on _ _ _ c.loop.invariant.keeps
-          (g.met.C.Calls.keeps_on _ _ _ c.heed_changes.ensures.keeps
-          (g.met.C.Calls.keeps_on _ _ _ c.take_envelope.ensures.keeps c.send_off.ensures.keeps));
+      keeps = g.met.C.Tells.keeps_on _ _ _ c.loop.invariant.keeps
+          (g.met.C.Tells.keeps_on _ _ _ c.heed_changes.ensures.keeps
+          (g.met.C.Tells.keeps_on _ _ _ c.take_envelope.ensures.keeps c.send_off.ensures.keeps));
       heeded = heeds_on _ _ _ c.loop.invariant.heeded (heeds_on _ _ _ c.heed_changes.ensures.heeded
           (one_heeds g before taken after c.in-Some-take_envelope.envelope takes c.take_envelope.ensures.rest
           c.send_off.ensures.heeds));
@@ -98,18 +98,18 @@ none_taken before taken takes rest =
 
 pub returns-in_default-clause-heeded : goal.returns-in_default-clause-heeded
 returns-in_default-clause-heeded g c =
-    let before = g.C.Calls.agenda c.heed_changes.new.calls in
-    let taken = g.C.Calls.agenda c.take_envelope.new.self in
+    let before = g.C.Tells.agenda c.heed_changes.new.calls in
+    let taken = g.C.Tells.agenda c.take_envelope.new.self in
     let takes = subst (λ (t : Option Envelope). TakesFirst t before.envelopes taken.envelopes) c.in_default.is
     c.take_envelope.ensures.takes in
-    subst (λ (a : Agenda). Heeded g.C.Calls.looked g.C.Calls.had g.C.Calls.sent g.C.Calls.told
-    (g.C.Calls.agenda c.args.calls.now) a) (sym (none_taken before taken takes c.take_envelope.ensures.rest))
+    subst (λ (a : Agenda). Heeded g.C.Calls.looked g.C.Calls.had g.C.Calls.sent g.C.Tells.told
+    (g.C.Tells.agenda c.args.calls.now) a) (sym (none_taken before taken takes c.take_envelope.ensures.rest))
     (heeds_on _ _ _ c.loop.invariant.heeded c.heed_changes.ensures.heeded)
 
 pub returns-in_default-clause-rest : goal.returns-in_default-clause-rest
 returns-in_default-clause-rest g c =
-    let before = g.C.Calls.agenda c.heed_changes.new.calls in
-    let taken = g.C.Calls.agenda c.take_envelope.new.self in
+    let before = g.C.Tells.agenda c.heed_changes.new.calls in
+    let taken = g.C.Tells.agenda c.take_envelope.new.self in
     let takes = subst (λ (t : Option Envelope). TakesFirst t before.envelopes taken.envelopes) c.in_default.is
     c.take_envelope.ensures.takes in
     let calls = subst (λ (p : Parking). NoneIsDue p) c.lines.ensures.lines (c.has_due.ensures.none c.if-has_due.false) in

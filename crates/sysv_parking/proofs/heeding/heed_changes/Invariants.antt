@@ -5,7 +5,7 @@ use Rattle.sysv_parking.proofs.heeding.heed_changes.Given as goal
 abbrev pub invariant-loop : goal.invariant-loop
 invariant-loop g l = record {
   runs : (goal.iterator-loop g).can_next l.iterator' × (goal.iterator-loop g).is_finite l.iterator';
-  keeps : g.C.Calls.keeps l.fn.calls l.calls;
-  heeded : Heeded g.C.Calls.looked g.C.Calls.had g.C.Calls.sent g.C.Calls.told (g.C.Calls.agenda l.fn.calls)
-      (g.C.Calls.agenda l.calls);
+  keeps : g.C.Tells.keeps l.fn.calls l.calls;
+  heeded : Heeded g.C.Calls.looked g.C.Calls.had g.C.Calls.sent g.C.Tells.told (g.C.Tells.agenda l.fn.calls)
+      (g.C.Tells.agenda l.calls);
 }

@@ -7,10 +7,10 @@ use Rattle.sysv_parking.proofs.telling.collect.Goals as goal
 
 pub returns-clause-announced : goal.returns-clause-announced
 returns-clause-announced g c =
-    let taken = g.C.Calls.agenda c.take_all.new.calls in
-    let after = g.C.Calls.agenda c.tell_all.new.calls in
+    let taken = g.C.Tells.agenda c.take_all.new.calls in
+    let after = g.C.Tells.agenda c.tell_all.new.calls in
     λ news is. elim (c.take_all.ensures.taken news is) [
-      | inl change ↦ subst (λ (n : News). IsAnnounced g.C.Calls.told g.C.Calls.read n after) (sym change.1)
+      | inl change ↦ subst (λ (n : News). IsAnnounced g.C.Tells.told g.C.Tells.read n after) (sym change.1)
           (λ there. c.tell_all.ensures.spread change.0 there (change.2 there))
-      | inr told ↦ announced_on g.C.Calls.told g.C.Calls.read taken after c.tell_all.ensures.work news told
+      | inr told ↦ announced_on g.C.Tells.told g.C.Tells.read taken after c.tell_all.ensures.work news told
     ]

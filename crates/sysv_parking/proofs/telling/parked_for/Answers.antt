@@ -13,18 +13,18 @@ returns-in-Queue g c = λ word is.
     elim (subst (λ (change : Change). IsWordOf change word) c.in-Queue.is is) [
       | inl e ↦ (
         one,
-        subst (λ (w : ℕ). g.C.Calls.read w one) (sym e) c.word.ensures,
+        subst (λ (w : ℕ). g.C.Tells.read w one) (sym e) c.word.ensures,
         λ worker bit. or_more (bit_or one two) three worker (or_more one two worker bit),
       )
       | inr more ↦ elim more [
         | inl e ↦ (
           two,
-          subst (λ (w : ℕ). g.C.Calls.read w two) (c.room_word.ensures ∙ sym e) c.word-in-Queue.ensures,
+          subst (λ (w : ℕ). g.C.Tells.read w two) (c.room_word.ensures ∙ sym e) c.word-in-Queue.ensures,
           λ worker bit. or_more (bit_or one two) three worker (or_second one two worker bit),
         )
         | inr e ↦ (
           three,
-          subst (λ (w : ℕ). g.C.Calls.read w three) (sym e) c.word-in-Queue-2.ensures,
+          subst (λ (w : ℕ). g.C.Tells.read w three) (sym e) c.word-in-Queue-2.ensures,
           λ worker bit. or_second (bit_or one two) three worker bit,
         )
       ]

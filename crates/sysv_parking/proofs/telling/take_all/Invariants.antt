@@ -8,9 +8,9 @@ use Rattle.sysv_parking.proofs.telling.take_all.Given as goal
 abbrev pub invariant-loop : goal.invariant-loop
 invariant-loop g l = record {
   runs : (goal.iterator-loop g).can_next l.iterator' × (goal.iterator-loop g).is_finite l.iterator';
-  taken : (news : News) → Contains (g.C.Calls.news l.fn.calls) news → Contains (g.C.Calls.news l.calls) news
-      ⊎ IsTaken g.C.Calls.told g.C.Calls.read news l.changes (g.C.Calls.agenda l.calls);
-  work : KeepsWork (g.C.Calls.agenda l.fn.calls) (g.C.Calls.agenda l.calls);
-  parking : (g.C.Calls.agenda l.calls).parking ≡ (g.C.Calls.agenda l.fn.calls).parking;
-  keeps : g.C.Calls.keeps l.fn.calls l.calls;
+  taken : (news : News) → Contains (g.C.Tells.news l.fn.calls) news → Contains (g.C.Tells.news l.calls) news
+      ⊎ IsTaken g.C.Tells.told g.C.Tells.read news l.changes (g.C.Tells.agenda l.calls);
+  work : KeepsWork (g.C.Tells.agenda l.fn.calls) (g.C.Tells.agenda l.calls);
+  parking : (g.C.Tells.agenda l.calls).parking ≡ (g.C.Tells.agenda l.fn.calls).parking;
+  keeps : g.C.Tells.keeps l.fn.calls l.calls;
 }

@@ -9,8 +9,8 @@ use Rattle.sysv_parking.proofs.telling.tell_all.Goals as goal
 pub loop-preserved : goal.loop-preserved
 loop-preserved g c =
     let taken = c.in-Some-take.change in
-    let after = g.C.Calls.agenda c.tell_each.new.calls in
-    let now : IsThere taken → IsSpread g.C.Calls.told g.C.Calls.read taken after = λ there word is.
+    let after = g.C.Tells.agenda c.tell_each.new.calls in
+    let now : IsThere taken → IsSpread g.C.Tells.told g.C.Tells.read taken after = λ there word is.
     let parked = c.parked_for-workers.ensures word is in (
       parked.0,
       parked.1,
@@ -22,14 +22,14 @@ loop-preserved g c =
         | inl left ↦ elim (c.take.ensures.kept change there left) [
           | inl e ↦
               let same : taken ≡ change = cc in
-              inr (subst (λ (x : Change). IsSpread g.C.Calls.told g.C.Calls.read x after) same
+              inr (subst (λ (x : Change). IsSpread g.C.Tells.told g.C.Tells.read x after) same
               (now (subst (λ (x : Change). IsThere x) (sym same) there)))
           | inr still ↦ inl still
         ]
-        | inr told ↦ inr (spread_on g.C.Calls.told g.C.Calls.read (g.C.Calls.agenda c.loop.calls) after
+        | inr told ↦ inr (spread_on g.C.Tells.told g.C.Tells.read (g.C.Tells.agenda c.loop.calls) after
             c.tell_each.ensures.work change told)
       ];
       work = work_on _ _ _ c.loop.invariant.work c.tell_each.ensures.work;
       parking = c.tell_each.ensures.parking ∙ c.loop.invariant.parking;
-      keeps = g.met.C.Calls.keeps_on _ _ _ c.loop.invariant.keeps c.tell_each.ensures.keeps;
+      keeps = g.met.C.Tells.keeps_on _ _ _ c.loop.invariant.keeps c.tell_each.ensures.keeps;
     }

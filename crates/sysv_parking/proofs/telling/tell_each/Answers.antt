@@ -17,19 +17,19 @@ module _ (Told : ℕ → Change → Type 0) (Read : ℕ → ℕ → Type 0) (cha
 
 pub returns-then-workers-own-eq0-clause-heard : goal.returns-then-workers-own-eq0-clause-heard
 returns-then-workers-own-eq0-clause-heard g c = λ there worker low is.
-    let number = (g.C.Calls.agenda c.args.calls.now).number in
+    let number = (g.C.Tells.agenda c.args.calls.now).number in
     let own = c.bit-own.ensures ∙ ap (λ (n : ℕ). 2 ^ bit_of n) c.number.ensures in
     elim (cases_eq worker (bit_of number)) [
       | inl e ↦ absurd (let none = none_own c.args.workers c.bit-own.result (bit_of number) own
           c.if-workers-own-eq0.true in let here : bit_at c.args.workers (bit_of number) ≡ 1 =
           subst (λ (k : ℕ). bit_at c.args.workers k ≡ 1) e is in omega (arith, none, here))
-      | inr ne ↦ inl (other g.C.Calls.told g.C.Calls.read c.args.change c.args.workers c.bit-own.result (bit_of number) own
+      | inr ne ↦ inl (other g.C.Tells.told g.C.Tells.read c.args.change c.args.workers c.bit-own.result (bit_of number) own
           (omega arith) c.tell_others.ensures worker low ne is)
     ]
 
 pub returns-then-is_last-clause-heard : goal.returns-then-is_last-clause-heard
 returns-then-is_last-clause-heard g c = λ there worker low is.
-    let number = (g.C.Calls.agenda c.args.calls.now).number in
+    let number = (g.C.Tells.agenda c.args.calls.now).number in
     let own = c.bit-own.ensures ∙ ap (λ (n : ℕ). 2 ^ bit_of n) c.number.ensures in
     elim (cases_eq worker (bit_of number)) [
       | inl e ↦ inl (
@@ -37,24 +37,24 @@ returns-then-is_last-clause-heard g c = λ there worker low is.
         ap bit_of (c.number-then-is_last.ensures ∙ ap (λ (a : Agenda). a.number) c.is_last.ensures.same) ∙ sym e,
         c.tell.ensures,
       )
-      | inr ne ↦ inl (other g.C.Calls.told g.C.Calls.read c.args.change c.args.workers c.bit-own.result (bit_of number) own
+      | inr ne ↦ inl (other g.C.Tells.told g.C.Tells.read c.args.change c.args.workers c.bit-own.result (bit_of number) own
           (omega arith) c.tell_others.ensures worker low ne is)
     ]
 
 pub returns-else-workers-own-clause-heard : goal.returns-else-workers-own-clause-heard
 returns-else-workers-own-clause-heard g c = λ there worker low is.
-    let was = g.C.Calls.agenda c.args.calls.now in
+    let was = g.C.Tells.agenda c.args.calls.now in
     let own = c.bit-own.ensures ∙ ap (λ (n : ℕ). 2 ^ bit_of n) c.number.ensures in
-    let same : g.C.Calls.agenda c.else-workers-own.calls ≡ was =
+    let same : g.C.Tells.agenda c.else-workers-own.calls ≡ was =
     elim c.else-workers-own.branch [
-      | else-workers-own-via-then-workers-own+else-is_last w ↦ ap g.C.Calls.agenda w.calls-is ∙ w.is_last.ensures.same
-      | else-workers-own-via-else-workers-own w ↦ ap g.C.Calls.agenda w.calls-is
+      | else-workers-own-via-then-workers-own+else-is_last w ↦ ap g.C.Tells.agenda w.calls-is ∙ w.is_last.ensures.same
+      | else-workers-own-via-else-workers-own w ↦ ap g.C.Tells.agenda w.calls-is
     ] in
     elim (cases_eq worker (bit_of was.number)) [
       | inl e ↦ inr (
         e ∙ sym (ap bit_of (c.add_change.ensures.work.number ∙ ap (λ (a : Agenda). a.number) same)),
         c.add_change.ensures.added there,
       )
-      | inr ne ↦ inl (other g.C.Calls.told g.C.Calls.read c.args.change c.args.workers c.bit-own.result (bit_of was.number)
+      | inr ne ↦ inl (other g.C.Tells.told g.C.Tells.read c.args.change c.args.workers c.bit-own.result (bit_of was.number)
           own (omega arith) c.tell_others.ensures worker low ne is)
     ]
