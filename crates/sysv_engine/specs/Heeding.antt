@@ -1,14 +1,14 @@
--- What a worker does when something has changed for its parked calls (this project's profile).
-use Rattle.sysv_parking.specs.Keys.{line_blocks, line_room, line_settled}
-use Rattle.sysv_parking.specs.Lines.{NotesAll, NotesChange, NotesLine}
-use Rattle.sysv_parking.specs.Parking.{Parking}
-use Rattle.sysv_engine.specs.declared.changes.Change.{Change}
-use Rattle.sysv_engine.specs.declared.changes.Change.TheVariants.{Queue, Room, Blocks, Settled, Anything}
+-- What the calls of a worker's clients have changed for parked calls (this project's profile).
+use Rattle.sysv_parking.specs.declared.changes.Change.TheVariants as changes
+use Rattle.sysv_parking.specs.declared.envelope.News.{News}
+use Rattle.sysv_parking.specs.declared.envelope.News.TheVariants as news
+use Rattle.sysv_seats.specs.declared.notification.Notification.{Notification}
+use Rattle.sysv_seats.specs.declared.notification.Notification.TheVariants.{Arrived, Freed, Released, Changed, Settled}
 
--- Each parked call is due whose wait the change may end.
-abbrev pub Heeds : Change → Parking → Parking → Type 0
-Heeds (Queue slot) = NotesChange slot
-Heeds (Room slot) = NotesLine (line_room slot)
-Heeds Blocks = NotesLine line_blocks
-Heeds Settled = NotesLine line_settled
-Heeds Anything = NotesAll
+-- A message has arrived, or something else has changed.
+abbrev pub news_of : Notification → News
+news_of (Arrived slot mtype) = news.Message slot mtype
+news_of (Freed slot mtype) = news.Changed (changes.Room slot)
+news_of Released = news.Changed changes.Blocks
+news_of (Changed slot) = news.Changed (changes.Queue slot)
+news_of Settled = news.Changed changes.Settled

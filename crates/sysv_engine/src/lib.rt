@@ -19,6 +19,7 @@ mod counts;
 mod dealing;
 mod doorbell;
 mod fault;
+mod heeding;
 mod laws;
 mod moment;
 mod place;

@@ -3,8 +3,9 @@
 ghost use Rattle.std.specs.Prelude.{◌≡◌, ◌≤◌, IfSome, vec_len};
 ghost use Rattle.sysv_keys.specs.declared.identifier.TheConstants.{SLOTS as slot_count};
 ghost use Rattle.sysv_engine.specs.Counting.{IsNothing};
+ghost use Rattle.sysv_parking.specs.Agenda.{KeepsWork};
 
-use crate::changes::{Change, Changes, ToldChanges};
+use crate::changes::ToldChanges;
 use crate::counts::{Counted, Counts, Moved, SlotCounts, zeros};
 use crate::doorbell::Doorbell;
 use crate::moment::{Moment, NO_DESCRIPTOR, await_doorbell};
@@ -14,7 +15,7 @@ use std::alloc::Global;
 use std::sync::Wait;
 use std::sync::atomic::{AtomicBool, AtomicU64, Ordering};
 use sysv_keys::SLOTS;
-use sysv_parking::WORDS;
+use sysv_parking::{Agenda, Change, Envelope, WORDS};
 use sysv_queue::Tally;
 
 /// The number of bits in a word, and so of workers that a word can name.
@@ -26,17 +27,6 @@ const ENVELOPES: usize = 512;
 /// The number of clients with which each of them, and the worker that serves it, may well have a
 /// processor of its own.
 const FEW_CLIENTS: u64 = 2;
-
-/// A message that has arrived at a queue, and for which receives are looked at.
-#[derive(Clone, Copy)]
-pub(crate) struct Envelope {
-    /// The slot of the queue.
-    pub(crate) slot: usize,
-    /// The type of the message.
-    pub(crate) mtype: i64,
-    /// The workers that have not had it, a bit for each. The receiver of an envelope passes it on.
-    pub(crate) rest: u64,
-}
 
 /// How a worker is reached.
 #[derive(Drop)]
@@ -201,9 +191,12 @@ impl ServerState {
     }
 
     /// Moves what else has changed for a worker's parked calls to the changes that it has to heed.
-    pub(crate) fn take_changes(&self, worker: usize, changes: &mut Changes) {
+    pub(crate) fn take_changes(&self, worker: usize, agenda: &mut Agenda)
+        ensures work { KeepsWork agenda.old agenda.new }
+        ensures parking { agenda.new.parking ≡ agenda.old.parking }
+    {
         if let Some(post) = self.posts.get(worker) {
-            post.changes.move_to(changes);
+            post.changes.move_to(agenda);
         }
     }
 
@@ -214,6 +207,13 @@ impl ServerState {
         match self.posts.get(worker) {
             Some(post) => post.send(rt, envelope),
             None => false,
+        }
+    }
+
+    /// Tells all workers that anything may have happened.
+    pub(crate) fn tell_everyone(&self) {
+        for post in &self.posts {
+            post.tell(Change::Anything);
         }
     }
 

@@ -34,7 +34,7 @@ pub(crate) fn kits<'a, R: Wait, T: NonBlocking, W: Drop>(
     while let Some(watch) = watches.pop() {
         let count = share(left, watches.len());
         left -= count;
-        let Some(kit) = Kit::open(alloc, count, watch) else {
+        let Some(kit) = Kit::open(alloc, watches.len(), count, watch) else {
             discard(kits);
             return None;
         };
@@ -98,7 +98,7 @@ pub(crate) fn staff<'a, R: Wait, T: NonBlocking, W: Watch<T>>(
     while let Some(kit) = kits.pop() {
         let mut kit = kit;
         hire(rt, alloc, service, pass, books, &mut kit.places);
-        workers.push_reserved(Worker::new(kits.len(), kit));
+        workers.push_reserved(Worker::new(kit));
     }
     kits.destroy_empty();
     workers.reverse();

@@ -1,18 +1,18 @@
 //! The workers of a server: their places, and what happens at each.
-ghost use Rattle.std.specs.Prelude.{◌≡◌, ◌≤◌, vec_len, vec_capacity, [], IfSome};
+ghost use Rattle.std.specs.Prelude.{◌≡◌, ◌≤◌, ◌⊎◌, vec_len, vec_capacity, [], false, IfSome, Some};
+ghost use Rattle.sysv_parking.specs.Agenda.{IsAtRest};
 ghost use Rattle.sysv_engine.specs.Places.{AdoptsOne, IsVacantAt, KeepsAll};
 
-use crate::changes::Changes;
+use crate::counts::Moved;
 use crate::moment::Moment;
 use crate::place::Place;
-use crate::server_state::Envelope;
 use crate::spinning::Spinning;
 use crate::terms::Patience;
 use crate::watch::{Ready, Watch};
 use std::alloc::Global;
 use std::collections::VecDeque;
 use std::sync::Wait;
-use sysv_parking::{Key, Lines};
+use sysv_parking::{Agenda, Key};
 use sysv_seats::{NonBlocking, Tools};
 use sysv_session::Served;
 
@@ -34,22 +34,15 @@ const MOST_READY: usize = 256;
 
 /// A worker of a server: places with their clients, and what watches the connections.
 pub(crate) struct Worker<'a, R: Wait, T: NonBlocking, W> {
-    /// The worker's number.
-    pub(crate) number: usize,
     pub(crate) places: Vec<Place<'a, R, T>>,
     /// The places without a client.
     pub(crate) free: Vec<usize>,
     pub(crate) watch: W,
     pub(crate) ready: Vec<Ready>,
-    pub(crate) lines: Lines,
+    /// What is still to do for the parked calls.
+    pub(crate) agenda: Agenda,
     /// The places that have more to do.
     pub(crate) turns: VecDeque<usize>,
-    /// Messages that have arrived, for which no receive was looked at yet.
-    pub(crate) envelopes: VecDeque<Envelope>,
-    /// What else has changed, and was not heeded yet.
-    pub(crate) changes: Changes,
-    /// The number of looks at parked calls that the worker may still make in this round.
-    pub(crate) looks: u32,
     pub(crate) tools: Tools,
     /// The number of connections that the worker was told to take, and has taken or goes to take.
     pub(crate) answered: u64,
@@ -60,6 +53,8 @@ pub(crate) struct Worker<'a, R: Wait, T: NonBlocking, W> {
     pub(crate) again: Option<Moment>,
     /// Whether the worker looks for events before it sleeps.
     pub(crate) spinning: Spinning,
+    /// Messages that moved, and are still to be counted.
+    pub(crate) moved: Moved,
     /// The numbers of its envelopes and of its changes, modulo 2^64.
     messages: usize,
     changed: usize,
@@ -70,23 +65,27 @@ pub(crate) struct Kit<'a, R: Wait, T: NonBlocking, W> {
     pub(crate) places: Vec<Place<'a, R, T>>,
     free: Vec<usize>,
     ready: Vec<Ready>,
-    lines: Lines,
+    agenda: Agenda,
     turns: VecDeque<usize>,
-    envelopes: VecDeque<Envelope>,
     tools: Tools,
     watch: W,
 }
 
 impl<'a, R: Wait, T: NonBlocking, W: Drop> Kit<'a, R, T, W> {
-    /// Allocates the tools of a worker with this number of places. Returns `None` if memory is
-    /// refused.
-    pub(crate) fn open(alloc: Global, count: usize, watch: W) -> Option<Kit<'a, R, T, W>>
+    /// Allocates the tools of the worker of this number, with this number of places. Returns `None`
+    /// if memory is refused.
+    pub(crate) fn open(
+        alloc: Global,
+        number: usize,
+        count: usize,
+        watch: W,
+    ) -> Option<Kit<'a, R, T, W>>
         ensures { IfSome result (λ kit. (kit.places.items ≡ [])
             × (vec_capacity kit.places ≡ count)) }
     {
         let free = all_places(alloc, count)?;
         let ready = Vec::with_capacity(alloc, MOST_READY).ok()?;
-        let lines = Lines::open(alloc, count)?;
+        let agenda = Agenda::open(alloc, number, count)?;
         let turns = VecDeque::with_capacity(alloc, count).ok()?;
         let tools = Tools::open(alloc).ok()?;
         let places = room_for(alloc, count)?;
@@ -94,9 +93,8 @@ impl<'a, R: Wait, T: NonBlocking, W: Drop> Kit<'a, R, T, W> {
             places,
             free,
             ready,
-            lines,
+            agenda,
             turns,
-            envelopes: VecDeque::new(alloc),
             tools,
             watch,
         })
@@ -112,9 +110,8 @@ impl<R: Wait, T: NonBlocking, W: Drop> Kit<'_, R, T, W> {
             places,
             free: _,
             ready: _,
-            lines: _,
+            agenda: _,
             turns: _,
-            envelopes: _,
             tools: _,
             watch: _,
         } = self;
@@ -124,35 +121,31 @@ impl<R: Wait, T: NonBlocking, W: Drop> Kit<'_, R, T, W> {
 
 impl<'a, R: Wait, T: NonBlocking, W: Watch<T>> Worker<'a, R, T, W> {
     /// Creates a worker without clients, with the places of its kit.
-    pub(crate) fn new(number: usize, kit: Kit<'a, R, T, W>) -> Worker<'a, R, T, W>
+    pub(crate) fn new(kit: Kit<'a, R, T, W>) -> Worker<'a, R, T, W>
         ensures { result.places ≡ kit.entry.places }
     {
         let Kit {
             places,
             free,
             ready,
-            lines,
+            agenda,
             turns,
-            envelopes,
             tools,
             watch,
         } = kit;
         Worker {
-            number,
             places,
             free,
             watch,
             ready,
-            lines,
+            agenda,
             turns,
-            envelopes,
-            changes: Changes::NONE,
-            looks: LOOKS,
             tools,
             answered: 1,
             check: None,
             again: None,
             spinning: Spinning::new(),
+            moved: Moved::NONE,
             messages: 0,
             changed: 0,
         }
@@ -165,21 +158,18 @@ impl<'a, R: Wait, T: NonBlocking, W: Watch<T>> Worker<'a, R, T, W> {
         ensures { result.0 ≡ self.entry.places }
     {
         let Worker {
-            number: _,
             places,
             free: _,
             watch: _,
             ready: _,
-            lines: _,
+            agenda: _,
             turns: _,
-            envelopes: _,
-            changes: _,
-            looks: _,
             tools,
             answered: _,
             check: _,
             again: _,
             spinning: _,
+            moved: _,
             messages: _,
             changed: _,
         } = self;
@@ -189,15 +179,15 @@ impl<'a, R: Wait, T: NonBlocking, W: Watch<T>> Worker<'a, R, T, W> {
     /// Counts an envelope that this worker writes. Returns whose turn it is to look first, counted
     /// on from turn to turn, or `None` for its own.
     pub(crate) fn next_first(&mut self) -> Option<usize>
-        ensures { (self.new.places ≡ self.old.places) × (self.new.lines ≡ self.old.lines) }
+        ensures { (self.new.places ≡ self.old.places) × (self.new.agenda ≡ self.old.agenda) }
     {
         self.messages = self.messages.wrapping_add(1);
         turn(self.messages, SHARE_OF_MESSAGES)
     }
 
     /// Counts a change that this worker heeds. Returns whether other workers heed it first.
-    pub(crate) fn is_last(&mut self) -> bool
-        ensures { (self.new.places ≡ self.old.places) × (self.new.lines ≡ self.old.lines) }
+    pub(crate) fn is_last_to_heed(&mut self) -> bool
+        ensures { (self.new.places ≡ self.old.places) × (self.new.agenda ≡ self.old.agenda) }
     {
         self.changed = self.changed.wrapping_add(1);
         turn(self.changed, SHARE_OF_CHANGES).is_some()
@@ -205,25 +195,37 @@ impl<'a, R: Wait, T: NonBlocking, W: Watch<T>> Worker<'a, R, T, W> {
 
     /// Begins a round: the worker may make as many looks again.
     pub(crate) fn begin_looks(&mut self)
-        ensures { (self.new.places ≡ self.old.places) × (self.new.lines ≡ self.old.lines) }
+        ensures { self.new.places ≡ self.old.places }
     {
-        self.looks = LOOKS;
+        self.agenda.begin(LOOKS);
     }
 
     /// Allows the looks that the requests of a client's turn may need.
     pub(crate) fn allow_looks(&mut self)
-        ensures { (self.new.places ≡ self.old.places) × (self.new.lines ≡ self.old.lines) }
+        ensures { self.new.places ≡ self.old.places }
     {
-        self.looks = self.looks.saturating_add(LOOKS);
+        self.agenda.allow(LOOKS);
     }
 
     /// Returns whether there is more to do: a client has, parked calls are due, or something has
     /// changed that was not heeded.
-    pub(crate) fn has_more(&self) -> bool {
-        !self.turns.is_empty()
-            || self.lines.has_due()
-            || !self.changes.is_empty()
-            || !self.envelopes.is_empty()
+    pub(crate) fn has_more(&self) -> bool
+        ensures { result ≡ false → IsAtRest self.now.agenda }
+    {
+        !self.turns.is_empty() || self.agenda.has_more()
+    }
+
+    /// Sleeps until a client has an event, something came for the worker, or the limit is over.
+    ///
+    /// # Conditions
+    ///
+    /// - There is nothing to do for parked calls, or the limit is 0.
+    pub(crate) fn wait(&mut self, limit: Option<u64>)
+        requires { (limit ≡ Some 0) ⊎ IsAtRest self.old.agenda }
+        ensures places { self.new.places ≡ self.old.places }
+        ensures agenda { self.new.agenda ≡ self.old.agenda }
+    {
+        self.watch.wait(limit, &mut self.ready);
     }
 
     /// Returns whether there are no clients.
@@ -295,7 +297,7 @@ impl<'a, R: Wait, T: NonBlocking, W: Watch<T>> Worker<'a, R, T, W> {
     pub(crate) fn note(&mut self, ready: &Ready)
         ensures keeps { KeepsAll T.incoming T.outgoing T.closes self.old.places.items
             self.new.places.items }
-        ensures lines { self.new.lines ≡ self.old.lines }
+        ensures agenda { self.new.agenda ≡ self.old.agenda }
     {
         if let Some(there) = self.places.get_mut(ready.place) {
             there.note(ready);
@@ -318,7 +320,7 @@ impl<'a, R: Wait, T: NonBlocking, W: Watch<T>> Worker<'a, R, T, W> {
     pub(crate) fn go_on(&mut self, place: usize)
         ensures keeps { KeepsAll T.incoming T.outgoing T.closes self.old.places.items
             self.new.places.items }
-        ensures lines { self.new.lines ≡ self.old.lines }
+        ensures agenda { self.new.agenda ≡ self.old.agenda }
     {
         if let Some(there) = self.places.get_mut(place) {
             there.go_on(&mut self.tools);
@@ -330,7 +332,7 @@ impl<'a, R: Wait, T: NonBlocking, W: Watch<T>> Worker<'a, R, T, W> {
     pub(crate) fn drain(&mut self, place: usize)
         ensures keeps { KeepsAll T.incoming T.outgoing T.closes self.old.places.items
             self.new.places.items }
-        ensures lines { self.new.lines ≡ self.old.lines }
+        ensures agenda { self.new.agenda ≡ self.old.agenda }
     {
         if let Some(there) = self.places.get_mut(place) {
             there.drain();
@@ -342,7 +344,7 @@ impl<'a, R: Wait, T: NonBlocking, W: Watch<T>> Worker<'a, R, T, W> {
     pub(crate) fn cut(&mut self, place: usize)
         ensures keeps { KeepsAll T.incoming T.outgoing T.closes self.old.places.items
             self.new.places.items }
-        ensures lines { self.new.lines ≡ self.old.lines }
+        ensures agenda { self.new.agenda ≡ self.old.agenda }
     {
         if let Some(there) = self.places.get_mut(place) {
             there.cut();
@@ -354,7 +356,7 @@ impl<'a, R: Wait, T: NonBlocking, W: Watch<T>> Worker<'a, R, T, W> {
     pub(crate) fn close(&mut self, place: usize) -> Option<Served>
         ensures keeps { KeepsAll T.incoming T.outgoing T.closes self.old.places.items
             self.new.places.items }
-        ensures lines { self.new.lines ≡ self.old.lines }
+        ensures agenda { self.new.agenda ≡ self.old.agenda }
     {
         let Some(there) = self.places.get_mut(place) else {
             return None;
@@ -367,7 +369,7 @@ impl<'a, R: Wait, T: NonBlocking, W: Watch<T>> Worker<'a, R, T, W> {
     pub(crate) fn await_more(&mut self, place: usize)
         ensures keeps { KeepsAll T.incoming T.outgoing T.closes self.old.places.items
             self.new.places.items }
-        ensures lines { self.new.lines ≡ self.old.lines }
+        ensures agenda { self.new.agenda ≡ self.old.agenda }
     {
         self.await_room(place);
         self.await_turn(place);
@@ -378,7 +380,7 @@ impl<'a, R: Wait, T: NonBlocking, W: Watch<T>> Worker<'a, R, T, W> {
     fn await_room(&mut self, place: usize)
         ensures keeps { KeepsAll T.incoming T.outgoing T.closes self.old.places.items
             self.new.places.items }
-        ensures lines { self.new.lines ≡ self.old.lines }
+        ensures agenda { self.new.agenda ≡ self.old.agenda }
     {
         if let Some(there) = self.places.get_mut(place) {
             there.await_room(&mut self.watch, place);
@@ -390,7 +392,7 @@ impl<'a, R: Wait, T: NonBlocking, W: Watch<T>> Worker<'a, R, T, W> {
     fn await_turn(&mut self, place: usize)
         ensures keeps { KeepsAll T.incoming T.outgoing T.closes self.old.places.items
             self.new.places.items }
-        ensures lines { self.new.lines ≡ self.old.lines }
+        ensures agenda { self.new.agenda ≡ self.old.agenda }
     {
         let Some(there) = self.places.get_mut(place) else {
             return;
@@ -424,7 +426,7 @@ impl<'a, R: Wait, T: NonBlocking, W: Watch<T>> Worker<'a, R, T, W> {
     /// Has the worker look soon whether the client has more bytes to read, if it may have some that
     /// nothing reports.
     pub(crate) fn look_again(&mut self, place: usize)
-        ensures { (self.new.places ≡ self.old.places) × (self.new.lines ≡ self.old.lines) }
+        ensures { (self.new.places ≡ self.old.places) × (self.new.agenda ≡ self.old.agenda) }
     {
         if self.again.is_none() && self.may_hold_more(place) {
             self.again = Some(Moment::now().plus_millis(AGAIN_MILLIS));
@@ -437,7 +439,7 @@ impl<'a, R: Wait, T: NonBlocking, W: Watch<T>> Worker<'a, R, T, W> {
     pub(crate) fn set_time(&mut self, place: usize, patience: Patience)
         ensures keeps { KeepsAll T.incoming T.outgoing T.closes self.old.places.items
             self.new.places.items }
-        ensures lines { self.new.lines ≡ self.old.lines }
+        ensures agenda { self.new.agenda ≡ self.old.agenda }
     {
         if patience == Patience::UNBOUNDED {
             return;

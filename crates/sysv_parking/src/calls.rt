@@ -169,9 +169,9 @@ pub trait Calls<B>: Tells<B> {
         ensures parking { (Self.agenda self.new).parking ≡ (Self.agenda self.old).parking }
         ensures keeps { Self.keeps self.old self.new };
 
-    /// Returns the number of the worker that looks first for the message of an envelope of this
-    /// worker.
-    fn first_for(&mut self, by: &B, envelope: &Envelope) -> usize
+    /// Returns the number of a worker if it is the turn of the first one from that on to look first
+    /// at the receives that may take a message that has arrived.
+    fn turn_of_others(&mut self, by: &B) -> Option<usize>
         ensures same { Self.agenda self.new ≡ Self.agenda self.old }
         ensures keeps { Self.keeps self.old self.new };
 

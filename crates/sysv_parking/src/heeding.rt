@@ -51,14 +51,16 @@ fn heed_changes<B, C: Calls<B>>(rt: &impl Wait, by: &B, calls: &mut C)
 }
 
 /// Looks at the receives that may take the message of an envelope, here first or, in turn, in
-/// another worker first.
+/// another worker first: else the clients of one worker might have all, and those of the others wait.
 fn send_off<B, C: Calls<B>>(rt: &impl Wait, by: &B, calls: &mut C, envelope: Envelope)
     ensures heeds { HeedsOne C.looked C.had C.sent C.told envelope (C.agenda calls.old)
         (C.agenda calls.new) }
     ensures keeps { C.keeps calls.old calls.new }
 {
-    let first = calls.first_for(by, &envelope);
-    if first == calls.number() {
+    let turn = calls.turn_of_others(by);
+    let number = calls.number();
+    let first = turn.map_or(number, |from| next_of(envelope.rest, from));
+    if first == number {
         heed(rt, by, calls, envelope);
     } else {
         pass_on(rt, by, calls, first, envelope);
@@ -132,7 +134,7 @@ pub fn read_envelopes<B, C: Calls<B>>(by: &B, calls: &mut C)
 }
 
 /// Returns the first worker of these from this one on, or else the first of these.
-pub fn next_of(workers: u64, from: usize) -> usize {
+fn next_of(workers: u64, from: usize) -> usize {
     let before = bit(from).wrapping_sub(1);
     let later = workers & !before;
     let among = if later == 0 { workers } else { later };
