@@ -23,13 +23,12 @@ use Rattle.sysv_seats.specs.contracts.tools.Tools as tools
 use Rattle.sysv_seats.specs.contracts.zero.Zero as zero
 use Rattle.sysv_seats.specs.contracts.zero.ZeroClock.TheImpl as clock
 use Rattle.sysv_seats.specs.declared.non_blocking.NonBlocking.{Ghosts}
-use Rattle.sysv_parking.proofs.Crossing.{lines_send}
+use Rattle.sysv_parking.proofs.Crossing.{agenda_send}
 use Rattle.sysv_seats.proofs.parked.Parked.TheSendSync.{the_send as parked_send}
 use Rattle.sysv_session.proofs.session.Session.TheSendSync.{the_send as session_send}
 use Rattle.sysv_seats.proofs.zero.Zero.TheSendSync.{the_sync as zero_sync}
 use Rattle.sysv_engine.specs.contracts.server_state.ServerState as server
-use Rattle.sysv_engine.specs.contracts.server_state.Envelope as envelope
-use Rattle.sysv_engine.specs.contracts.changes.Changes as changes
+use Rattle.sysv_engine.specs.contracts.counts.Moved as moved
 use Rattle.sysv_engine.specs.contracts.moment.Moment as moment
 use Rattle.sysv_engine.specs.contracts.place.Place as place
 use Rattle.sysv_engine.specs.contracts.place.Place.TheInside as place_inside
@@ -135,14 +134,11 @@ place_send l R T B ghosts r t b = view_send (place_inside.the_row l R T B ghosts
       ),
     ))
 
-changes_send : IsSend changes.the_row
-changes_send = search crossing depth 30
-
 ready_send : IsSend ready.the_row
 ready_send = search crossing depth 30
 
-envelope_send : IsSend envelope.the_row
-envelope_send = search crossing depth 60
+moved_send : IsSend moved.the_row
+moved_send = search crossing depth 30
 
 moment_send : IsSend moment.the_row
 moment_send = search crossing depth 30
@@ -155,39 +151,30 @@ pub worker_send : (l : NamedLft) (R T W B : RattleType) (ghosts : Ghosts T.Denot
 worker_send l R T W B ghosts r t w b =
     let placed = place_send l R T B ghosts r t b in
     declared_send (worker.the_type l R T W B ghosts) (
-      search crossing depth 10,
+      search (crossing, placed) depth 30,
       (
-        search (crossing, placed) depth 30,
+        search crossing depth 30,
         (
-          search crossing depth 30,
+          as_row_send (row_field W) w,
           (
-            as_row_send (row_field W) w,
+            search (crossing, ready_send) depth 30,
             (
-              search (crossing, ready_send) depth 30,
+              agenda_send,
               (
-                lines_send,
+                search crossing depth 30,
                 (
-                  search crossing depth 30,
+                  tools_send,
                   (
-                    search (crossing, envelope_send) depth 30,
+                    search crossing depth 10,
                     (
-                      search (crossing, changes_send) depth 30,
+                      options.the_send _ moment_send,
                       (
-                        search crossing depth 10,
+                        options.the_send _ moment_send,
                         (
-                          tools_send,
+                          search (crossing, spinning_send) depth 30,
                           (
-                            search crossing depth 10,
-                            (
-                              options.the_send _ moment_send,
-                              (
-                                options.the_send _ moment_send,
-                                (
-                                  search (crossing, spinning_send) depth 30,
-                                  (search crossing depth 10, (search crossing depth 10, tt)),
-                                ),
-                              ),
-                            ),
+                            search (crossing, moved_send) depth 30,
+                            (search crossing depth 10, (search crossing depth 10, tt)),
                           ),
                         ),
                       ),

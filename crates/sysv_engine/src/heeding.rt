@@ -36,7 +36,9 @@ impl<'a, 'c, R: Wait, T: NonBlocking, W: Watch<T>> Tells<Serving<'a, 'c, R>>
 
     ghost news = { λ worker. map tells (notifications_in worker.tools) };
 
-    fn number(&self) -> usize {
+    fn number(&self) -> usize
+        ensures { result ≡ self.now.agenda.number }
+    {
         self.agenda.number()
     }
 
@@ -65,7 +67,15 @@ impl<'a, 'c, R: Wait, T: NonBlocking, W: Watch<T>> Tells<Serving<'a, 'c, R>>
         Some(news_of(notification))
     }
 
-    fn add_change(&mut self, change: Change) {
+    fn add_change(&mut self, change: Change)
+        ensures added { IsThere change → Holds self.new.agenda.changes change }
+        ensures work { KeepsWork self.old.agenda self.new.agenda }
+        ensures parking { self.new.agenda.parking ≡ self.old.agenda.parking }
+        ensures news { map tells (notifications_in self.new.tools)
+            ≡ map tells (notifications_in self.old.tools) }
+        ensures keeps { KeepsAll T.incoming T.outgoing T.closes self.old.places.items
+            self.new.places.items }
+    {
         self.agenda.add_change(change);
     }
 
@@ -75,7 +85,13 @@ impl<'a, 'c, R: Wait, T: NonBlocking, W: Watch<T>> Tells<Serving<'a, 'c, R>>
         }
     }
 
-    fn is_last(&mut self) -> bool {
+    fn is_last(&mut self) -> bool
+        ensures same { self.new.agenda ≡ self.old.agenda }
+        ensures news { map tells (notifications_in self.new.tools)
+            ≡ map tells (notifications_in self.old.tools) }
+        ensures keeps { KeepsAll T.incoming T.outgoing T.closes self.old.places.items
+            self.new.places.items }
+    {
         self.is_last_to_heed()
     }
 
@@ -100,11 +116,20 @@ impl<'a, 'c, R: Wait, T: NonBlocking, W: Watch<T>> Calls<Serving<'a, 'c, R>>
 
     ghost awake = { ⊤ };
 
-    fn lines(&self) -> &Lines {
+    fn lines(&self) -> &Lines
+        ensures lines { result.now ≡ self.now.agenda.parking }
+        ensures had { ⊤ }
+    {
         self.agenda.lines()
     }
 
-    fn take_due(&mut self) -> Option<(usize, Why)> {
+    fn take_due(&mut self) -> Option<(usize, Why)>
+        ensures takes { Takes result self.old.agenda.parking self.new.agenda.parking }
+        ensures rest { self.new.agenda
+            ≡ record self.old.agenda { parking = self.new.agenda.parking } }
+        ensures keeps { KeepsAll T.incoming T.outgoing T.closes self.old.places.items
+            self.new.places.items }
+    {
         self.agenda.take_due()
     }
 
@@ -116,7 +141,9 @@ impl<'a, 'c, R: Wait, T: NonBlocking, W: Watch<T>> Calls<Serving<'a, 'c, R>>
         true
     }
 
-    fn may_look(&self) -> bool {
+    fn may_look(&self) -> bool
+        ensures { result ≡ false → self.now.agenda.looks ≡ 0 }
+    {
         self.agenda.may_look()
     }
 
@@ -125,7 +152,13 @@ impl<'a, 'c, R: Wait, T: NonBlocking, W: Watch<T>> Calls<Serving<'a, 'c, R>>
         by.wake(self, place, mtype)
     }
 
-    fn take_envelope(&mut self) -> Option<Envelope> {
+    fn take_envelope(&mut self) -> Option<Envelope>
+        ensures takes { TakesFirst result self.old.agenda.envelopes self.new.agenda.envelopes }
+        ensures rest { self.new.agenda
+            ≡ record self.old.agenda { envelopes = self.new.agenda.envelopes } }
+        ensures keeps { KeepsAll T.incoming T.outgoing T.closes self.old.places.items
+            self.new.places.items }
+    {
         self.agenda.take_envelope()
     }
 

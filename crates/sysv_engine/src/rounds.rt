@@ -388,7 +388,7 @@ impl<'a, 'c, R: Wait> Serving<'a, 'c, R> {
 
     /// Looks whether the parked call of a client may go on. Returns what it found, if it is looked
     /// at because a message of this type has arrived.
-    fn wake<T: NonBlocking, W: Watch<T>>(
+    pub(crate) fn wake<T: NonBlocking, W: Watch<T>>(
         &self,
         worker: &mut Worker<'a, R, T, W>,
         place: usize,

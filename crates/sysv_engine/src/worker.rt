@@ -187,7 +187,8 @@ impl<'a, R: Wait, T: NonBlocking, W: Watch<T>> Worker<'a, R, T, W> {
 
     /// Counts a change that this worker heeds. Returns whether other workers heed it first.
     pub(crate) fn is_last_to_heed(&mut self) -> bool
-        ensures { (self.new.places ≡ self.old.places) × (self.new.agenda ≡ self.old.agenda) }
+        ensures { (self.new.places ≡ self.old.places) × (self.new.agenda ≡ self.old.agenda)
+            × (self.new.tools ≡ self.old.tools) }
     {
         self.changed = self.changed.wrapping_add(1);
         turn(self.changed, SHARE_OF_CHANGES).is_some()
