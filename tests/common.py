@@ -43,6 +43,11 @@ def built_program():
     return subprocess.run([find], stdin=subprocess.DEVNULL, stdout=subprocess.PIPE, check=True, text=True).stdout.strip()
 
 
+def stated_version():
+    """The version that the program of this tree states."""
+    return subprocess.check_output([os.path.join(TOP, "tools/version"), "--program"], text=True).strip()
+
+
 def is_checked(program):
     """Whether the program is one that `rt try` built: its allocator checks each use and keeps freed memory."""
     with open(program, "rb") as file:
