@@ -19,6 +19,8 @@ sys.path.insert(0, os.path.join(TOP, "clients", "python"))
 import sysvmsg
 from sysvmsg import CREAT, EXCEPT, EXCL, GET, HELLO, NOERROR, NOWAIT, RCV, RM, ROW, SET, SND, STAT, Request, frame
 
+COMMANDS = ["serve", "snd", "rcv", "ipcs", "ipcrm", "ipcmk", "stats", "script"]
+ABOUT = {"--help", "--version"}
 SLOTS = 256
 MOST_AT_ONCE = 16384
 LIBC = ctypes.CDLL(None)
@@ -41,6 +43,21 @@ def built_program():
         return given
     find = os.path.join(TOP, "tools/program")
     return subprocess.run([find], stdin=subprocess.DEVNULL, stdout=subprocess.PIPE, check=True, text=True).stdout.strip()
+
+
+def stated_version():
+    """The version that the program of this tree states."""
+    return subprocess.check_output([os.path.join(TOP, "tools/version"), "--program"], text=True).strip()
+
+
+def usage(program, *command):
+    """What --help prints of a command, or of the program."""
+    return subprocess.check_output([program, *command, "--help"], text=True)
+
+
+def listed(program, *command):
+    """The options that --help lists, in their long form if they have one."""
+    return set(re.findall(r"^ +(?:-\w, )?(--?[A-Za-z][a-z-]*)", usage(program, *command), re.MULTILINE))
 
 
 def is_checked(program):

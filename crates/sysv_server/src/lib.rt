@@ -19,4 +19,4 @@ pub use sysv_engine::{Ended, Patience, ServeFault, Sums};
 pub use terms::Terms;
 
 /// The version of the server and of its clients.
-pub const VERSION: &str = "0.2.0";
+pub const VERSION: &str = "0.3.0-dev";
