@@ -1,7 +1,8 @@
 -- What a client did over a connection (this project's programs), however it ended. The reader of the
 -- connection had `left` before and has `rest` now, and the writer had `taken` and has `more`; the input
 -- had `fed` and has `unfed`; the screen had `shown` and has `after`.
-use Rattle.std.specs.Prelude.{◌≡◌, ◌≤◌, ◌<◌, ◌⊎◌, ⊤, ℕ, ℤ, pos, Bool, true, false, List, [], ◌∷◌, length, Option, Result}
+use Rattle.std.specs.Prelude.{◌≡◌, ◌≤◌, ◌<◌, ◌⊎◌, ⊤, ℕ, ℤ, pos, Bool, true, false, List, [], ◌∷◌, length, Option}
+use Rattle.std.specs.Prelude.{Result}
 use Rattle.std.specs.Prelude.{Ok}
 use Rattle.std.specs.Borrow.{Bor}
 use Rattle.std.specs.Io.KnownBytes.{Appends, Consumes, IsAtEnd}
@@ -35,12 +36,14 @@ use Rattle.sysv_connect.specs.declared.batches.Way.TheVariants.{Stream, Lines, C
 -- A client received messages, and the program succeeds exactly if that had no fault.
 abbrev pub Receives : Receiving → ExitCode → (left rest taken more shown after : Option (List ℕ)) → Type 0
 Receives receiving exit left rest taken more shown after =
-    (ended : Result ⊤ Stop) × TakesAll receiving ended left rest taken more shown after × SucceedsIf (ended ≡ Ok tt) exit
+    (ended : Result ⊤ Stop) × TakesAll receiving ended left rest taken more shown after
+    × SucceedsIf (ended ≡ Ok tt) exit
 
 -- A client sent the lines of its input, and the program succeeds exactly if that had no fault.
 abbrev pub SendsLines : Sending → ExitCode → (left rest taken more fed unfed : Option (List ℕ)) → Type 0
 SendsLines sending exit left rest taken more fed unfed =
-    (ended : Result ⊤ Unsent) × SendsAhead sending ended left rest taken more fed unfed × SucceedsIf (ended ≡ Ok tt) exit
+    (ended : Result ⊤ Unsent) × SendsAhead sending ended left rest taken more fed unfed
+    × SucceedsIf (ended ≡ Ok tt) exit
 
 -- A client removed all queues, and the program succeeds exactly if that had no fault and no removal was
 -- refused.
@@ -105,7 +108,8 @@ IsBodyOf body fed unfed =
 
 -- A client ran the task with a body from its input, if it is a `snd`.
 abbrev pub HasRunFrom : Cred → Task → ExitCode → (left rest taken more fed unfed shown after : Option (List ℕ)) → Type 0
-HasRunFrom cred task exit left rest taken more fed unfed shown after = (body : Bor (List ℕ)) × IsBodyOf body.now fed unfed
+HasRunFrom cred task exit left rest taken more fed unfed shown after =
+    (body : Bor (List ℕ)) × IsBodyOf body.now fed unfed
     × HasRun (record { cred = cred; task = with_text task body }) exit left rest taken more shown after
 
 -- The first if the flag is on, and otherwise the second.

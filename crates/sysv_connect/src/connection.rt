@@ -316,8 +316,8 @@ fn line_of<'a>(is_late: bool, task: &Task<'_>, page: &'a [u8]) -> &'a str
     }
 }
 
-/// Returns what is known of a fault with this line. If a message has no room, the queue is looked at
-/// for a sentence.
+/// Returns what is known of a fault with this line. If a message has no room, the queue is looked
+/// at for a sentence.
 fn detail_of_line<R: Leave, W: Write + Drop>(
     alloc: Global,
     link: &mut Link<R, W>,

@@ -46,8 +46,8 @@ const ME: &str = "SYSVMSG_ME";
 /// The environment variable that has the effect of `--stderr` if its value is 1.
 const STDERR: &str = "SYSVMSG_STDERR";
 
-/// Returns the credentials that a client states: those of the words, and for the others those of the
-/// process, if the words or the environment want them, or the usual ones.
+/// Returns the credentials that a client states: those of the words, and for the others those of
+/// the process, if the words or the environment want them, or the usual ones.
 pub fn credentials(who: &Who, around: &Surroundings) -> Cred
     ensures { result ≡ stated_by who.now around.now }
 {
