@@ -7,6 +7,10 @@ use Rattle.std.specs.declared.process.ExitCode.{ExitCode}
 abbrev pub Succeeds : ExitCode → Type 0
 Succeeds exit = exit_status exit ≡ 0
 
+-- The program fails.
+abbrev pub Fails : ExitCode → Type 0
+Fails exit = Succeeds exit → ⊥
+
 -- The program succeeds exactly if this holds.
 abbrev pub SucceedsIf : Type 0 → ExitCode → Type 0
 SucceedsIf Done exit = Succeeds exit ↔ Done

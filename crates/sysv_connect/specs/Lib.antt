@@ -5,5 +5,6 @@ pub mod Stats
 pub mod Ends
 pub mod Links
 pub mod Clients
+pub mod Visits
 pub mod Telling
 pub mod Patience

@@ -1,16 +1,32 @@
 -- What the client of `stats` does (this project's programs).
-use Rattle.std.specs.Prelude.{ℕ, Bool, true, false, List, codes, [], ◌∷◌, ◌++◌, Option}
+use Rattle.std.specs.Prelude.{◌≡◌, ◌⊎◌, ℕ, Bool, true, false, List, codes, [], ◌∷◌, ◌++◌, Option}
 use Rattle.std.specs.Io.KnownBytes.{Appends, Consumes, IsAtEnd}
+use Rattle.std.specs.declared.process.ExitCode.{ExitCode}
+use Rattle.sysv_connect.specs.Ends.{Fails, Succeeds}
+use Rattle.sysv_model.specs.Writing.{AppendsPrefix}
 
 -- What it asks the server, for a JSON object if this is true.
 abbrev pub asked_with : Bool → List ℕ
 asked_with true = codes "json" ++ 10 ∷ []
 asked_with false = 10 ∷ []
 
--- All bytes that the server wrote were printed, and nothing else was.
-pub record HasLooked (incoming shown after : Option (List ℕ)) : Type 0 where
+-- It asked the server, and printed all bytes that the server wrote, and nothing else.
+pub record PrintsState (json : Bool) (left rest taken more shown after : Option (List ℕ)) : Type 0 where
   pub bytes : List ℕ
-  pub rest : Option (List ℕ)
-  pub read : Consumes incoming rest bytes
+  pub asks : Appends taken more (asked_with json)
+  pub read : Consumes left rest bytes
   pub whole : IsAtEnd rest
   pub printed : Appends shown after bytes
+
+-- It asked the server no more than that. It printed nothing, or a prefix of all bytes that the server
+-- wrote.
+pub record PrintsPart (json : Bool) (left rest taken more shown after : Option (List ℕ)) : Type 0 where
+  pub bytes : List ℕ
+  pub asks : AppendsPrefix taken more (asked_with json)
+  pub read : (after ≡ shown) ⊎ (Consumes left rest bytes × AppendsPrefix shown after bytes)
+
+-- How the program ends after that, over a connection.
+abbrev pub HasLooked : Bool → ExitCode → (left rest taken more shown after : Option (List ℕ)) → Type 0
+HasLooked json exit left rest taken more shown after =
+    (Succeeds exit × PrintsState json left rest taken more shown after)
+    ⊎ (Fails exit × PrintsPart json left rest taken more shown after)

@@ -1,15 +1,13 @@
 //! Clients that make several calls over one connection.
-ghost use Rattle.std.specs.Prelude.{◌≡◌, ⊤, [], is_ok, List, Ok, Result};
-ghost use Rattle.sysv_clients.specs.declared.clearing.Refusal.{Refusal as ARefusal};
-ghost use Rattle.sysv_clients.specs.declared.fault.ClientFault.{ClientFault as AFault};
-ghost use Rattle.sysv_clients.specs.declared.sending.Unsent.{Unsent as AnUnsent};
-ghost use Rattle.sysv_clients.specs.declared.stream.Stop.{Stop as AStop};
-ghost use Rattle.sysv_connect.specs.Clients.{HasCleared, HasReceived, HasSent};
-ghost use Rattle.sysv_connect.specs.Ends.{SucceedsIf, SucceedsOnlyIf};
+ghost use Rattle.std.specs.Prelude.{◌≡◌};
+ghost use Rattle.sysv_connect.specs.Clients.{Clears, Receives, SendsLines};
+ghost use Rattle.sysv_connect.specs.Ends.{Fails};
 ghost use Rattle.sysv_connect.specs.Links.{left_by, taken_by};
 ghost use Rattle.sysv_connect.specs.Several.{is_of_options, is_of_stream, receiving_of, way_by};
+ghost use Rattle.sysv_connect.specs.Visits.{Visited};
 
-use crate::connection::{detail_of, failed, no_memory};
+use crate::connection::{detail_of, failed, no_link};
+use crate::contact::{Contact, Visit};
 use crate::ending::FAULT;
 use crate::how::How;
 use crate::link::{Link, Unlinked, linked};
@@ -119,16 +117,30 @@ pub(crate) fn receive_at<P: Place, S: Write>(
     receiving: &Receiving,
     patience: Patience,
     screen: &mut Screen<S>,
-) -> ExitCode
-    ensures { SucceedsOnlyIf (HasReceived receiving.now (Ok tt) (P.incoming place)
-        (P.outgoing place) (S.contents screen.old.writer) (S.contents screen.new.writer)) result }
+) -> Visit<P, Link<P::Input, P::Output>>
+    ensures { Visited (P.refuses place teller.now.path.now) place
+        (Fails result.exit
+        × (S.contents screen.new.writer ≡ S.contents screen.old.writer))
+        (λ link. Receives receiving.now result.exit
+        (P.incoming place teller.now.path.now) (left_by P.Input.remaining link)
+        (P.outgoing place teller.now.path.now) (taken_by P.Output.contents link)
+        (S.contents screen.old.writer) (S.contents screen.new.writer)) result.contact }
 {
-    match linked(rt.alloc(), place, patience) {
-        Ok(mut link) => receive_on(rt, &mut link, teller, receiving, screen),
-        Err(Unlinked::NoServer(why)) => teller.no_server_said(rt, &why),
-        Err(Unlinked::NoMemory) => {
+    match linked(rt.alloc(), place, teller.path, patience) {
+        Ok(mut link) => Visit {
+            exit: receive_on(rt, &mut link, teller, receiving, screen),
+            contact: Contact::Made(link),
+        },
+        Err(Unlinked::NoServer(why)) => Visit {
+            exit: teller.no_server_said(rt, &why),
+            contact: Contact::Refused(why),
+        },
+        Err(Unlinked::NoMemory(place)) => {
             teller.fault_of_stream(rt, NO_MEMORY.line(), Detail::Plain);
-            failed(false)
+            Visit {
+                exit: failed(false),
+                contact: Contact::Unused(place),
+            }
         }
     }
 }
@@ -141,10 +153,10 @@ fn receive_on<R: Leave, W: Write + Drop, S: Write>(
     receiving: &Receiving,
     screen: &mut Screen<S>,
 ) -> ExitCode
-    ensures { (ended : Result ⊤ AStop) × HasReceived receiving.now ended
-        (left_by R.remaining link.old) (taken_by W.contents link.old)
-        (S.contents screen.old.writer) (S.contents screen.new.writer)
-        × SucceedsIf (ended ≡ Ok tt) result }
+    ensures { Receives receiving.now result
+        (left_by R.remaining link.old) (left_by R.remaining link.new)
+        (taken_by W.contents link.old) (taken_by W.contents link.new)
+        (S.contents screen.old.writer) (S.contents screen.new.writer) }
 {
     let Err(stop) = receive_all(
         rt.alloc(),
@@ -192,14 +204,20 @@ pub(crate) fn send_at<I: Read, P: Place>(
     teller: &Teller<'_>,
     sending: &Sending,
     patience: Patience,
-) -> ExitCode
-    ensures { SucceedsOnlyIf (HasSent sending.now (Ok tt) (P.incoming place)
-        (P.outgoing place) (I.remaining input.old)) result }
+) -> Visit<P, Link<P::Input, P::Output>>
+    ensures { Visited (P.refuses place teller.now.path.now) place
+        (Fails result.exit × (I.remaining input.new ≡ I.remaining input.old))
+        (λ link. SendsLines sending.now result.exit
+        (P.incoming place teller.now.path.now) (left_by P.Input.remaining link)
+        (P.outgoing place teller.now.path.now) (taken_by P.Output.contents link)
+        (I.remaining input.old) (I.remaining input.new)) result.contact }
 {
-    match linked(rt.alloc(), place, patience) {
-        Ok(mut link) => send_on(rt, input, &mut link, teller, sending),
-        Err(Unlinked::NoServer(why)) => teller.no_server(rt, &why),
-        Err(Unlinked::NoMemory) => no_memory(rt, teller),
+    match linked(rt.alloc(), place, teller.path, patience) {
+        Ok(mut link) => Visit {
+            exit: send_on(rt, input, &mut link, teller, sending),
+            contact: Contact::Made(link),
+        },
+        Err(unlinked) => no_link(rt, teller, unlinked),
     }
 }
 
@@ -211,9 +229,10 @@ fn send_on<I: Read, R: Leave, W: Write + Drop>(
     teller: &Teller<'_>,
     sending: &Sending,
 ) -> ExitCode
-    ensures { (ended : Result ⊤ AnUnsent) × HasSent sending.now ended
-        (left_by R.remaining link.old) (taken_by W.contents link.old) (I.remaining input.old)
-        × SucceedsIf (ended ≡ Ok tt) result }
+    ensures { SendsLines sending.now result
+        (left_by R.remaining link.old) (left_by R.remaining link.new)
+        (taken_by W.contents link.old) (taken_by W.contents link.new)
+        (I.remaining input.old) (I.remaining input.new) }
 {
     let Err(unsent) = send_lines(
         rt.alloc(),
@@ -306,14 +325,20 @@ pub(crate) fn remove_at<P: Place>(
     teller: &Teller<'_>,
     cred: Cred,
     patience: Patience,
-) -> ExitCode
-    ensures { SucceedsOnlyIf (HasCleared cred (Ok tt) (P.incoming place)
-        (P.outgoing place) [] []) result }
+) -> Visit<P, Link<P::Input, P::Output>>
+    ensures { Visited (P.refuses place teller.now.path.now) place
+        (Fails result.exit)
+        (λ link. Clears cred result.exit
+        (P.incoming place teller.now.path.now) (left_by P.Input.remaining link)
+        (P.outgoing place teller.now.path.now) (taken_by P.Output.contents link))
+        result.contact }
 {
-    match linked(rt.alloc(), place, patience) {
-        Ok(mut link) => remove_on(rt, &mut link, teller, cred),
-        Err(Unlinked::NoServer(why)) => teller.no_server(rt, &why),
-        Err(Unlinked::NoMemory) => no_memory(rt, teller),
+    match linked(rt.alloc(), place, teller.path, patience) {
+        Ok(mut link) => Visit {
+            exit: remove_on(rt, &mut link, teller, cred),
+            contact: Contact::Made(link),
+        },
+        Err(unlinked) => no_link(rt, teller, unlinked),
     }
 }
 
@@ -324,9 +349,9 @@ fn remove_on<R: Leave, W: Write + Drop>(
     teller: &Teller<'_>,
     cred: Cred,
 ) -> ExitCode
-    ensures { (ended : Result ⊤ AFault) × (refusals : List ARefusal)
-        × HasCleared cred ended (left_by R.remaining link.old) (taken_by W.contents link.old) []
-        refusals × SucceedsIf ((ended ≡ Ok tt) × (refusals ≡ [])) result }
+    ensures { Clears cred result
+        (left_by R.remaining link.old) (left_by R.remaining link.new)
+        (taken_by W.contents link.old) (taken_by W.contents link.new) }
 {
     let mut refusals = Vec::new(rt.alloc());
     let outcome = remove_all(

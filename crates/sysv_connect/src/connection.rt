@@ -1,14 +1,18 @@
 //! Clients over a connection.
-ghost use Rattle.std.specs.Prelude.{◌≡◌, ◌≤◌, pos, length};
+ghost use Rattle.std.specs.Prelude.{◌≡◌, ◌≤◌, ◌⊎◌, ℤ, pos, length};
 ghost use Rattle.std.specs.Io.KnownBytes.{Appends};
+ghost use Rattle.sysv_clients.specs.declared.fault.ClientFault.{ClientFault as AFault};
+ghost use Rattle.sysv_clients.specs.Faults.{fault_line};
 ghost use Rattle.sysv_clients.specs.Run.{HasShortText};
 ghost use Rattle.sysv_connect.specs.Bodies.{with_text};
-ghost use Rattle.sysv_connect.specs.Clients.{HasRun, HasRunFrom, IsDone, IsRun};
+ghost use Rattle.sysv_connect.specs.Clients.{EndsPage, HasRun, HasRunFrom, IsDone, IsLeft, IsRun, IsUnmade, ShowsPart};
 ghost use Rattle.sysv_connect.specs.Links.{left_by, taken_by};
 ghost use Rattle.sysv_connect.specs.Several.{way_by};
-ghost use Rattle.sysv_connect.specs.Ends.{Succeeds, SucceedsIf, SucceedsOnlyIf};
+ghost use Rattle.sysv_connect.specs.Ends.{Fails, Succeeds};
+ghost use Rattle.sysv_connect.specs.Visits.{Visited, contact_of};
 
 use crate::batches::{Way, receive_at, remove_at, send_at, way_of};
+use crate::contact::{Contact, Visit};
 use crate::ending::{FAULT, TIMED_OUT};
 use crate::how::How;
 use crate::input::{Unread, read_body};
@@ -16,7 +20,7 @@ use crate::link::{Link, Unlinked, linked};
 use crate::patience::Patience;
 use crate::place::{Leave, Place};
 use crate::room::look;
-use crate::screen::Screen;
+use crate::screen::{Screen, put};
 use crate::sentence::Detail;
 use crate::teller::{Teller, Unshown};
 use std::alloc::Global;
@@ -38,7 +42,8 @@ const NO_REPLY: ClientFault = ClientFault::NoReply;
 /// More bytes than a client shows of one message.
 const PAGE_ROOM: usize = 8_300;
 
-/// Runs a command at the server at `path`, as the options say.
+/// Runs a command at the server at `path`, as the options say. It makes at most one connection, and
+/// returns it, or the place if it was not used.
 ///
 /// # Conditions
 ///
@@ -51,12 +56,17 @@ pub fn run_as<I: Read, P: Place, S: Write>(
     command: &Command<'_>,
     how: &How,
     screen: &mut Screen<S>,
-) -> ExitCode
+) -> Visit<P, Link<P::Input, P::Output>>
     requires { HasShortText command.now.task }
-    ensures { SucceedsOnlyIf (IsDone (way_by command.now.cred command.now.task how.now)
-        command.now.cred command.now.task how.now
-        (P.incoming place) (P.outgoing place) (I.remaining input.old)
-        (S.contents screen.old.writer) (S.contents screen.new.writer)) result }
+    ensures { Visited (P.refuses place path.now) place
+        (IsUnmade how.now result.exit (I.remaining input.old) (I.remaining input.new)
+        (S.contents screen.old.writer) (S.contents screen.new.writer))
+        (λ link. IsDone (way_by command.now.cred command.now.task how.now)
+        command.now.cred command.now.task how.now result.exit
+        (P.incoming place path.now) (left_by P.Input.remaining link)
+        (P.outgoing place path.now) (taken_by P.Output.contents link)
+        (I.remaining input.old) (I.remaining input.new)
+        (S.contents screen.old.writer) (S.contents screen.new.writer)) result.contact }
 {
     let teller = Teller {
         path,
@@ -85,11 +95,16 @@ fn run_one<I: Read, P: Place, S: Write>(
     command: &Command<'_>,
     how: &How,
     screen: &mut Screen<S>,
-) -> ExitCode
+) -> Visit<P, Link<P::Input, P::Output>>
     requires { HasShortText command.now.task }
-    ensures { SucceedsOnlyIf (IsRun command.now.cred command.now.task how.now
-        (P.incoming place) (P.outgoing place) (I.remaining input.old)
-        (S.contents screen.old.writer) (S.contents screen.new.writer)) result }
+    ensures { Visited (P.refuses place teller.now.path.now) place
+        (IsUnmade how.now result.exit (I.remaining input.old) (I.remaining input.new)
+        (S.contents screen.old.writer) (S.contents screen.new.writer))
+        (λ link. IsRun command.now.cred command.now.task how.now result.exit
+        (P.incoming place teller.now.path.now) (left_by P.Input.remaining link)
+        (P.outgoing place teller.now.path.now) (taken_by P.Output.contents link)
+        (I.remaining input.old) (I.remaining input.new)
+        (S.contents screen.old.writer) (S.contents screen.new.writer)) result.contact }
 {
     if how.from_input {
         run_with_input(rt, input, place, teller, command, how.wait, screen)
@@ -109,15 +124,26 @@ fn run_with_input<I: Read, P: Place, S: Write>(
     command: &Command<'_>,
     wait: Option<u64>,
     screen: &mut Screen<S>,
-) -> ExitCode
-    ensures { SucceedsOnlyIf (HasRunFrom command.now.cred command.now.task
-        (P.incoming place) (P.outgoing place) (I.remaining input.old)
-        (S.contents screen.old.writer) (S.contents screen.new.writer)) result }
+) -> Visit<P, Link<P::Input, P::Output>>
+    ensures { Visited (P.refuses place teller.now.path.now) place
+        (Fails result.exit
+        × (S.contents screen.new.writer ≡ S.contents screen.old.writer))
+        (λ link. HasRunFrom command.now.cred command.now.task result.exit
+        (P.incoming place teller.now.path.now) (left_by P.Input.remaining link)
+        (P.outgoing place teller.now.path.now) (taken_by P.Output.contents link)
+        (I.remaining input.old) (I.remaining input.new)
+        (S.contents screen.old.writer) (S.contents screen.new.writer)) result.contact }
 {
     match read_body(rt.alloc(), input) {
         Ok(body) => run_at(rt, place, teller, &with_body(command, &body), wait, screen),
-        Err(Unread::NoMemory) => no_memory(rt, teller),
-        Err(Unread::Failed(why)) => teller.no_input(rt, &why),
+        Err(Unread::NoMemory) => Visit {
+            exit: no_memory(rt, teller),
+            contact: Contact::Unused(place),
+        },
+        Err(Unread::Failed(why)) => Visit {
+            exit: teller.no_input(rt, &why),
+            contact: Contact::Unused(place),
+        },
     }
 }
 
@@ -170,20 +196,53 @@ fn run_at<P: Place, S: Write>(
     command: &Command<'_>,
     wait: Option<u64>,
     screen: &mut Screen<S>,
-) -> ExitCode
+) -> Visit<P, Link<P::Input, P::Output>>
     requires { HasShortText command.now.task }
-    ensures { SucceedsOnlyIf (HasRun command.now (pos 0) (P.incoming place) (P.outgoing place)
-        (S.contents screen.old.writer) (S.contents screen.new.writer)) result }
+    ensures { Visited (P.refuses place teller.now.path.now) place
+        (Fails result.exit
+        × (S.contents screen.new.writer ≡ S.contents screen.old.writer))
+        (λ link. HasRun command.now result.exit
+        (P.incoming place teller.now.path.now) (left_by P.Input.remaining link)
+        (P.outgoing place teller.now.path.now) (taken_by P.Output.contents link)
+        (S.contents screen.old.writer) (S.contents screen.new.writer)) result.contact }
 {
     let teller = Teller {
         path: teller.path,
         command: Some(command),
         telling: teller.telling,
     };
-    match linked(rt.alloc(), place, Patience::of(&command.task, wait)) {
-        Ok(mut link) => run_within(rt, &mut link, command, &teller, screen),
-        Err(Unlinked::NoServer(why)) => teller.no_server(rt, &why),
-        Err(Unlinked::NoMemory) => no_memory(rt, &teller),
+    match linked(
+        rt.alloc(),
+        place,
+        teller.path,
+        Patience::of(&command.task, wait),
+    ) {
+        Ok(mut link) => Visit {
+            exit: run_within(rt, &mut link, command, &teller, screen),
+            contact: Contact::Made(link),
+        },
+        Err(unlinked) => no_link(rt, &teller, unlinked),
+    }
+}
+
+/// Tells why there is no connection.
+pub(crate) fn no_link<P, C>(
+    rt: &(impl Print + Eprint + AllocGlobal),
+    teller: &Teller<'_>,
+    unlinked: Unlinked<P>,
+) -> Visit<P, C>
+    ensures fails { Fails result.exit }
+    ensures contact { result.contact ≡ contact_of unlinked }
+{
+    match unlinked {
+        Unlinked::NoServer(why) => Visit {
+            exit: teller.no_server(rt, &why),
+            contact: Contact::Refused(why),
+        },
+        Unlinked::NoMemory(place) => Visit {
+            exit: no_memory(rt, teller),
+            contact: Contact::Unused(place),
+        },
     }
 }
 
@@ -202,14 +261,21 @@ fn run_within<R: Leave, W: Write + Drop, S: Write>(
     screen: &mut Screen<S>,
 ) -> ExitCode
     requires { HasShortText command.now.task }
-    ensures { SucceedsOnlyIf (HasRun command.now (pos 0) (left_by R.remaining link.old)
-        (taken_by W.contents link.old) (S.contents screen.old.writer)
-        (S.contents screen.new.writer)) result }
+    ensures { HasRun command.now result (left_by R.remaining link.old)
+        (left_by R.remaining link.new) (taken_by W.contents link.old)
+        (taken_by W.contents link.new) (S.contents screen.old.writer)
+        (S.contents screen.new.writer) }
 {
     let Ok(mut page) = Vec::with_capacity(rt.alloc(), PAGE_ROOM) else {
         return no_memory(rt, teller);
     };
-    let status = run_on(rt.alloc(), link, command, &mut page);
+    let status = run_client(
+        rt.alloc(),
+        command,
+        &mut link.reader,
+        &mut link.writer,
+        &mut page,
+    );
     show(rt, link, command, teller, page.as_slice(), status, screen)
 }
 
@@ -223,25 +289,55 @@ fn tell_fault<R: Leave, W: Write + Drop, S: Write>(
     page: &[u8],
     screen: &mut Screen<S>,
 ) -> ExitCode
-    ensures { Succeeds result → ⊥ }
+    ensures fails { Fails result }
+    ensures left { IsLeft command.now.task (left_by R.remaining link.old)
+        (left_by R.remaining link.new) (taken_by W.contents link.old)
+        (taken_by W.contents link.new) }
+    ensures shown { ShowsPart page.now (S.contents screen.old.writer)
+        (S.contents screen.new.writer) }
 {
     let is_late = link.has_left();
-    let line = if is_late {
-        late(&command.task).line()
+    let line = line_of(is_late, &command.task, page);
+    let has_sentence = teller.telling.has_sentence();
+    let detail = detail_of_line(rt.alloc(), link, &command.task, line, is_late, has_sentence);
+    let is_told = teller.fault_on(rt, screen, line, detail);
+    failed(is_late && is_told)
+}
+
+/// Returns the line of the fault of a command that showed this page. `is_late` is whether its call
+/// was left.
+fn line_of<'a>(is_late: bool, task: &Task<'_>, page: &'a [u8]) -> &'a str
+    ensures { (result.now ≡ page.now) ⊎ ((why : AFault) × (result.now ≡ fault_line why)) }
+{
+    if is_late {
+        late(task).line()
     } else {
         fault_in(page)
-    };
-    let detail = if is_late {
+    }
+}
+
+/// Returns what is known of a fault with this line. If a message has no room, the queue is looked
+/// at for a sentence.
+fn detail_of_line<R: Leave, W: Write + Drop>(
+    alloc: Global,
+    link: &mut Link<R, W>,
+    task: &Task<'_>,
+    line: &str,
+    is_late: bool,
+    has_sentence: bool,
+) -> Detail
+    ensures { IsLeft task.now (left_by R.remaining link.old) (left_by R.remaining link.new)
+        (taken_by W.contents link.old) (taken_by W.contents link.new) }
+{
+    if is_late {
         Detail::Late
     } else if line == NO_REPLY.line() {
         Detail::Silent(link.silence())
-    } else if line == NO_ROOM.line() && teller.telling.has_sentence() {
-        look_at_queue(rt.alloc(), link, &command.task)
+    } else if line == NO_ROOM.line() && has_sentence {
+        look_at_queue(alloc, link, task)
     } else {
         Detail::Plain
-    };
-    let is_told = teller.fault_on(rt, screen, line, detail);
-    failed(is_late && is_told)
+    }
 }
 
 /// Returns what keeps the message of a task from its queue, if that can be found out.
@@ -249,7 +345,10 @@ fn look_at_queue<R: Leave, W: Write + Drop>(
     alloc: Global,
     link: &mut Link<R, W>,
     task: &Task<'_>,
-) -> Detail {
+) -> Detail
+    ensures { IsLeft task.now (left_by R.remaining link.old) (left_by R.remaining link.new)
+        (taken_by W.contents link.old) (taken_by W.contents link.new) }
+{
     match *task {
         Task::Send { key, text, .. } => match look(alloc, link, key, text.len()) {
             Some(room) => Detail::Full(room),
@@ -260,7 +359,9 @@ fn look_at_queue<R: Leave, W: Write + Drop>(
 }
 
 /// Returns the line of a fault that a page is, or that of memory that was refused.
-fn fault_in(page: &[u8]) -> &str {
+fn fault_in(page: &[u8]) -> &str
+    ensures { (result.now ≡ page.now) ⊎ ((why : AFault) × (result.now ≡ fault_line why)) }
+{
     match str::from_utf8(page) {
         Ok(line) if line.starts_with("sysvmsg: ") => line,
         _ => NO_MEMORY.line(),
@@ -299,13 +400,15 @@ fn show<R: Leave, W: Write + Drop, S: Write>(
     status: i32,
     screen: &mut Screen<S>,
 ) -> ExitCode
-    ensures { SucceedsOnlyIf ((status ≡ pos 0) × Appends (S.contents screen.old.writer)
-        (S.contents screen.new.writer) page.now) result }
+    ensures { EndsPage result command.now.task status page.now (left_by R.remaining link.old)
+        (left_by R.remaining link.new) (taken_by W.contents link.old)
+        (taken_by W.contents link.new) (S.contents screen.old.writer)
+        (S.contents screen.new.writer) }
 {
     if status != 0 {
         return tell_fault(rt, link, command, teller, page, screen);
     }
-    if screen.write_all(page).is_ok() && screen.flush().is_ok() {
+    if put(screen, page) {
         return ExitCode::SUCCESS;
     }
     let unshown = match command.task {
@@ -315,27 +418,9 @@ fn show<R: Leave, W: Write + Drop, S: Write>(
     teller.no_output(rt, screen.failure, unshown)
 }
 
-/// Runs a command over a connection. Returns the status of the client.
-///
-/// # Conditions
-///
-/// - The body of a `snd` has at most 8,256 bytes.
-fn run_on<R: Leave, W: Write + Drop, S: Write>(
-    alloc: Global,
-    link: &mut Link<R, W>,
-    command: &Command<'_>,
-    screen: &mut S,
-) -> i32
-    requires { HasShortText command.now.task }
-    ensures { result ≡ pos 0 → HasRun command.now (pos 0) (left_by R.remaining link.old)
-        (taken_by W.contents link.old) (S.contents screen.old) (S.contents screen.new) }
-{
-    run_client(alloc, command, &mut link.reader, &mut link.writer, screen)
-}
-
 /// Returns the status of a fault, or that of a time-out if a call was left.
 pub(crate) fn failed(is_late: bool) -> ExitCode
-    ensures { Succeeds result → ⊥ }
+    ensures { Fails result }
 {
     if is_late {
         ExitCode::from(TIMED_OUT)
@@ -346,7 +431,7 @@ pub(crate) fn failed(is_late: bool) -> ExitCode
 
 /// Tells that memory was refused before anything was requested.
 pub(crate) fn no_memory(rt: &(impl Print + Eprint + AllocGlobal), teller: &Teller<'_>) -> ExitCode
-    ensures { Succeeds result → ⊥ }
+    ensures { Fails result }
 {
     teller.fault(rt, NO_MEMORY.line(), Detail::Plain);
     failed(false)

@@ -1,7 +1,7 @@
 //! How a program ends: its exit status, and the line of a fault.
 ghost use Rattle.std.specs.Prelude.{◌≡◌};
 ghost use Rattle.std.specs.Process.{exit_status};
-ghost use Rattle.sysv_connect.specs.Ends.{Succeeds};
+ghost use Rattle.sysv_connect.specs.Ends.{Fails};
 
 use std::process::ExitCode;
 
@@ -13,7 +13,7 @@ pub(crate) const TIMED_OUT: u8 = 3;
 
 /// Prints the one line of a fault. Returns the status of a fault.
 pub fn say(rt: &impl Print, fault: &str) -> ExitCode
-    ensures fails { Succeeds result → ⊥ }
+    ensures fails { Fails result }
     ensures status { exit_status result ≡ FAULT }
 {
     let _ = println!(rt; "sysvmsg: {fault}");

@@ -1,5 +1,7 @@
 //! Calls that are left after some time.
-ghost use Rattle.std.specs.Prelude.{◌≡◌};
+ghost use Rattle.std.specs.Prelude.{◌≡◌, None, Some, option_and_then};
+ghost use Rattle.std.specs.Io.{ReadsAtMost};
+ghost use Rattle.std.specs.Io.KnownBytes.{ReadConsumes};
 
 use crate::place::Leave;
 use crate::silence::{LastRead, Silence};
@@ -15,7 +17,8 @@ const TO_END: u64 = 60;
 /// has sent nothing at all, no call was made, and the read fails at once: there is no reply.
 #[derive(Drop)]
 pub(crate) struct Leaver<R> {
-    reader: R,
+    /// The connection's own reader, once there is a connection.
+    reader: Option<R>,
     /// How the last read ended.
     last: LastRead,
     /// Whether the server has sent anything.
@@ -31,29 +34,51 @@ pub(crate) struct Leaver<R> {
 }
 
 impl<R: Leave> Leaver<R> {
-    /// Returns the reader of a connection on which a read waits at most this number of
-    /// milliseconds, or without end if there is none.
-    pub(crate) fn new(reader: R, time: Option<u64>) -> Leaver<R>
-        ensures { result.reader ≡ reader }
+    /// Returns the reader of a connection that is not made yet. It leaves a call only if
+    /// `may_leave` is true. If it leaves none, a read that waits too long fails.
+    pub(crate) fn unconnected(may_leave: bool) -> Leaver<R>
+        ensures { result.reader ≡ None }
     {
-        bound(&reader, time);
         Leaver {
-            reader,
+            reader: None,
             last: LastRead::None,
             is_served: false,
-            may_leave: true,
+            may_leave,
             is_leaving: false,
             has_left: false,
             has_ended: false,
         }
     }
 
-    /// Returns the same reader, which leaves a call only if `may_leave` is true. If it leaves none,
-    /// a read that waits too long fails.
-    pub(crate) fn leaving_if(self, may_leave: bool) -> Leaver<R>
-        ensures { result.reader ≡ self.reader }
+    /// Reads from this connection from now on. A read waits at most this number of milliseconds,
+    /// or without end if there is none.
+    pub(crate) fn connect(&mut self, reader: R, time: Option<u64>)
+    where
+        R: Drop,
+        ensures { self.new.reader ≡ Some reader }
     {
-        Leaver { may_leave, ..self }
+        bound(&reader, time);
+        self.reader = Some(reader);
+    }
+
+    /// Reads once, like `Read::read` of the connection's own reader.
+    fn read_once(&mut self, buf: &mut [u8]) -> io::Result<usize>
+        ensures bound { ReadsAtMost result buf.new }
+        ensures bytes { ReadConsumes (option_and_then R.remaining self.old.reader)
+            (option_and_then R.remaining self.new.reader) result buf.new }
+    {
+        match &mut self.reader {
+            Some(reader) => reader.read(buf),
+            None => Err(io::Error::from(ErrorKind::NotConnected)),
+        }
+    }
+
+    /// Leaves the call that waits, and gives the server some time to end the session.
+    fn shut(&self) {
+        if let Some(reader) = &self.reader {
+            reader.limit(Duration::from_secs(TO_END));
+            reader.leave();
+        }
     }
 
     /// Returns whether the call was left and the session then ended without a reply.
@@ -85,7 +110,7 @@ impl<R: Leave> Leaver<R> {
 
 /// Lets each read of a connection wait at most this number of milliseconds, or without end if there
 /// is none.
-pub(crate) fn bound<R: Leave>(reader: &R, time: Option<u64>) {
+fn bound<R: Leave>(reader: &R, time: Option<u64>) {
     if let Some(time) = time {
         reader.limit(limit(time));
     }
@@ -101,10 +126,10 @@ fn limit(time: u64) -> Duration {
 }
 
 impl<R: Leave> Read for Leaver<R> {
-    ghost remaining = { λ leaver. R.remaining leaver.reader };
+    ghost remaining = { λ leaver. option_and_then R.remaining leaver.reader };
 
     fn read(&mut self, buf: &mut [u8]) -> io::Result<usize> {
-        let why = match self.reader.read(buf) {
+        let why = match self.read_once(buf) {
             Err(why) if why.kind() == ErrorKind::WouldBlock && self.may_leave && !self.is_leaving =>
                 why,
             outcome => {
@@ -116,12 +141,11 @@ impl<R: Leave> Read for Leaver<R> {
         };
         self.last = LastRead::Late;
         self.is_leaving = true;
-        self.reader.limit(Duration::from_secs(TO_END));
-        self.reader.leave();
+        self.shut();
         if !self.is_served {
             return Err(why);
         }
-        let outcome = self.reader.read(buf);
+        let outcome = self.read_once(buf);
         self.last = LastRead::of(&outcome);
         self.has_left = matches!(outcome, Ok(0));
         self.has_ended = self.has_left;
@@ -132,32 +156,48 @@ impl<R: Leave> Read for Leaver<R> {
 /// The writer of a connection, which records whether a write failed.
 #[derive(Drop)]
 pub(crate) struct Outgoing<W> {
-    writer: W,
+    /// The connection's own writer, once there is a connection.
+    writer: Option<W>,
     has_failed: bool,
 }
 
 impl<W: Write> Outgoing<W> {
-    /// Returns the writer of a connection.
-    pub(crate) fn new(writer: W) -> Outgoing<W>
-        ensures { result.writer ≡ writer }
+    /// Returns the writer of a connection that is not made yet.
+    pub(crate) fn unconnected() -> Outgoing<W>
+        ensures { result.writer ≡ None }
     {
         Outgoing {
-            writer,
+            writer: None,
             has_failed: false,
         }
+    }
+
+    /// Writes to this connection from now on.
+    pub(crate) fn connect(&mut self, writer: W)
+    where
+        W: Drop,
+        ensures { self.new.writer ≡ Some writer }
+    {
+        self.writer = Some(writer);
     }
 }
 
 impl<W: Write> Write for Outgoing<W> {
-    ghost contents = { λ outgoing. W.contents outgoing.writer };
+    ghost contents = { λ outgoing. option_and_then W.contents outgoing.writer };
 
     fn write(&mut self, buf: &[u8]) -> io::Result<usize> {
-        let outcome = self.writer.write(buf);
+        let outcome = match &mut self.writer {
+            Some(writer) => writer.write(buf),
+            None => Err(io::Error::from(ErrorKind::NotConnected)),
+        };
         self.has_failed |= outcome.is_err();
         outcome
     }
 
     fn flush(&mut self) -> io::Result<()> {
-        self.writer.flush()
+        match &mut self.writer {
+            Some(writer) => writer.flush(),
+            None => Err(io::Error::from(ErrorKind::NotConnected)),
+        }
     }
 }

@@ -4,6 +4,7 @@
 
 mod batches;
 mod connection;
+mod contact;
 mod ending;
 mod how;
 mod input;
@@ -20,8 +21,10 @@ mod stats;
 mod teller;
 
 pub use connection::run_as;
+pub use contact::{Contact, Visit};
 pub use ending::{FAULT, say};
 pub use how::{How, Telling};
+pub use link::Link;
 pub use place::{Leave, Place, Socket};
 pub use plain::complain;
 pub use screen::Screen;

@@ -1,5 +1,6 @@
 //! Connections of clients, through buffers.
-ghost use Rattle.std.specs.Prelude.{◌≡◌, IfOk};
+ghost use Rattle.std.specs.Prelude.{◌≡◌, IfErr, IfOk};
+ghost use Rattle.sysv_connect.specs.Visits.{IsUnlinked};
 ghost use Rattle.sysv_connect.specs.Links.{left_by, taken_by};
 
 use crate::leaver::{Leaver, Outgoing};
@@ -13,41 +14,47 @@ use std::io::{BufReader, BufWriter, Write};
 /// A connection to a server, through buffers, so that a request is one write. A read on it waits
 /// only for some time.
 #[derive(Drop)]
-pub(crate) struct Link<R, W: Write + Drop> {
+pub struct Link<R, W: Write + Drop> {
     pub(crate) reader: BufReader<Leaver<R>, Global>,
     pub(crate) writer: BufWriter<Outgoing<W>, Global>,
 }
 
 /// Why there is no connection.
 #[derive(Drop)]
-pub(crate) enum Unlinked {
-    /// Memory was refused for its buffers.
-    NoMemory,
+pub(crate) enum Unlinked<P> {
+    /// Memory was refused for its buffers. The place was not used.
+    NoMemory(P),
     /// It could not be made.
     NoServer(io::Error),
 }
 
-/// Connects to the server at `place`. A read waits as long as `patience` says. It then leaves the
+/// Connects to the server at `path`. A read waits as long as `patience` says. It then leaves the
 /// call that waits if it may do so, and otherwise fails.
 pub(crate) fn linked<P: Place>(
     alloc: Global,
     place: P,
+    path: &str,
     patience: Patience,
-) -> Result<Link<P::Input, P::Output>, Unlinked>
-    ensures reader { IfOk result (λ link. left_by P.Input.remaining link ≡ P.incoming place) }
-    ensures writer { IfOk result (λ link. taken_by P.Output.contents link ≡ P.outgoing place) }
+) -> Result<Link<P::Input, P::Output>, Unlinked<P>>
+    ensures reader { IfOk result (λ link.
+        left_by P.Input.remaining link ≡ P.incoming place path.now) }
+    ensures writer { IfOk result (λ link.
+        taken_by P.Output.contents link ≡ P.outgoing place path.now) }
+    ensures unlinked { IfErr result (IsUnlinked (P.refuses place path.now) place) }
 {
-    let (reader, writer) = match place.connect() {
-        Ok(ends) => ends,
-        Err(why) => return Err(Unlinked::NoServer(why)),
+    let (Ok(mut reader), Ok(mut writer)) = (
+        BufReader::new(alloc, Leaver::unconnected(patience.may_leave)),
+        BufWriter::new(alloc, Outgoing::unconnected()),
+    ) else {
+        return Err(Unlinked::NoMemory(place));
     };
-    let leaver = Leaver::new(reader, patience.limit).leaving_if(patience.may_leave);
-    match (
-        BufReader::new(alloc, leaver),
-        BufWriter::new(alloc, Outgoing::new(writer)),
-    ) {
-        (Ok(reader), Ok(writer)) => Ok(Link { reader, writer }),
-        _ => Err(Unlinked::NoMemory),
+    match place.connect(path) {
+        Ok((input, output)) => {
+            reader.get_mut().connect(input, patience.limit);
+            writer.get_mut().connect(output);
+            Ok(Link { reader, writer })
+        }
+        Err(why) => Err(Unlinked::NoServer(why)),
     }
 }
 

@@ -1,5 +1,6 @@
 //! The place of a server, and connections to it.
-ghost use Rattle.std.specs.Prelude.{◌≡◌, ℕ, List, Option, None, IfOk};
+ghost use Rattle.std.specs.Prelude.{◌≡◌, ⊤, ℕ, List, Option, None, IfErr, IfOk};
+ghost use Rattle.std.specs.declared.io.Error.{Error};
 
 use std::io;
 use std::io::{Read, Write};
@@ -16,31 +17,34 @@ pub trait Leave: Read {
     fn leave(&self);
 }
 
-/// A place where a server may be.
+/// Where servers may be, of which each has a path.
 pub trait Place: Drop {
     /// What replies are read from.
     type Input: Leave + Drop;
     /// What requests are written to.
     type Output: Write + Drop;
 
-    /// What the reader of a connection has left at first, if that is known.
-    ghost incoming: { Self → Option (List ℕ) } = { λ _. None };
-    /// What the writer of a connection has taken at first, if that is known.
-    ghost outgoing: { Self → Option (List ℕ) } = { λ _. None };
+    /// What the reader of a connection to a path has left at first, if that is known.
+    ghost incoming: { Self → List ℕ → Option (List ℕ) } = { λ _ _. None };
+    /// What the writer of a connection to a path has taken at first, if that is known.
+    ghost outgoing: { Self → List ℕ → Option (List ℕ) } = { λ _ _. None };
+    /// The errors with which a connection to a path may fail.
+    ghost refuses: { Self → List ℕ → Error → Type 0 } = { λ _ _ _. ⊤ };
 
-    /// Connects to the server.
-    fn connect(self) -> io::Result<(Self::Input, Self::Output)>
-        ensures reader { IfOk result (λ ends. Self.Input.remaining ends.0 ≡ incoming self) }
-        ensures writer { IfOk result (λ ends. Self.Output.contents ends.1 ≡ outgoing self) };
+    /// Connects to the server at `path`.
+    fn connect(self, path: &str) -> io::Result<(Self::Input, Self::Output)>
+        ensures reader { IfOk result (λ ends.
+            Self.Input.remaining ends.0 ≡ incoming self path.now) }
+        ensures writer { IfOk result (λ ends.
+            Self.Output.contents ends.1 ≡ outgoing self path.now) }
+        ensures refused { IfErr result (refuses self path.now) };
 }
 
-/// The socket of a server.
+/// The sockets of servers.
 #[derive(Drop)]
 pub struct Socket<'a, R> {
     /// The runtime, which opens the connection.
     pub rt: &'a R,
-    /// The path of the socket.
-    pub path: &'a str,
     /// The connection, once there is one.
     pub stream: &'a mut Option<UnixStream>,
 }
@@ -50,8 +54,8 @@ impl<'a, R: Net> Place for Socket<'a, R> {
 
     type Output = &'a UnixStream;
 
-    fn connect(self) -> io::Result<(&'a UnixStream, &'a UnixStream)> {
-        let stream: &UnixStream = self.stream.insert(UnixStream::connect(self.rt, self.path)?);
+    fn connect(self, path: &str) -> io::Result<(&'a UnixStream, &'a UnixStream)> {
+        let stream: &UnixStream = self.stream.insert(UnixStream::connect(self.rt, path)?);
         Ok((stream, stream))
     }
 }

@@ -1,4 +1,12 @@
 //! What keeps a message from its queue.
+ghost use Rattle.std.specs.Prelude.{◌≡◌, ℤ, [], true, IfSome};
+ghost use Rattle.std.specs.Io.KnownBytes.{Appends};
+ghost use Rattle.sysv_clients.specs.Asks.{request_of};
+ghost use Rattle.sysv_connect.specs.Clients.{look_text};
+ghost use Rattle.sysv_connect.specs.Links.{taken_by};
+ghost use Rattle.sysv_model.specs.Writing.{AppendsPrefix};
+ghost use Rattle.sysv_wire.specs.Requests.{request_encoding};
+
 use crate::link::Link;
 use crate::place::Leave;
 use bitflags::Flags as _;
@@ -37,7 +45,10 @@ pub(crate) fn look<R: Leave, W: Write + Drop>(
     link: &mut Link<R, W>,
     key: i32,
     len: usize,
-) -> Option<Room> {
+) -> Option<Room>
+    ensures { (found : ℤ) × AppendsPrefix (taken_by W.contents link.old)
+        (taken_by W.contents link.new) (look_text key found) }
+{
     let find = Ask::Get {
         key,
         flags: Flags::empty(),
@@ -56,14 +67,32 @@ fn answer<R: Leave, W: Write + Drop>(
     alloc: Global,
     link: &mut Link<R, W>,
     ask: Ask,
-) -> Option<ReplyContent> {
+) -> Option<ReplyContent>
+    ensures part { AppendsPrefix (taken_by W.contents link.old) (taken_by W.contents link.new)
+        (request_encoding (request_of ask) []) }
+    ensures whole { IfSome result (λ _. Appends (taken_by W.contents link.old)
+        (taken_by W.contents link.new) (request_encoding (request_of ask) [])) }
+{
     let mut body = Body::open(alloc).ok()?;
+    if !request(&mut link.writer, ask, &body) {
+        return None;
+    }
+    let reply = read_reply(&mut Instrumented::new(&mut link.reader), &mut body).ok()??;
+    (reply.op == ask.op().number()).then_some(reply.result)
+}
+
+/// Writes a request and flushes it. Returns whether that succeeded. If it did not, a prefix of the
+/// request was written.
+fn request<W: Write>(writer: &mut W, ask: Ask, text: &Body) -> bool
+    ensures whole { result ≡ true → Appends (W.contents writer.old) (W.contents writer.new)
+        (request_encoding (request_of ask) text.now) }
+    ensures part { AppendsPrefix (W.contents writer.old) (W.contents writer.new)
+        (request_encoding (request_of ask) text.now) }
+{
     let request = Request {
         version: Version::Two,
         ask,
     };
-    write_request(&mut Instrumented::new(&mut link.writer), &request, &body).ok()?;
-    link.writer.flush().ok()?;
-    let reply = read_reply(&mut Instrumented::new(&mut link.reader), &mut body).ok()??;
-    (reply.op == ask.op().number()).then_some(reply.result)
+    let mut instrumented = Instrumented::new(writer);
+    write_request(&mut instrumented, &request, text).is_ok() && instrumented.flush().is_ok()
 }

@@ -1,8 +1,11 @@
 //! Screens that remember how they failed.
-ghost use Rattle.std.specs.Prelude.{◌≡◌, None};
+ghost use Rattle.std.specs.Prelude.{◌≡◌, None, false, true};
+ghost use Rattle.std.specs.Io.KnownBytes.{Appends};
+ghost use Rattle.sysv_model.specs.Writing.{AppendsPrefix};
 
 use std::io;
 use std::io::Write;
+use sysv_model::Instrumented;
 
 /// A writer that remembers why it failed last, and how often it was flushed.
 ///
@@ -51,4 +54,15 @@ impl<S: Write> Write for Screen<S> {
         }
         outcome
     }
+}
+
+/// Writes the bytes and flushes them. Returns whether that succeeded. If it did not, a prefix of
+/// the bytes was written.
+pub(crate) fn put<S: Write>(stream: &mut S, bytes: &[u8]) -> bool
+    ensures whole { result ≡ true → Appends (S.contents stream.old) (S.contents stream.new)
+        bytes.now }
+    ensures part { AppendsPrefix (S.contents stream.old) (S.contents stream.new) bytes.now }
+{
+    let mut instrumented = Instrumented::new(stream);
+    instrumented.write_out(bytes).is_ok() && instrumented.flush().is_ok()
 }

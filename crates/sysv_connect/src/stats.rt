@@ -1,16 +1,21 @@
 //! The client that shows the state of a server.
-ghost use Rattle.std.specs.Prelude.{◌≡◌, IfOk};
+ghost use Rattle.std.specs.Prelude.{◌≡◌, ◌⊎◌, IfOk};
 ghost use Rattle.std.specs.Io.KnownBytes.{Appends, Consumes, IsAtEnd};
-ghost use Rattle.sysv_connect.specs.Ends.{Succeeds, SucceedsOnlyIf};
+ghost use Rattle.sysv_connect.specs.Ends.{Fails, Succeeds};
+ghost use Rattle.sysv_connect.specs.Links.{left_by, taken_by};
 ghost use Rattle.sysv_connect.specs.Stats.{HasLooked, asked_with};
+ghost use Rattle.sysv_connect.specs.Visits.{Visited};
+ghost use Rattle.sysv_model.specs.Writing.{AppendsPrefix};
 
+use crate::connection::no_link;
+use crate::contact::{Contact, Visit};
 use crate::ending::FAULT;
 use crate::how::Telling;
 use crate::input::{Unread, read_some};
-use crate::leaver::bound;
-use crate::patience::REPLY_MILLIS;
-use crate::place::Place;
-use crate::screen::Screen;
+use crate::link::{Link, linked};
+use crate::patience::{Patience, REPLY_MILLIS};
+use crate::place::{Leave, Place};
+use crate::screen::{Screen, put};
 use crate::sentence::Detail;
 use crate::silence::{LastRead, Silence};
 use crate::teller::Teller;
@@ -35,37 +40,63 @@ pub struct Looking<'a> {
 /// The number of bytes of a state that are read at once at most.
 const PIECE: usize = 4_096;
 
-/// Prints the state of the server that shows it at this place, as the options say. If no connection
-/// can be made, the reason is reported on standard error.
+/// Prints the state of the server that shows it at the path of the options. If no connection can be
+/// made, the reason is reported on standard error. It makes at most one connection, and returns it.
 pub fn look_at<P: Place, S: Write>(
     rt: &(impl Print + Eprint + AllocGlobal),
     place: P,
     looking: &Looking<'_>,
     screen: &mut Screen<S>,
-) -> ExitCode
-    ensures { SucceedsOnlyIf (HasLooked (P.incoming place) (S.contents screen.old.writer)
-        (S.contents screen.new.writer)) result }
+) -> Visit<P, Link<P::Input, P::Output>>
+    ensures { Visited (P.refuses place looking.now.path.now) place
+        (Fails result.exit
+        × (S.contents screen.new.writer ≡ S.contents screen.old.writer))
+        (λ link. HasLooked looking.now.json result.exit
+        (P.incoming place looking.now.path.now) (left_by P.Input.remaining link)
+        (P.outgoing place looking.now.path.now) (taken_by P.Output.contents link)
+        (S.contents screen.old.writer) (S.contents screen.new.writer)) result.contact }
 {
     let teller = Teller {
         path: looking.path,
         command: None,
         telling: looking.telling,
     };
-    let (mut reader, mut writer) = match place.connect() {
-        Ok(ends) => ends,
-        Err(why) => return teller.no_server(rt, &why),
+    let patience = Patience {
+        limit: Some(looking.wait.unwrap_or(REPLY_MILLIS)),
+        may_leave: false,
     };
-    bound(&reader, Some(looking.wait.unwrap_or(REPLY_MILLIS)));
-    if writer.write_all(question(looking.json)).is_err() || writer.flush().is_err() {
-        return silent(rt, &teller, Silence::Lost);
+    match linked(rt.alloc(), place, looking.path, patience) {
+        Ok(mut link) => Visit {
+            exit: look_on(rt, &mut link, &teller, looking.json, screen),
+            contact: Contact::Made(link),
+        },
+        Err(unlinked) => no_link(rt, &teller, unlinked),
     }
-    match read_state(rt.alloc(), &mut reader) {
-        Ok(state) if state.is_empty() => silent(rt, &teller, Silence::Closed),
-        Ok(state) => show(rt, &teller, &state, screen),
-        Err(Unread::NoMemory) => failed(rt, &teller, ClientFault::NoMemory, Detail::Plain),
+}
+
+/// Prints the state of a server over a connection, as a JSON object if `json` is true.
+fn look_on<R: Leave, W: Write + Drop, S: Write>(
+    rt: &(impl Print + Eprint + AllocGlobal),
+    link: &mut Link<R, W>,
+    teller: &Teller<'_>,
+    json: bool,
+    screen: &mut Screen<S>,
+) -> ExitCode
+    ensures { HasLooked json result (left_by R.remaining link.old)
+        (left_by R.remaining link.new) (taken_by W.contents link.old)
+        (taken_by W.contents link.new) (S.contents screen.old.writer)
+        (S.contents screen.new.writer) }
+{
+    if !put(&mut link.writer, question(json)) {
+        return silent(rt, teller, Silence::Lost);
+    }
+    match read_state(rt.alloc(), &mut link.reader) {
+        Ok(state) if state.is_empty() => silent(rt, teller, Silence::Closed),
+        Ok(state) => show(rt, teller, &state, screen),
+        Err(Unread::NoMemory) => failed(rt, teller, ClientFault::NoMemory, Detail::Plain),
         Err(Unread::Failed(why)) => {
             let silence = Silence::after(LastRead::of(&Err(why)), false, false);
-            silent(rt, &teller, silence)
+            silent(rt, teller, silence)
         }
     }
 }
@@ -76,7 +107,7 @@ fn silent(
     teller: &Teller<'_>,
     silence: Silence,
 ) -> ExitCode
-    ensures { Succeeds result → ⊥ }
+    ensures { Fails result }
 {
     failed(rt, teller, ClientFault::NoReply, Detail::Silent(silence))
 }
@@ -88,7 +119,7 @@ fn failed(
     fault: ClientFault,
     detail: Detail,
 ) -> ExitCode
-    ensures { Succeeds result → ⊥ }
+    ensures { Fails result }
 {
     teller.fault(rt, fault.line(), detail);
     ExitCode::from(FAULT)
@@ -132,11 +163,14 @@ fn show<S: Write>(
     state: &[u8],
     screen: &mut Screen<S>,
 ) -> ExitCode
-    ensures { SucceedsOnlyIf (Appends (S.contents screen.old.writer)
-        (S.contents screen.new.writer) state.now) result }
+    ensures whole { Succeeds result → Appends (S.contents screen.old.writer)
+        (S.contents screen.new.writer) state.now }
+    ensures part { AppendsPrefix (S.contents screen.old.writer) (S.contents screen.new.writer)
+        state.now }
 {
-    if screen.write_all(state).is_err() || screen.flush().is_err() {
-        return teller.no_output(rt, screen.failure, None);
+    if put(screen, state) {
+        ExitCode::SUCCESS
+    } else {
+        teller.no_output(rt, screen.failure, None)
     }
-    ExitCode::SUCCESS
 }

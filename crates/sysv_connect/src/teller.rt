@@ -1,9 +1,11 @@
 //! What a user is told of the faults of a client.
-ghost use Rattle.sysv_connect.specs.Ends.{Succeeds};
+ghost use Rattle.sysv_connect.specs.Ends.{Fails};
+ghost use Rattle.sysv_model.specs.Writing.{AppendsPrefix};
 
 use crate::ending::{FAULT, say};
 use crate::how::Telling;
 use crate::plain::{Reason, complain};
+use crate::screen::put;
 use crate::sentence::{Detail, Head, Sentence, name_in};
 use std::io;
 use std::io::{Eprint, ErrorKind, Write};
@@ -54,14 +56,16 @@ impl Teller<'_> {
         screen: &mut S,
         line: &str,
         detail: Detail,
-    ) -> bool {
+    ) -> bool
+        ensures { AppendsPrefix (S.contents screen.old) (S.contents screen.new) line.now }
+    {
         if self.telling.has_sentence() {
             self.sentence(rt, line, detail);
         }
         if !self.telling.has_line() {
             return true;
         }
-        screen.write_all(line.as_bytes()).is_ok() && screen.flush().is_ok()
+        put(screen, line.as_bytes())
     }
 
     /// Tells a fault of a client that shows messages as a stream. Standard output has only messages
@@ -76,7 +80,7 @@ impl Teller<'_> {
         rt: &(impl Print + Eprint + AllocGlobal),
         why: &io::Error,
     ) -> ExitCode
-        ensures { Succeeds result → ⊥ }
+        ensures { Fails result }
     {
         if self.telling.has_sentence() {
             self.no_server_said(rt, why);
@@ -92,7 +96,7 @@ impl Teller<'_> {
         rt: &(impl Eprint + AllocGlobal),
         why: &io::Error,
     ) -> ExitCode
-        ensures { Succeeds result → ⊥ }
+        ensures { Fails result }
     {
         let what = match why.kind() {
             ErrorKind::PermissionDenied => "no permission to connect to",
@@ -109,7 +113,7 @@ impl Teller<'_> {
         rt: &(impl Print + Eprint + AllocGlobal),
         why: &io::Error,
     ) -> ExitCode
-        ensures { Succeeds result → ⊥ }
+        ensures { Fails result }
     {
         if self.telling.has_sentence() {
             let reason = Reason::of(rt.alloc(), why);
@@ -131,7 +135,7 @@ impl Teller<'_> {
         why: Option<io::Error>,
         unshown: Option<Unshown>,
     ) -> ExitCode
-        ensures { Succeeds result → ⊥ }
+        ensures { Fails result }
     {
         let head = self.head();
         let _ = match &why {
@@ -168,7 +172,7 @@ impl Teller<'_> {
 
     /// Ends a client with a fault, after its line if that is told.
     fn end(&self, rt: &impl Print, fault: &str) -> ExitCode
-        ensures { Succeeds result → ⊥ }
+        ensures { Fails result }
     {
         if self.telling.has_line() {
             say(rt, fault)

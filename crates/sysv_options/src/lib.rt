@@ -7,4 +7,4 @@ mod commands;
 mod who;
 
 pub use asked::{Asked, Serving, SocketFile, no_text, read_words};
-pub use who::{Who, credentials, own, wants_me, wants_stderr};
+pub use who::{Surroundings, Who, credentials, own, telling, wants_me, wants_stderr};

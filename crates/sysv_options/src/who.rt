@@ -1,9 +1,10 @@
 //! The user, the group and the process that a client states.
 ghost use Rattle.std.specs.Prelude.{◌≡◌};
-ghost use Rattle.sysv_options.specs.Who.{cred_by, stated_by};
+ghost use Rattle.sysv_options.specs.Who.{cred_by, stated_by, told_by};
 
 use std::env;
 use std::env::Env;
+use sysv_connect::Telling;
 use sysv_model::Cred;
 
 /// The user, the group and the process that the words of a client state.
@@ -19,6 +20,19 @@ pub struct Who {
     pub pid: Option<u32>,
 }
 
+/// What a process learns from where it runs.
+#[derive(Clone, Copy, PartialEq, Eq, Debug)]
+pub struct Surroundings {
+    /// Whether the environment wants clients to state the IDs of the process.
+    pub wants_me: bool,
+    /// Whether the environment wants faults on standard error.
+    pub wants_stderr: bool,
+    /// Whether standard output is a terminal.
+    pub is_terminal: bool,
+    /// The effective user and group of the process, and its ID.
+    pub own: Cred,
+}
+
 /// What a client states without options.
 const USUAL: Cred = Cred {
     uid: 1000,
@@ -32,15 +46,30 @@ const ME: &str = "SYSVMSG_ME";
 /// The environment variable that has the effect of `--stderr` if its value is 1.
 const STDERR: &str = "SYSVMSG_STDERR";
 
-/// Returns the credentials that a client states: those of the words, and for the others `own`, if
-/// the words or the environment want them, or the usual ones.
-pub fn credentials(who: &Who, wants_me: bool, own: Cred) -> Cred
-    ensures { result ≡ stated_by who.now wants_me own }
+/// Returns the credentials that a client states: those of the words, and for the others those of
+/// the process, if the words or the environment want them, or the usual ones.
+pub fn credentials(who: &Who, around: &Surroundings) -> Cred
+    ensures { result ≡ stated_by who.now around.now }
 {
-    if who.me || wants_me {
-        cred_of(who, own)
+    if who.me || around.wants_me {
+        cred_of(who, around.own)
     } else {
         cred_of(who, USUAL)
+    }
+}
+
+/// Returns how faults are told here, if the words ask for `asked`: by sentences alone if the words
+/// or the environment want that, and else by lines, with a sentence for each if standard output is
+/// no terminal.
+pub fn telling(asked: Telling, around: &Surroundings) -> Telling
+    ensures { result ≡ told_by asked around.now }
+{
+    if !asked.has_line() || around.wants_stderr {
+        Telling::Sentence
+    } else if around.is_terminal {
+        Telling::Line
+    } else {
+        Telling::Both
     }
 }
 

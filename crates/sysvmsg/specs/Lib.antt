@@ -2,3 +2,4 @@
 pub mod Room
 pub mod Ends
 pub mod Scripts
+pub mod Running

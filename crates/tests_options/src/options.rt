@@ -7,9 +7,22 @@ use sysv_clients::{Form, Receipt, Target, Task};
 use sysv_connect::{How, Looking, Telling};
 use sysv_model::Cred;
 use sysv_options::{
-    Asked, Serving, SocketFile, Who, credentials, no_text, own, read_words, wants_me, wants_stderr,
+    Asked, Serving, SocketFile, Surroundings, Who, credentials, no_text, own, read_words, telling,
+    wants_me, wants_stderr,
 };
 use sysv_server::{MAX_CLIENTS, Patience, Terms};
+
+/// Where neither the environment nor a terminal wants anything.
+const NOWHERE: Surroundings = Surroundings {
+    wants_me: false,
+    wants_stderr: false,
+    is_terminal: false,
+    own: Cred {
+        uid: 0,
+        gid: 0,
+        pid: 0,
+    },
+};
 
 /// No credentials.
 const NOBODY: Who = Who {
@@ -276,19 +289,47 @@ fn credentials_are_those_of_the_words(rt: HostRuntime) {
         uid: Some(7),
         ..NOBODY
     };
-    let own = Cred {
-        uid: 1,
-        gid: 2,
-        pid: 3,
+    let around = Surroundings {
+        own: Cred {
+            uid: 1,
+            gid: 2,
+            pid: 3,
+        },
+        ..NOWHERE
     };
     let usual = Cred {
         uid: 7,
         gid: 1000,
         pid: 1,
     };
-    assert_is(&rt, credentials(&who, false, own), usual);
-    let mine = Cred { uid: 7, ..own };
-    assert_is(&rt, credentials(&who, true, own), mine);
+    assert_is(&rt, credentials(&who, &around), usual);
+    let mine = Cred {
+        uid: 7,
+        gid: 2,
+        pid: 3,
+    };
+    let around = Surroundings {
+        wants_me: true,
+        ..around
+    };
+    assert_is(&rt, credentials(&who, &around), mine);
+}
+
+#[test]
+fn faults_are_told_as_the_words_and_the_environment_want(rt: HostRuntime) {
+    for (asked, wants_stderr, is_terminal, wanted) in [
+        (Telling::Line, false, true, Telling::Line),
+        (Telling::Line, false, false, Telling::Both),
+        (Telling::Line, true, true, Telling::Sentence),
+        (Telling::Sentence, false, true, Telling::Sentence),
+    ] {
+        let around = Surroundings {
+            wants_stderr,
+            is_terminal,
+            ..NOWHERE
+        };
+        assert_is(&rt, telling(asked, &around), wanted);
+    }
 }
 
 /// Returns whether an environment variable has the value 1.

@@ -6,7 +6,7 @@ use std::io::Eprint;
 use std::process::ExitCode;
 use std::time::Duration;
 use sysv_connect::{
-    FAULT, How, Leave, Looking, Place, Screen, Telling, complain, look_at, run_as, say,
+    Contact, FAULT, How, Leave, Looking, Place, Screen, Telling, complain, look_at, run_as, say,
 };
 
 /// A place in memory. Its server has already sent its replies.
@@ -48,7 +48,7 @@ impl<'a> Place for Desk<'a> {
 
     type Output = &'a mut Tape;
 
-    fn connect(self) -> io::Result<(Replies<'a>, &'a mut Tape)> {
+    fn connect(self, _path: &str) -> io::Result<(Replies<'a>, &'a mut Tape)> {
         if self.is_served {
             Ok((self.replies, self.requests))
         } else {
@@ -132,9 +132,9 @@ fn run_once(
 {
     let place = make_desk(&mut dialogue.replies, &mut dialogue.requests, how, true);
     let mut screen = Screen::new(Tape::new(rt, rt.alloc()));
-    let exit = run_as(rt, input, place, "./q", command, how, &mut screen);
+    let visit = run_as(rt, input, place, "./q", command, how, &mut screen);
     dialogue.screen = screen.writer;
-    exit
+    visit.exit
 }
 
 #[test]
@@ -186,8 +186,10 @@ fn a_client_without_a_server_fails(rt: HostRuntime) {
         task: LIST,
     };
     let mut screen = Screen::new(Tape::new(&rt, rt.alloc()));
-    let exit = run_as(&rt, &mut input, place, "./q", &command, &PLAIN, &mut screen);
-    assert_is(&rt, exit, ExitCode::from(FAULT));
+    let visit = run_as(&rt, &mut input, place, "./q", &command, &PLAIN, &mut screen);
+    assert_is(&rt, visit.exit, ExitCode::from(FAULT));
+    let has_asked = matches!(visit.contact, Contact::Refused(_) | Contact::Unused(_));
+    assert_is(&rt, has_asked, true);
 }
 
 /// A state of a server.
@@ -203,9 +205,9 @@ fn look(rt: &(impl Print + Eprint + AllocGlobal + Abort), dialogue: &mut Dialogu
     };
     let place = make_desk(&mut dialogue.replies, &mut dialogue.requests, &PLAIN, true);
     let mut screen = Screen::new(Tape::new(rt, rt.alloc()));
-    let exit = look_at(rt, place, &looking, &mut screen);
+    let visit = look_at(rt, place, &looking, &mut screen);
     dialogue.screen = screen.writer;
-    exit
+    visit.exit
 }
 
 #[test]

@@ -1,0 +1,173 @@
+//! What the program does, by its words, its surroundings and its streams.
+ghost use Rattle.std.specs.Prelude.{◌≡◌, IfOk, OnErr, map, string_bytes};
+ghost use Rattle.clap.specs.Values.{kind_of};
+ghost use Rattle.sysv_connect.specs.Ends.{Fails, Succeeds};
+ghost use Rattle.sysv_options.specs.Asked.{IsWithinLimits};
+ghost use Rattle.sysvmsg.specs.Running.{Answers, AnswersWords, DoesNothing, IsHelp};
+
+use crate::scripts::answer_script;
+use crate::serving::serve_at;
+use clap::Error;
+use clap::error::ErrorKind;
+use std::io::{Eprint, Read, Write};
+use std::net::Net;
+use std::os::fd::AsRawFd;
+use std::process::ExitCode;
+use std::rt::Files;
+use std::sync::Wait;
+use std::thread::Threads;
+use sysv_clients::Command;
+use sysv_connect::{
+    Contact, How, Link, Looking, Place, Screen, Telling, Visit, look_at, run_as, say,
+};
+use sysv_options::{Asked, Surroundings, credentials, no_text, read_words, telling};
+
+/// The exit status if the command line is not valid.
+const NOT_UNDERSTOOD: u8 = 2;
+
+/// Why the words of the command line cannot be read.
+#[derive(Clone, Copy, PartialEq, Eq, Debug)]
+pub(crate) enum NoWords {
+    /// Memory was refused for them.
+    NoMemory,
+    /// One is not UTF-8.
+    NoText,
+}
+
+/// Runs the program with these words, the first of which is its name. A client connects to its
+/// server through `place`.
+pub(crate) fn run<
+    R: Files + Net + Threads + Wait + Sync + Print + Eprint + AllocGlobal + Clone + Drop,
+    I: Read + AsRawFd + Drop,
+    P: Place,
+    S: Write,
+>(
+    rt: &R,
+    words: &Result<Vec<String>, NoWords>,
+    around: &Surroundings,
+    input: I,
+    place: P,
+    screen: &mut Screen<S>,
+) -> Visit<P, Link<P::Input, P::Output>>
+    ensures words { IfOk words.now (λ words. AnswersWords P.Input.remaining P.Output.contents
+        P.incoming P.outgoing P.refuses around.now place (map string_bytes words.items)
+        result.exit (I.remaining input) (S.contents screen.old.writer)
+        (S.contents screen.new.writer) result.contact) }
+    ensures none { OnErr words.now (Fails result.exit × DoesNothing P.Input.remaining
+        P.Output.contents P.incoming P.outgoing P.refuses around.now place
+        (S.contents screen.old.writer) (S.contents screen.new.writer) result.contact) }
+{
+    let words = match words {
+        Ok(words) => words.as_slice(),
+        Err(NoWords::NoMemory) => return unused(say(rt, "no memory"), place),
+        Err(NoWords::NoText) => {
+            let asked = telling(Telling::Line, around);
+            return unused(tell(rt, &no_text(rt.alloc()), asked), place);
+        }
+    };
+    match read_words(rt.alloc(), words) {
+        Ok(asked) => answer(rt, asked, around, input, place, screen),
+        Err(error) => {
+            let asked = telling(telling_of(words), around);
+            unused(tell(rt, &error, asked), place)
+        }
+    }
+}
+
+/// Ends without a use of the place.
+fn unused<P, C>(exit: ExitCode, place: P) -> Visit<P, C>
+    ensures exit { result.exit ≡ exit }
+    ensures contact { result.contact ≡ Contact.Unused place }
+{
+    Visit {
+        exit,
+        contact: Contact::Unused(place),
+    }
+}
+
+/// Does what the words ask for.
+fn answer<
+    R: Files + Net + Threads + Wait + Sync + Print + Eprint + AllocGlobal + Clone + Drop,
+    I: Read + AsRawFd + Drop,
+    P: Place,
+    S: Write,
+>(
+    rt: &R,
+    asked: Asked<'_>,
+    around: &Surroundings,
+    input: I,
+    place: P,
+    screen: &mut Screen<S>,
+) -> Visit<P, Link<P::Input, P::Output>>
+    requires { IsWithinLimits asked.entry }
+    ensures { Answers P.Input.remaining P.Output.contents P.incoming P.outgoing P.refuses
+        around.now place asked.entry result.exit (I.remaining input)
+        (S.contents screen.old.writer) (S.contents screen.new.writer) result.contact }
+{
+    match asked {
+        Asked::Script => {
+            let mut script = input;
+            unused(answer_script(rt, &mut script, &mut screen.writer), place)
+        }
+        Asked::Serve(serving) => unused(serve_at(rt, input, &serving, &mut screen.writer), place),
+        Asked::Look(looking) => {
+            let looking = Looking {
+                telling: telling(looking.telling, around),
+                ..looking
+            };
+            look_at(rt, place, &looking, screen)
+        }
+        Asked::Client {
+            path,
+            who,
+            task,
+            how,
+        } => {
+            let command = Command {
+                cred: credentials(&who, around),
+                task,
+            };
+            let how = How {
+                telling: telling(how.telling, around),
+                ..how
+            };
+            let mut input = input;
+            run_as(rt, &mut input, place, path, &command, &how, screen)
+        }
+    }
+}
+
+/// Returns how the words ask that faults are told: by a sentence if one before `--` is `--stderr`.
+fn telling_of(words: &[String]) -> Telling {
+    for word in words {
+        match word.as_str() {
+            "--" => return Telling::Line,
+            "--stderr" => return Telling::Sentence,
+            _ => {}
+        }
+    }
+    Telling::Line
+}
+
+/// Prints why a command line is not valid, or the help or the version that it requests. The former
+/// is printed on standard output, on standard error, or on both.
+fn tell(rt: &(impl Print + Eprint), error: &Error, telling: Telling) -> ExitCode
+    ensures { Succeeds result → IsHelp (kind_of error.now) }
+{
+    match error.kind() {
+        ErrorKind::OutOfMemory => say(rt, "no memory"),
+        ErrorKind::DisplayHelp | ErrorKind::DisplayVersion => {
+            let _ = rt.print(error);
+            ExitCode::SUCCESS
+        }
+        _ => {
+            if telling.has_line() {
+                let _ = rt.print(error);
+            }
+            if telling.has_sentence() {
+                let _ = eprint!(rt; "{error}");
+            }
+            ExitCode::from(NOT_UNDERSTOOD)
+        }
+    }
+}
