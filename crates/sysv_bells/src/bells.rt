@@ -108,8 +108,9 @@ impl Bells {
         ensures told { number / 64 + 2 < self.now.words → HasTold number seat.old.told
             seat.new.told }
     {
-        self.add(&mut seat.token, number);
-        self.ring_with(&mut seat.token)
+        let token = &mut seat.token;
+        self.add(token, number);
+        self.ring_with(token)
     }
 
     /// Rings, for something that is not told by these words. Returns whether the doorbell is to be
