@@ -53,11 +53,11 @@ nothing_waits about words views sleeper kept asleep untaken idle =
     let answered = kept.answered asleep in
     let read = kept.all_read away in
     let zero_word : (i : ℕ) → 2 ≤ i → get_or words i 0 ≡ 0 = λ i told. dite (dec_le (length words) i)
-        (λ past. get_or_past words i 0 past)
-        (λ within.
-        let less = lt_of_not-le within in
-        dite (ℕ_discrete (get_or words i 0) 0) (λ e. e)
-        (λ ne. let a = kept.announced i told (omega arith) (omega arith) in absurd (omega arith))) in
+    (λ past. get_or_past words i 0 past)
+    (λ within.
+    let less = lt_of_not-le within in
+    dite (ℕ_discrete (get_or words i 0) 0) (λ e. e)
+    (λ ne. let a = kept.announced i told (omega arith) (omega arith) in absurd (omega arith))) in
     record {
       asleep = omega arith;
       not_rung = omega arith;
@@ -67,7 +67,7 @@ nothing_waits about words views sleeper kept asleep untaken idle =
           ⊎_elim
           (λ there.
           let none : bit_at (get_or words t.word 0) bit ≡ 0 =
-              ap (λ n. bit_at n bit) (zero_word t.word is.is_told) ∙ bit_at-zero bit in
+          ap (λ n. bit_at n bit) (zero_word t.word is.is_told) ∙ bit_at-zero bit in
           absurd (omega arith))
           (λ was. was)
           (is.bits bit has);

@@ -29,22 +29,24 @@ opens about n ws is many =
     let all_zero : (i : ℕ) → get_or ws i 0 ≡ 0 = λ i. ap (λ l. get_or l i 0) is ∙ zero_at n i in
     let zeroth = all_zero 0 in
     let firsts = all_zero 1 in
-    let size : length ws ≡ about + 2 = ap length is ∙ length_zeros n ∙ many in
-    (start about, record {
-      size = size;
-      first = refl;
-      sleeps = refl;
-      tellers = λ k v at apart. absurd (no_other about k v at apart);
-      rung_bit = omega arith;
-      rung_since = omega arith;
-      all_heard = λ _. omega arith;
-      seen = omega arith;
-      announced = λ i told read some_bit. let z = all_zero i in absurd (omega arith);
-      all_read = λ away. omega arith;
-      asleep_bit = omega arith;
-      awake = λ e. zeroth;
-      one_bell = λ away. absurd (away refl);
-      answered = λ e. omega arith;
-      delivered = λ k v at place t told_at.
-          absurd (some-ne-none t (sym (sym (ap (λ l. get_elem? l place) (no_telling about k v at)) ∙ told_at)));
-    })
+    let size : length ws ≡ about + 2 = ap length is ∙ length_zeros n ∙ many in (
+      start about,
+      record {
+        size = size;
+        first = refl;
+        sleeps = refl;
+        tellers = λ k v at apart. absurd (no_other about k v at apart);
+        rung_bit = omega arith;
+        rung_since = omega arith;
+        all_heard = λ _. omega arith;
+        seen = omega arith;
+        announced = λ i told read some_bit. let z = all_zero i in absurd (omega arith);
+        all_read = λ away. omega arith;
+        asleep_bit = omega arith;
+        awake = λ e. zeroth;
+        one_bell = λ away. absurd (away refl);
+        answered = λ e. omega arith;
+        delivered = λ k v at place t told_at.
+            absurd (some-ne-none t (sym (sym (ap (λ l. get_elem? l place) (no_telling about k v at)) ∙ told_at)));
+      },
+    )

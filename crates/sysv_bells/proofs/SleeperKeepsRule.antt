@@ -446,8 +446,8 @@ takes about slots id i me stage next high within s held _ at _ =
       (
         w,
         subst (λ (k : ℕ).
-        IsKept about (set s.words k 0) (set s.views id (taking k (get_or s.words k 0) me.0))
-        (taking k (get_or s.words k 0) me.0)) (sym next) after,
+            IsKept about (set s.words k 0) (set s.views id (taking k (get_or s.words k 0) me.0))
+            (taking k (get_or s.words k 0) me.0)) (sym next) after,
       ),
       refl,
     )

@@ -103,7 +103,7 @@ module _ (about : ℕ) (words : List ℕ) (views : List View) (sleeper : View) (
         let size = kept.size in
         let one : get_or (set words 1 1) 1 0 ≡ 1 = get_or-set_same words 1 1 0 (omega arith) in
         let same : get_or (set words 1 1) 0 0 ≡ get_or words 0 0 =
-            get_or-set_other words 1 0 1 0 (λ e. omega arith) in
+        get_or-set_other words 1 0 1 0 (λ e. omega arith) in
         let none : rung_count v.stage ≡ 0 = ⊎_elim (λ e. ap rung_count e) (λ e. ap rung_count e) may in
         let rings = rings_after views id v w at in
         let bells = bells_after views id v w at in
@@ -141,7 +141,7 @@ module _ (about : ℕ) (words : List ℕ) (views : List View) (sleeper : View) (
         let size = kept.size in
         let zero_now : get_or (set words 0 0) 0 0 ≡ 0 = get_or-set_same words 0 0 0 (omega arith) in
         let same : get_or (set words 0 0) 1 0 ≡ get_or words 1 0 =
-            get_or-set_other words 0 1 0 0 (λ e. omega arith) in
+        get_or-set_other words 0 1 0 0 (λ e. omega arith) in
         let none : told_count v.stage ≡ 0 = ap told_count rung in
         let rings = rings_after views id v w at in
         let bells = bells_after views id v w at in
@@ -212,7 +212,7 @@ module _ (about : ℕ) (words : List ℕ) (views : List View) (sleeper : View) (
         (λ e.
         let n : ℕ = get_or words i 0 in
         let same : get_or (set words i (bit_or n k)) j 0 ≡ bit_or n k =
-            ap (λ (m : ℕ). get_or (set words i (bit_or n k)) m 0) e ∙ get_or-set_same words i (bit_or n k) 0 within in
+        ap (λ (m : ℕ). get_or (set words i (bit_or n k)) m 0) e ∙ get_or-set_same words i (bit_or n k) 0 within in
         let had : bit_at n bit ≡ 1 = sym (ap (λ (m : ℕ). bit_at (get_or words m 0) bit) e) ∙ has in
         let most = bit_at-lt k bit in
         let most' : max (bit_at n bit) (bit_at k bit) ≡ 1 = omega arith in
@@ -275,9 +275,9 @@ module _ (about : ℕ) (words : List ℕ) (views : List View) (sleeper : View) (
       let rings : all_rings (views ++ w ∷ []) ≡ all_rings views + 0 = sum_by_push (λ (u : View). u.rings) views w in
       let bells : all_bells (views ++ w ∷ []) ≡ all_bells views + 0 = sum_by_push (λ (u : View). u.bells) views w in
       let ring : still_to_ring (views ++ w ∷ []) ≡ still_to_ring views + 0 =
-          sum_by_push (λ (u : View). told_count u.stage) views w in
+      sum_by_push (λ (u : View). told_count u.stage) views w in
       let looks : still_to_look (views ++ w ∷ []) ≡ still_to_look views + 0 =
-          sum_by_push (λ (u : View). rung_count u.stage) views w in
+      sum_by_push (λ (u : View). rung_count u.stage) views w in
       let since = kept.rung_since in
       let seen = kept.seen in
       record {

@@ -30,7 +30,7 @@ took table table' v v' v'' word (suc n) bits passed some_bit taken next same =
     let more : List Taking = record { word = word; bits = bits } ∷ [] in
     let from : suc v.from ≡ word + 1 = omega arith in
     let moved : end_of table (taking word bits v) ≡ read_to (word + 1) more (end_of table v) =
-        ap (λ (k : ℕ). read_to k more (end_of table v)) from in
+    ap (λ (k : ℕ). read_to k more (end_of table v)) from in
     ap (λ (z : TableId). end_of z v'') same
     ∙ ap (λ (u : View). end_of table u) (taken ∙ ap (λ (u : View). taking word bits u) passed) ∙ moved
 

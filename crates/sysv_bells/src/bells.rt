@@ -72,10 +72,7 @@ impl Bells {
         ensures seat { seat.new ≡ seat.old }
         ensures teller { result ≡ newcomer self.now }
     {
-        let token = self
-            .table
-            .shared
-            .split_seat::<Newcomer>(&mut seat.token);
+        let token = self.table.shared.split_seat::<Newcomer>(&mut seat.token);
         Teller { token }
     }
 
@@ -89,10 +86,7 @@ impl Bells {
         ensures seat { seat.new ≡ seat.old }
         ensures teller { result ≡ newcomer self.now }
     {
-        let token = self
-            .table
-            .shared
-            .split_seat::<Newcomer>(&mut seat.token);
+        let token = self.table.shared.split_seat::<Newcomer>(&mut seat.token);
         Teller { token }
     }
 
@@ -171,8 +165,9 @@ impl Bells {
         ensures seat { seat.new ≡ fell result seat.new.since seat.new.seen seat.old }
         ensures rung { result ≡ false → seat.old.heard < seat.new.seen }
     {
-        self.table.shared.store::<Announce>(&mut seat.token, ASLEEP, 1);
-        self.table.shared.load::<Check>(&mut seat.token, RUNG) == 0
+        let token = &mut seat.token;
+        self.table.shared.store::<Announce>(token, ASLEEP, 1);
+        self.table.shared.load::<Check>(token, RUNG) == 0
     }
 
     /// Says that the sleeper is awake, and takes the rings. Returns whether someone has rung since

@@ -18,8 +18,7 @@ swap-requires c =
     let words = ap (λ z. z.words) c.self.view_is in
     let many = c.self.invariant in
     let within = c.requires.within.1 in
-    let same = still_next _ _ c.if-load-eq0.false in
-    (
+    let same = still_next _ _ c.if-load-eq0.false in (
       search rules,
       search rules,
       takes _ _ _ _ _ (ap (λ m. m.0.stage) c.load.ensures.2 ∙ stage)
