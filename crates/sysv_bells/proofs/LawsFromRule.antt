@@ -27,7 +27,8 @@ other_stage e = let r = ap is_awake e in omega arith
 
 -- If the sleeper sleeps and the others are idle, no seat counts.
 none_counts : (f : Stage → ℕ) (about : ℕ) (words : List ℕ) (views : List View) (sleeper : View) →
-    IsKept about words views sleeper → sleeper.stage ≡ Asleep → AllIdle views → f Asleep ≡ 0 → ((v : View) → v.stage ≡ Idle → f v.stage ≡ 0)
+    IsKept about words views sleeper → sleeper.stage ≡ Asleep → AllIdle views → f Asleep ≡ 0
+    → ((v : View) → v.stage ≡ Idle → f v.stage ≡ 0)
     → sum_by (λ (v : View). f v.stage) views ≡ 0
 none_counts f about words views sleeper kept asleep idle at_asleep at_idle =
     let total : ℕ = sum_by (λ (v : View). f v.stage) views in

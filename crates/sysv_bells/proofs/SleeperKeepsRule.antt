@@ -1,5 +1,6 @@
 -- Proves that each kind of step of the sleeper keeps the rule.
-use Rattle.std.proofs.Common.{◌≡◌, ◌≢◌, inl, inr, ⊎_elim, ℕ, zero, suc, ◌+◌, ◌<◌, ◌≤◌, false, List, [], ◌∷◌, ◌++◌, length, set, get_or}
+use Rattle.std.proofs.Common.{◌≡◌, ◌≢◌, inl, inr, ⊎_elim, ℕ, zero, suc, ◌+◌, ◌<◌, ◌≤◌, false, List, [], ◌∷◌, ◌++◌}
+use Rattle.std.proofs.Common.{length, set, get_or}
 use Rattle.std.proofs.Common.{sym, refl, ap, ◌∙◌, subst, arith, length-set, length-append, get_or-set_same}
 use Rattle.std.specs.Int.{bit_at}
 use mathlib.Core.Logic.{dite}
@@ -16,8 +17,10 @@ use Rattle.sysv_bells.specs.declared.view.Telling.{Telling}
 use Rattle.sysv_bells.specs.declared.view.Taking.{Taking}
 use Rattle.sysv_bells.specs.declared.view.Stage.{Stage}
 use Rattle.sysv_bells.specs.declared.view.Stage.TheVariants.{Idle, Told, Rung, Awake, Announced, Asleep}
-use Rattle.sysv_bells.specs.Rule.{is_teller, told_count, rung_count, still_to_ring, all_rings, all_bells, IsDelivered, IsKept, Kept}
-use Rattle.sysv_bells.specs.Steps.{Mine, fallen, announced, checked, from_after, awake, hearing, stayed, passed, passing, taking}
+use Rattle.sysv_bells.specs.Rule.{is_teller, told_count, rung_count, still_to_ring, all_rings, all_bells, IsDelivered}
+use Rattle.sysv_bells.specs.Rule.{IsKept, Kept}
+use Rattle.sysv_bells.specs.Steps.{Mine, fallen, announced, checked, from_after, awake, hearing, stayed, passed}
+use Rattle.sysv_bells.specs.Steps.{passing, taking}
 use Rattle.sysv_bells.specs.Steps.{Announces, Checks, Wakes, Hears, Stays, Passes, Takes}
 use Rattle.sysv_bells.proofs.StepKeepsRule.{rings_after, bells_after, to_ring_after, tellers_after}
 use Rattle.sysv_bells.proofs.StepKeepsRule.{delivered_after, other_word, untouched, is_first}

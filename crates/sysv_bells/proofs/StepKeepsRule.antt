@@ -1,5 +1,6 @@
 -- Proves that each kind of step of a teller keeps the rule, and a split too.
-use Rattle.std.proofs.Common.{◌≡◌, ◌≢◌, inl, inr, ⊎_elim, ℕ, ◌+◌, ◌<◌, ◌≤◌, true, false, List, [], ◌∷◌, ◌++◌, length, set, get_or}
+use Rattle.std.proofs.Common.{◌≡◌, ◌≢◌, inl, inr, ⊎_elim, ℕ, ◌+◌, ◌<◌, ◌≤◌, true, false, List, [], ◌∷◌, ◌++◌, length}
+use Rattle.std.proofs.Common.{set, get_or}
 use Rattle.std.proofs.Common.{bit_or, max, sym, refl, ap, ◌∙◌, subst, arith, length-set, get_or-set_same}
 use Rattle.std.specs.Int.{bit_at}
 use mathlib.Core.Logic.{dite}
@@ -18,8 +19,10 @@ use Rattle.sysv_bells.specs.declared.view.View.{View}
 use Rattle.sysv_bells.specs.declared.view.Telling.{Telling}
 use Rattle.sysv_bells.specs.declared.view.Taking.{Taking}
 use Rattle.sysv_bells.specs.declared.view.Stage.TheVariants.{Idle, Rung}
-use Rattle.sysv_bells.specs.Rule.{is_teller, told_count, rung_count, still_to_ring, still_to_look, all_rings, all_bells, IsDelivered, AreDelivered, IsKept, Kept}
-use Rattle.sysv_bells.specs.Steps.{Mine, knows, told, rang, found, Looks, Tells, Rings, Finds, MayRing, same_view, newcomer}
+use Rattle.sysv_bells.specs.Rule.{is_teller, told_count, rung_count, still_to_ring, still_to_look, all_rings, all_bells}
+use Rattle.sysv_bells.specs.Rule.{IsDelivered, AreDelivered, IsKept, Kept}
+use Rattle.sysv_bells.specs.Steps.{Mine, knows, told, rang, found, Looks, Tells, Rings, Finds, MayRing, same_view}
+use Rattle.sysv_bells.specs.Steps.{newcomer}
 
 -- Facts about the sums after one view changed.
 module _ (views : List View) (id : ℕ) (v w : View) (at : get_elem? views id ≡ some v) where
@@ -220,13 +223,16 @@ module _ (about : ℕ) (words : List ℕ) (views : List View) (sleeper : View) (
         (λ ne. ap (λ m. bit_at m bit) (get_or-set_other words i j (bit_or (get_or words i 0) k) 0 ne) ∙ has)
 
     telling_keeps : (i k : ℕ) → 2 ≤ i → i < length words → v.stage ≡ Idle →
-        IsKept about (set words i (bit_or (get_or words i 0) k)) (set views id (told i k (length sleeper.taken) v)) sleeper
+        IsKept about (set words i (bit_or (get_or words i 0) k)) (set views id (told i k (length sleeper.taken) v))
+        sleeper
     telling_keeps i k high within idle =
         let n : ℕ = get_or words i 0 in
         let words' : List ℕ = set words i (bit_or n k) in
         let w : View = told i k (length sleeper.taken) v in
-        let zeroth : get_or words' 0 0 ≡ get_or words 0 0 = get_or-set_other words i 0 (bit_or n k) 0 (λ e. omega arith) in
-        let firsts : get_or words' 1 0 ≡ get_or words 1 0 = get_or-set_other words i 1 (bit_or n k) 0 (λ e. omega arith) in
+        let zeroth : get_or words' 0 0 ≡ get_or words 0 0 =
+        get_or-set_other words i 0 (bit_or n k) 0 (λ e. omega arith) in
+        let firsts : get_or words' 1 0 ≡ get_or words 1 0 =
+        get_or-set_other words i 1 (bit_or n k) 0 (λ e. omega arith) in
         let here : get_or words' i 0 ≡ bit_or n k = get_or-set_same words i (bit_or n k) 0 within in
         let none : told_count v.stage ≡ 0 = ap told_count idle in
         let none' : rung_count v.stage ≡ 0 = ap rung_count idle in

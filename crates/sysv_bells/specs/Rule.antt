@@ -13,16 +13,6 @@ use Rattle.sysv_bells.specs.declared.view.Taking.{Taking}
 use Rattle.sysv_bells.specs.declared.view.Stage.{Stage}
 use Rattle.sysv_bells.specs.declared.view.Stage.TheVariants.{Idle, Told, Rung, Awake, Announced, Asleep}
 
--- The words.
-abbrev pub asleep_word : ℕ
-asleep_word = 0
-
-abbrev pub rung_word : ℕ
-rung_word = 1
-
-abbrev pub first_told : ℕ
-first_told = 2
-
 -- Whether this is a stage of a teller.
 abbrev pub is_teller : Stage → Bool
 is_teller Idle = true

@@ -46,7 +46,8 @@ newcomer table = record { table = table; rings = 0; bells = 0; told = [] }
 
 -- The teller after a ring, which had to write the doorbell or not, if it has told this.
 abbrev pub rung : Bool → List Telling → TellerEnd → TellerEnd
-rung has_to told teller = record teller { rings = teller.rings + 1; bells = teller.bells + cond has_to 1 0; told = told }
+rung has_to told teller =
+    record teller { rings = teller.rings + 1; bells = teller.bells + cond has_to 1 0; told = told }
 
 -- The teller has told this number: it has set its bit, or has seen it set. All that it told before
 -- comes before that.
