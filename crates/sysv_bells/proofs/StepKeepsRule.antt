@@ -11,8 +11,8 @@ use lib.ListN.{get_elem?}
 use Rattle.std.proofs.lemmas.List.{get_or-set_other, set-get_or}
 use Rattle.std.proofs.lemmas.List.Sums.{sum_by_push}
 use Rattle.std.proofs.lemmas.Nat.Bits.{bit_at_or, bit_at-lt}
-use Rattle.atomic_table.specs.Table.{step, keeps, Allows, Splits}
-use Rattle.atomic_table.proofs.Lists.{at_longer, set_again}
+use Rattle.atomic_table.specs.Table.{step, keeps, Allows, Splits, Enters, Arrives}
+use Rattle.atomic_table.proofs.Lists.{at_longer, at_last, set_again}
 use Rattle.sysv_lists.proofs.Places.{set_else, at_set, one_there, each_snoc, at_snoc_place}
 use Rattle.sysv_lists.proofs.Sums.{sum_by-set_at}
 use Rattle.sysv_bells.specs.declared.view.View.{View}
@@ -21,6 +21,8 @@ use Rattle.sysv_bells.specs.declared.view.Taking.{Taking}
 use Rattle.sysv_bells.specs.declared.view.Stage.TheVariants.{Idle, Rung}
 use Rattle.sysv_bells.specs.Rule.{is_teller, told_count, rung_count, still_to_ring, still_to_look, all_rings, all_bells}
 use Rattle.sysv_bells.specs.Rule.{IsDelivered, AreDelivered, IsKept, Kept}
+use Rattle.sysv_bells.specs.Rule.{start}
+use Rattle.sysv_bells.specs.Steps.{Meets, Comes}
 use Rattle.sysv_bells.specs.Steps.{Mine, knows, told, rang, found, Looks, Tells, Rings, Finds, MayRing, same_view}
 use Rattle.sysv_bells.specs.Steps.{newcomer}
 
@@ -373,4 +375,42 @@ splits about id v s held at =
       held.0,
       subst (λ (vs : List View). IsKept about s.words (vs ++ newcomer v ∷ []) held.0) (sym (set_again s.views id v at))
           after,
+    )
+
+set_last : (views : List View) (v w : View) → set (views ++ v ∷ []) (length views) w ≡ views ++ w ∷ []
+set_last [] v w = refl
+set_last (x ∷ xs) v w = ap (λ (l : List View). x ∷ l) (set_last xs v w)
+
+pub meets : (about slots i : ℕ) → 2 ≤ i →
+    Enters (Kept about) slots i (λ n w. Meets (step slots i 0 0 none) (start about, []) n (w, []))
+meets about slots i high s held _ _ =
+    let v : View = newcomer held.0 in
+    let vs : List View = s.views ++ v ∷ [] in
+    let n : ℕ = get_or s.words i 0 in
+    let since : ℕ = length held.0.taken in
+    let w : View = knows i n since v in
+    let there = at_last s.views v (length s.views) refl in
+    let come = splitting_keeps about s.words s.views held.0 held.1 0 held.0 held.1.first in
+    let apart = not_first about s.words vs held.0 come (length s.views) v there refl in
+    let after = looking_keeps about s.words vs held.0 come (length s.views) v there apart i high refl in (
+      w,
+      (held.0, subst (λ (us : List View). IsKept about s.words us held.0) (set_last s.views v w) after),
+      (since, refl),
+    )
+
+pub comes : (about slots : ℕ) →
+    Arrives (Kept about) slots 1 (λ _. 1) (Comes (step slots 1 1 0 none) (start about, []))
+comes about slots s held _ _ =
+    let v : View = newcomer held.0 in
+    let vs : List View = s.views ++ v ∷ [] in
+    let w : View = rang v in
+    let there = at_last s.views v (length s.views) refl in
+    let come = splitting_keeps about s.words s.views held.0 held.1 0 held.0 held.1.first in
+    let apart = not_first about s.words vs held.0 come (length s.views) v there refl in
+    let after = ringing_keeps about s.words vs held.0 come (length s.views) v there apart (inl refl) in (
+      w,
+      keeps,
+      tt,
+      (held.0, subst (λ (us : List View). IsKept about (set s.words 1 1) us held.0) (set_last s.views v w) after),
+      refl,
     )

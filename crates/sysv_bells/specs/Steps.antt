@@ -107,8 +107,8 @@ Takes st m n m' = m' ≡ (taking st.word n m.0, m.1)
 abbrev pub same_view : View → View
 same_view v = v
 
-abbrev pub newcomer : View → View
-newcomer v = record {
+abbrev pub fresh : View
+fresh = record {
   stage = Idle;
   rings = 0;
   bells = 0;
@@ -119,6 +119,9 @@ newcomer v = record {
   seen = 0;
   since = 0;
 }
+
+abbrev pub newcomer : View → View
+newcomer v = fresh
 
 -- A teller may ring between two calls, and after it has told something.
 abbrev pub MayRing : Stage → Type 0
@@ -134,3 +137,11 @@ after_ring has_to v = record v { stage = Idle; rings = v.rings + 1; bells = v.be
 -- Nothing but the stage and what is told has changed.
 abbrev pub ToldOnly : Mine → Mine → Type 0
 ToldOnly m m' = m' ≡ (record m.0 { stage = m'.0.stage; told = m'.0.told }, m.1)
+
+-- The first step of a teller without a seat, which makes its seat: a load of a told word, or a
+-- ring.
+abbrev pub Meets : Step (Unit {0}) → Mine → ℕ → Mine → Type 0
+Meets st m n m' = (since : ℕ) × (m' ≡ (knows st.word n since (newcomer m.0), m.1))
+
+abbrev pub Comes : Step (Unit {0}) → Mine → ℕ → Mine → Type 0
+Comes st m n m' = m' ≡ (rang (newcomer m.0), m.1)

@@ -1,13 +1,14 @@
 //! The words, and all calls on them.
-ghost use Rattle.std.specs.Prelude.{◌≡◌, ℕ, ◌+◌, ◌/◌, ◌<◌, ◌≤◌, List, true, false, cond, IfSome, length};
+ghost use Rattle.std.specs.Prelude.{◌≡◌, ℕ, ◌+◌, ◌/◌, ◌<◌, ◌≤◌, List, [], true, false, cond, IfSome, length};
 ghost use Rattle.atomic_table.specs.Seated.{TableId};
 ghost use Rattle.sysv_bells.specs.declared.view.Taking.{Taking};
 ghost use Rattle.sysv_bells.specs.declared.view.Stage.TheVariants.{Awake};
 ghost use Rattle.sysv_bells.specs.Seats.{opened, newcomer, rung, HasTold, fell, woke, stayed, read_to, TookAt, with_bits, joined};
-ghost use Rattle.sysv_bells.specs.Steps.{MayRing, after_ring, IsIdle, ToldOnly};
+ghost use Rattle.sysv_bells.specs.Steps.{MayRing, after_ring, fresh, IsIdle, ToldOnly};
 
 use crate::rule::{
-    Announce, Check, Find, Hear, Look, Newcomer, Pass, Ring, Ringing, Stay, Take, Tell, Wake,
+    Announce, Check, Come, Find, Hear, Look, Meet, Newcomer, Pass, Ring, Ringing, Stay, Take, Tell,
+    Wake,
 };
 use crate::seats::{Sleeper, Teller, Token};
 use crate::view::View;
@@ -120,6 +121,29 @@ impl Bells {
         self.ring_with(&mut seat.token)
     }
 
+    /// Tells and rings like `tell`, with a new seat, which it returns with the result.
+    pub fn tell_anew(&self, number: usize) -> (bool, Teller)
+        ensures seat { result.1 ≡ rung result.0 result.1.told (newcomer self.now) }
+        ensures told { number / 64 + 2 < self.now.words → HasTold number [] result.1.told }
+    {
+        let word = number / BITS + FIRST;
+        if word >= self.table.word_count() {
+            return self.ring_anew();
+        }
+        let mut token = self.meet(word, number);
+        let has_to = self.ring_with(&mut token);
+        (has_to, Teller { token })
+    }
+
+    /// Rings like `ring`, with a new seat, which it returns with the result.
+    pub fn ring_anew(&self) -> (bool, Teller)
+        ensures { result.1 ≡ rung result.0 [] (newcomer self.now) }
+    {
+        let (_, mut token) = self.table.shared.swap_new_seat::<Come>(RUNG, 1);
+        let has_to = self.table.shared.swap::<Find>(&mut token, ASLEEP, 0) == 1;
+        (has_to, Teller { token })
+    }
+
     /// Sets the bit of the number, unless it is set.
     fn add(&self, token: &mut Token, number: usize)
         requires table { token.old.table_id ≡ self.now }
@@ -138,6 +162,23 @@ impl Bells {
         if self.table.shared.load::<Look>(token, word) & bit == 0 {
             self.table.shared.fetch_or::<Tell>(token, word, bit);
         }
+    }
+
+    /// Sets the bit of the number in its word, unless it is set, with a new seat.
+    fn meet(&self, word: usize, number: usize) -> Token
+        requires { (word ≡ number / 64 + 2) × (word < self.now.words) }
+        ensures table { result.table_id ≡ self.now }
+        ensures may_ring { MayRing result.me.0.stage }
+        ensures only { ToldOnly (fresh, []) result.me }
+        ensures told { HasTold number [] result.me.0.told }
+    {
+        let mark = 1 << (number % BITS);
+        let (found, mut token) = self.table.shared.load_new_seat::<Meet>(word);
+        if found & mark != 0 {
+            return token;
+        }
+        self.table.shared.fetch_or::<Tell>(&mut token, word, mark);
+        token
     }
 
     /// Says that something came, and then takes the sleeper's word that it sleeps.

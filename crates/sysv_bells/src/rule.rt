@@ -22,6 +22,24 @@ impl Play<(), View> for Look {
     ghost then = { Looks };
 }
 
+/// The load of a told word by which a teller comes.
+pub(crate) struct Meet;
+
+impl Play<(), View> for Meet {
+    ghost use Rattle.sysv_bells.specs.Steps.{Meets};
+
+    ghost then = { Meets };
+}
+
+/// The ring by which a teller comes.
+pub(crate) struct Come;
+
+impl Play<(), View> for Come {
+    ghost use Rattle.sysv_bells.specs.Steps.{Comes};
+
+    ghost then = { Comes };
+}
+
 /// A teller sets bits of a told word.
 pub(crate) struct Tell;
 
