@@ -1,6 +1,8 @@
-//! Tests of buffers and workers, by one thread and by several.
+//! Tests of buffers, of workers and of the words that wake a sleeper, by one thread and by several.
 #![tactic(auto)]
 
+#[cfg(test)]
+mod bells;
 #[cfg(test)]
 mod buffer;
 #[cfg(test)]
