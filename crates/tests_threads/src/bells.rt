@@ -32,3 +32,16 @@ fn what_is_told_before_the_sleep_keeps_the_sleeper_awake(rt: HostRuntime) {
     bells.stay_awake(&mut sleeper);
     assert!(&rt; !bells.fall_asleep(&mut sleeper));
 }
+
+#[test]
+fn a_teller_needs_no_seat(rt: HostRuntime) {
+    let (bells, mut sleeper) = Bells::open(rt.alloc(), 1).expect(&rt, "memory");
+    assert!(&rt; !bells.tell_anew(5).0);
+    assert!(&rt; bells.wake_up(&mut sleeper));
+    let mut changes = [0];
+    bells.take_changes(&mut sleeper, &mut changes);
+    assert_eq!(&rt; changes, [32]);
+    assert!(&rt; bells.fall_asleep(&mut sleeper));
+    assert!(&rt; bells.ring_anew().0);
+    assert!(&rt; !bells.tell_anew(5).0);
+}
