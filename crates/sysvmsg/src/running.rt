@@ -99,7 +99,7 @@ fn answer<
     place: P,
     screen: &mut Screen<S>,
 ) -> Visit<P, Link<P::Input, P::Output>>
-    requires { IsWithinLimits asked.entry }
+    requires { IsWithinLimits asked }
     ensures { Answers P.Input.remaining P.Output.contents P.incoming P.outgoing P.refuses
         around.now place asked.entry result.exit (I.remaining input)
         (S.contents screen.old.writer) (S.contents screen.new.writer) result.contact }
