@@ -21,7 +21,8 @@ work_same agenda = record {
 }
 
 module _ (Told : ℕ → Change → Type 0) (Read : ℕ → ℕ → Type 0) (old new : Agenda) (work : KeepsWork old new) where
-  pub heard_on : (change : Change) (worker : ℕ) → IsHeard Told Read change old worker → IsHeard Told Read change new worker
+  pub heard_on : (change : Change) (worker : ℕ) → IsHeard Told Read change old worker →
+      IsHeard Told Read change new worker
   heard_on change worker heard =
       elim heard [
         | inl told ↦ inl told

@@ -1,11 +1,13 @@
 -- The bits of workers and of changes.
-use Rattle.std.proofs.Common.{◌≡◌, ◌≢◌, ◌<◌, ◌-◌, ◌*◌, ◌^◌, ◌∙◌, ℕ, w64, arith, ap, sym, subst, inl, inr, bit_and, bit_or, List, length}
+use Rattle.std.proofs.Common.{◌≡◌, ◌≢◌, ◌<◌, ◌-◌, ◌*◌, ◌^◌, ◌∙◌, ℕ, w64, arith, ap, sym, subst, inl, inr, bit_and}
+use Rattle.std.proofs.Common.{bit_or, List, length}
 use Rattle.std.specs.Prelude.{slice_index, slice_set}
 use Rattle.std.specs.Int.{bit_at, bit_not}
 use Rattle.std.proofs.lemmas.Bool.{cases_eq}
 use Rattle.std.proofs.lemmas.List.{get_or-set_other, get_or-set_same}
 use Rattle.std.proofs.lemmas.Nat.{pow_below, pow_pos}
-use Rattle.std.proofs.lemmas.Nat.Bits.{and_pow, bit_at-lt, bit_at-pow_other, bit_at-pow_same, bit_at_and, bit_at_not, bit_at_or}
+use Rattle.std.proofs.lemmas.Nat.Bits.{and_pow, bit_at-lt, bit_at-pow_other, bit_at-pow_same, bit_at_and, bit_at_not}
+use Rattle.std.proofs.lemmas.Nat.Bits.{bit_at_or}
 
 module _ (n k : ℕ) where
   pub clear_other : (i : ℕ) → k < 64 → i < 64 → i ≢ k → bit_at (bit_and n (18446744073709551615 - 2 ^ k)) i ≡ bit_at n i

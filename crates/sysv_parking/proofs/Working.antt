@@ -68,7 +68,8 @@ module _ (old new : Parking) (place : ℕ) (key : Key) (there : key_at old place
           | inr ne ↦ within_same why _ _ (sym (notes.elsewhere place (only (λ (k : Key). slot_in k ≢ Some slot) ne))) is
         ]
 
-    changed_due : (why : Why) → slot_in key ≡ Some slot → IsWithin why (why_changed key) → IsWithin why (why_at new place)
+    changed_due : (why : Why) → slot_in key ≡ Some slot → IsWithin why (why_changed key) →
+        IsWithin why (why_at new place)
     changed_due why e is = within_same why _ _ (sym (notes.there place key there e)) (within_second why _ _ is)
 
   module _ (line : ℕ) (notes : NotesLine line old new) where
@@ -113,10 +114,12 @@ noted_keys Anything old new notes = notes.keys
 -- ---- a call that would wait
 
 module _ (Looked : ℕ → Option Key → Found → Type 0) where
-  would_less : (less more : Why) (key : Key) → IsWithin less more → WouldWait Looked more key → WouldWait Looked less key
+  would_less : (less more : Why) (key : Key) → IsWithin less more → WouldWait Looked more key →
+      WouldWait Looked less key
   would_less less more key is would = ((λ e. would.0 (is.0 e)), (λ e. would.1 (is.1 e)))
 
-  stop_would : (known : Barriers) (why : Why) (key : Key) → AreShown (StillWaits Looked) known → IsStopped known why key →
+  stop_would : (known : Barriers) (why : Why) (key : Key) → AreShown (StillWaits Looked) known →
+      IsStopped known why key →
       WouldWait Looked why key
   stop_would known why key shown stop = (
     (λ e. granted (StillWaits Looked) known key shown (stop.0 e)),
@@ -134,7 +137,8 @@ module _ {Looked : ℕ → Option Key → Found → Type 0} {Had : Parking → T
     envelopes = λ envelope is. inl is;
   }
 
-  pub heeds_on : (one two three : Agenda) → Heeded Looked Had Sent Told one two → Heeded Looked Had Sent Told two three →
+  pub heeds_on : (one two three : Agenda) → Heeded Looked Had Sent Told one two →
+      Heeded Looked Had Sent Told two three →
       Heeded Looked Had Sent Told one three
   heeds_on one two three first second = record {
     number = second.number ∙ first.number;
@@ -238,7 +242,8 @@ module _ {Looked : ℕ → Option Key → Found → Type 0} {Had : Parking → T
         IsWithin less (why_at before.parking place) → IsSettled Looked Had Sent Told place key less
     here_settled key less is within =
         elim step [
-          | inl passed ↦ inr (stop_here key less (taken_key place ∙ is) (within_same less _ _ takes.was within) passed.2)
+          | inl passed ↦
+              inr (stop_here key less (taken_key place ∙ is) (within_same less _ _ takes.was within) passed.2)
           | inr look ↦ inl (key_at taken.parking place, look.0, look.1)
         ]
 

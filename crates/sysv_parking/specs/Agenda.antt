@@ -71,7 +71,8 @@ module _ (Looked : ℕ → Option Key → Found → Type 0) (Had : Parking → T
   -- anything may have happened.
   abbrev pub IsTold : ℕ → ℤ → ℕ → Type 0
   IsTold slot mtype worker = ((to : ℕ) × (bit_of to ≡ worker) × Told to Anything)
-      ⊎ ((to : ℕ) × (rest : ℕ) × Sent to (record { slot = slot; mtype = mtype; rest = rest }) × (bit_at rest worker ≡ 1))
+      ⊎ ((to : ℕ) × (rest : ℕ) × Sent to (record { slot = slot; mtype = mtype; rest = rest })
+      × (bit_at rest worker ≡ 1))
 
   -- Each of these workers was told.
   abbrev pub ArePassed : ℕ → ℤ → ℕ → Type 0
@@ -148,7 +149,8 @@ module _ (Told : ℕ → Change → Type 0) (Read : ℕ → ℕ → Type 0) wher
 
   -- Each worker heard of the change that had calls parked that it may end.
   abbrev pub IsSpread : Change → Agenda → Type 0
-  IsSpread change agenda = (word : ℕ) → IsWordOf change word → (there : ℕ) × Read word there × HearOf change there agenda
+  IsSpread change agenda =
+      (word : ℕ) → IsWordOf change word → (there : ℕ) × Read word there × HearOf change there agenda
 
   -- Of a message that has arrived an envelope is kept, for all workers with receives parked at its slot. If
   -- it was refused, all workers were told that anything may have happened.

@@ -26,7 +26,8 @@ loop-preserved g c =
       keeps = g.met.C.Tells.keeps_on _ _ _ c.loop.invariant.keeps
           (g.met.C.Tells.keeps_on _ _ _ c.take_due.ensures.keeps c.look_unless.ensures.keeps);
       work = heeds_on _ _ _ c.loop.invariant.work (due_heeds (g.C.Tells.agenda c.loop.calls)
-          (g.C.Tells.agenda c.take_due.new.self) (g.C.Tells.agenda c.look_unless.new.calls) c.in-Some.place c.in-Some.why
+          (g.C.Tells.agenda c.take_due.new.self) (g.C.Tells.agenda c.look_unless.new.calls) c.in-Some.place
+          c.in-Some.why
           c.loop.barriers c.look_unless.new.barriers takes c.take_due.ensures.rest step shown
           c.look_unless.ensures.heeded);
       heeded = all_heeded kept was before taken after c.in-Some.place c.in-Some.why c.loop.barriers
@@ -42,5 +43,6 @@ returns-in_default-clause-work g c =
     let none : Takes None (g.C.Tells.agenda c.loop.calls).parking (g.C.Tells.agenda c.take_due.new.self).parking =
     subst (λ (t : Option (ℕ × Why)). Takes t (g.C.Tells.agenda c.loop.calls).parking
     (g.C.Tells.agenda c.take_due.new.self).parking) c.in_default.is c.take_due.ensures.takes in
-    heeds_on _ _ _ c.loop.invariant.work (heeds_same (g.C.Tells.agenda c.loop.calls) (g.C.Tells.agenda c.take_due.new.self)
+    heeds_on _ _ _ c.loop.invariant.work
+    (heeds_same (g.C.Tells.agenda c.loop.calls) (g.C.Tells.agenda c.take_due.new.self)
     c.take_due.ensures.rest none.1)

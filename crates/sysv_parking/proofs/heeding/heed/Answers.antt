@@ -26,7 +26,8 @@ returns-in-Taken-clause-heeds g c =
 
 pub returns-in-Short-clause-heeds : goal.returns-in-Short-clause-heeds
 returns-in-Short-clause-heeds g c = record {
-  heeded = heeds_on _ _ _ c.look_for_message.ensures.work (work_heeds _ _ c.put_off.ensures.parking c.put_off.ensures.work);
+  heeded =
+      heeds_on _ _ _ c.look_for_message.ensures.work (work_heeds _ _ c.put_off.ensures.parking c.put_off.ensures.work);
   one = elim c.put_off.ensures.one [
     | inl kept ↦ inl kept
     | inr told ↦ inr (inr (inr (λ worker low is. inr (inl (worker, omega (arith, low), told worker low)))))
@@ -58,7 +59,8 @@ returns-clause-heeds g c =
             (
               (g.C.Tells.agenda w.look_for_message.new.calls).parking,
               w.look_for_message.ensures.had w.in-Unwanted.is,
-              subst (λ (t : ℤ). IsUnwanted (g.C.Tells.agenda w.look_for_message.new.calls).parking c.args.envelope.slot t)
+              subst (λ (t : ℤ).
+                  IsUnwanted (g.C.Tells.agenda w.look_for_message.new.calls).parking c.args.envelope.slot t)
                   same
                   (w.look_for_message.ensures.unwanted w.in-Unwanted.is),
             ),

@@ -18,7 +18,8 @@ loop-preserved-then-has_due g c = record {
   runs = search rules;
   keeps = g.met.C.Tells.keeps_on _ _ _ c.loop.invariant.keeps
       (g.met.C.Tells.keeps_on _ _ _ c.heed_changes.ensures.keeps c.look_at_due.ensures.keeps);
-  heeded = heeds_on _ _ _ c.loop.invariant.heeded (heeds_on _ _ _ c.heed_changes.ensures.heeded c.look_at_due.ensures.work);
+  heeded =
+      heeds_on _ _ _ c.loop.invariant.heeded (heeds_on _ _ _ c.heed_changes.ensures.heeded c.look_at_due.ensures.work);
 }
 
 pub returns-then-not-may_look-clause-heeded : goal.returns-then-not-may_look-clause-heeded
@@ -64,7 +65,8 @@ module _ (g : given.Over) (before taken after : Agenda) (envelope : Envelope)
               elim heeds.one [
                 | inl kept ↦ inl (subst (λ (x : Envelope). Contains after.envelopes x) (sym same) kept)
                 | inr spent ↦ inr (spent_before e (subst (λ (x : Envelope).
-                    IsSpent g.C.Calls.looked g.C.Calls.had g.C.Calls.sent g.C.Tells.told taken.number x) (sym same) spent))
+                    IsSpent g.C.Calls.looked g.C.Calls.had g.C.Calls.sent g.C.Tells.told taken.number x) (sym same)
+                    spent))
               ]
           | inr other ↦ elim (heeds.heeded.envelopes e other) [
             | inl kept ↦ inl kept
@@ -112,7 +114,8 @@ returns-in_default-clause-rest g c =
     let taken = g.C.Tells.agenda c.take_envelope.new.self in
     let takes = subst (λ (t : Option Envelope). TakesFirst t before.envelopes taken.envelopes) c.in_default.is
     c.take_envelope.ensures.takes in
-    let calls = subst (λ (p : Parking). NoneIsDue p) c.lines.ensures.lines (c.has_due.ensures.none c.if-has_due.false) in
+    let calls =
+    subst (λ (p : Parking). NoneIsDue p) c.lines.ensures.lines (c.has_due.ensures.none c.if-has_due.false) in
     inr (subst (λ (a : Agenda). IsAtRest a) (sym (none_taken before taken takes c.take_envelope.ensures.rest)) (record {
       changes = c.heed_changes.ensures.none;
       calls = calls;

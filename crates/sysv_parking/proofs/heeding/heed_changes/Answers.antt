@@ -7,5 +7,6 @@ pub loop-preserved : goal.loop-preserved
 loop-preserved g c = record {
   runs = search rules;
   keeps = g.met.C.Tells.keeps_on _ _ _ c.loop.invariant.keeps c.heed_change.ensures.keeps;
-  heeded = heeds_on _ _ _ c.loop.invariant.heeded (change_heeds _ _ (c.heed_change.ensures.heeds c.if-not-heed_change.false));
+  heeded = heeds_on _ _ _ c.loop.invariant.heeded
+      (change_heeds _ _ (c.heed_change.ensures.heeds c.if-not-heed_change.false));
 }

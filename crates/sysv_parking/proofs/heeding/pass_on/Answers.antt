@@ -9,7 +9,8 @@ use Rattle.sysv_parking.proofs.heeding.pass_on.Goals as goal
 pub returns-then-send : goal.returns-then-send
 returns-then-send g c =
     let sent : g.C.Calls.sent c.next_of-next.result (record c.args.envelope { rest = c.loop.left.rest }) =
-    subst (λ (e : Envelope). g.C.Calls.sent c.next_of-next.result e) c.loop.invariant.same (c.send.ensures.sent c.if-send.true) in
+    subst (λ (e : Envelope). g.C.Calls.sent c.next_of-next.result e) c.loop.invariant.same
+    (c.send.ensures.sent c.if-send.true) in
     λ worker low is. elim (c.loop.invariant.passed worker low is) [
       | inl left ↦ inr (c.next_of-next.result, c.loop.left.rest, sent, left)
       | inr told ↦ told

@@ -9,5 +9,6 @@ invariant-loop g l = record {
   runs : (goal.iterator-loop g).can_next l.iterator' × (goal.iterator-loop g).is_finite l.iterator';
   same : l.left ≡ record l.fn.envelope { rest = l.left.rest };
   passed : (worker : ℕ) → worker < 64 → bit_at l.fn.envelope.rest worker ≡ 1 → (bit_at l.left.rest worker ≡ 1)
-      ⊎ IsTold g.C.Calls.looked g.C.Calls.had g.C.Calls.sent g.C.Tells.told l.fn.envelope.slot l.fn.envelope.mtype worker;
+      ⊎ IsTold g.C.Calls.looked g.C.Calls.had g.C.Calls.sent g.C.Tells.told l.fn.envelope.slot l.fn.envelope.mtype
+      worker;
 }

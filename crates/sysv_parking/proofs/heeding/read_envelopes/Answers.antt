@@ -5,7 +5,8 @@ use Rattle.sysv_parking.proofs.heeding.read_envelopes.Goals as goal
 pub loop-preserved : goal.loop-preserved
 loop-preserved g c = record {
   keeps = g.met.C.Tells.keeps_on _ _ _ c.loop.invariant.keeps c.read_envelope.ensures.keeps;
-  heeded = heeds_on _ _ _ c.loop.invariant.heeded (work_heeds _ _ c.read_envelope.ensures.parking c.read_envelope.ensures.work);
+  heeded = heeds_on _ _ _ c.loop.invariant.heeded
+      (work_heeds _ _ c.read_envelope.ensures.parking c.read_envelope.ensures.work);
 }
 
 pub returns-then-not-read_envelope-clause-heeded : goal.returns-then-not-read_envelope-clause-heeded

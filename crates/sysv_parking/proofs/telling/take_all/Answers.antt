@@ -40,7 +40,8 @@ loop-preserved-in-Some-Message g c =
     let work : KeepsWork before after = subst (λ (a : Agenda). KeepsWork a after) c.take_news.ensures.same
     c.post.ensures.work in
     let same : to_z w64 (of_z w64 one.mtype) ≡ one.mtype = search rules in
-    let posted = subst (λ (t : ℤ). IsPosted g.C.Tells.told g.C.Tells.read one.slot t after) same c.post.ensures.posted in
+    let posted =
+    subst (λ (t : ℤ). IsPosted g.C.Tells.told g.C.Tells.read one.slot t after) same c.post.ensures.posted in
     let taken : c.take_news.result ≡ Some (Message one.slot one.mtype) = one.is ∙ ap Some one.field-0-is in
     let takes = subst (λ (t : Option News). TakesNews t (g.C.Tells.news c.loop.calls)
     (g.C.Tells.news c.take_news.new.self)) taken c.take_news.ensures.takes in

@@ -6,7 +6,8 @@ use Rattle.sysv_parking.specs.declared.changes.Change.{Change}
 use Rattle.sysv_parking.specs.Agenda.{Agenda, AreTold, bit_of}
 use Rattle.sysv_parking.proofs.Bits.{none_own, still_left}
 use Rattle.sysv_parking.proofs.telling.tell_each.Goals as goal
-use Rattle.sysv_parking.proofs.telling.tell_each.Goals.{else-workers-own-via-then-workers-own+else-is_last, else-workers-own-via-else-workers-own}
+use Rattle.sysv_parking.proofs.telling.tell_each.Goals.{else-workers-own-via-then-workers-own+else-is_last}
+use Rattle.sysv_parking.proofs.telling.tell_each.Goals.{else-workers-own-via-else-workers-own}
 
 -- Another worker was told.
 module _ (Told : ℕ → Change → Type 0) (Read : ℕ → ℕ → Type 0) (change : Change) (workers own k : ℕ) (is : own ≡ 2 ^ k)
@@ -23,7 +24,8 @@ returns-then-workers-own-eq0-clause-heard g c = λ there worker low is.
       | inl e ↦ absurd (let none = none_own c.args.workers c.bit-own.result (bit_of number) own
           c.if-workers-own-eq0.true in let here : bit_at c.args.workers (bit_of number) ≡ 1 =
           subst (λ (k : ℕ). bit_at c.args.workers k ≡ 1) e is in omega (arith, none, here))
-      | inr ne ↦ inl (other g.C.Tells.told g.C.Tells.read c.args.change c.args.workers c.bit-own.result (bit_of number) own
+      | inr ne ↦
+          inl (other g.C.Tells.told g.C.Tells.read c.args.change c.args.workers c.bit-own.result (bit_of number) own
           (omega arith) c.tell_others.ensures worker low ne is)
     ]
 
@@ -37,7 +39,8 @@ returns-then-is_last-clause-heard g c = λ there worker low is.
         ap bit_of (c.number-then-is_last.ensures ∙ ap (λ (a : Agenda). a.number) c.is_last.ensures.same) ∙ sym e,
         c.tell.ensures,
       )
-      | inr ne ↦ inl (other g.C.Tells.told g.C.Tells.read c.args.change c.args.workers c.bit-own.result (bit_of number) own
+      | inr ne ↦
+          inl (other g.C.Tells.told g.C.Tells.read c.args.change c.args.workers c.bit-own.result (bit_of number) own
           (omega arith) c.tell_others.ensures worker low ne is)
     ]
 
@@ -55,6 +58,7 @@ returns-else-workers-own-clause-heard g c = λ there worker low is.
         e ∙ sym (ap bit_of (c.add_change.ensures.work.number ∙ ap (λ (a : Agenda). a.number) same)),
         c.add_change.ensures.added there,
       )
-      | inr ne ↦ inl (other g.C.Tells.told g.C.Tells.read c.args.change c.args.workers c.bit-own.result (bit_of was.number)
+      | inr ne ↦
+          inl (other g.C.Tells.told g.C.Tells.read c.args.change c.args.workers c.bit-own.result (bit_of was.number)
           own (omega arith) c.tell_others.ensures worker low ne is)
     ]

@@ -14,7 +14,8 @@ loop-preserved g c =
       told = λ worker low is. elim (c.loop.invariant.told worker low is) [
         | inl left ↦ elim (cases_eq worker (bit_of to)) [
           | inl e ↦ inr (to, sym e, c.tell.ensures)
-          | inr ne ↦ inl (still_left c.loop.rest c.bit.result (bit_of to) worker c.bit.ensures (omega arith) low ne left)
+          | inr ne ↦
+              inl (still_left c.loop.rest c.bit.result (bit_of to) worker c.bit.ensures (omega arith) low ne left)
         ]
         | inr told ↦ inr told
       ];

@@ -12,7 +12,8 @@ loop-at-preserved c =
       | then-load-ne0 w ↦ record {
         work = subst (λ (a : Agenda). KeepsWork was a) (sym w.agenda-is)
             (work_on _ _ _ c.loop-at.invariant.work w.add_changes.ensures.work);
-        parking = ap (λ (a : Agenda). a.parking) w.agenda-is ∙ w.add_changes.ensures.parking ∙ c.loop-at.invariant.parking;
+        parking =
+            ap (λ (a : Agenda). a.parking) w.agenda-is ∙ w.add_changes.ensures.parking ∙ c.loop-at.invariant.parking;
       }
       | else-load-ne0 w ↦ record {
         work = subst (λ (a : Agenda). KeepsWork was a) (sym w.agenda-is) c.loop-at.invariant.work;

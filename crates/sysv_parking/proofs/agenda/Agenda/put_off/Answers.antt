@@ -19,5 +19,6 @@ returns-clause-work c = record {
   number = ap (λ (a : Agenda). a.number) c.self.view_is;
   changes = λ change holds. subst (λ (a : Agenda). Holds a.changes change) (sym c.self.view_is) holds;
   envelopes = λ envelope is. still_kept _ c.args.envelope c.self.inside.envelopes.items c.push_front.new.self.items
-      c.push_front.ensures.items envelope (subst (λ (a : Agenda). Contains a.envelopes envelope) (sym c.self.view_is) is);
+      c.push_front.ensures.items envelope
+      (subst (λ (a : Agenda). Contains a.envelopes envelope) (sym c.self.view_is) is);
 }

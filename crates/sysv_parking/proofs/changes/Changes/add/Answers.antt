@@ -25,5 +25,6 @@ returns-in-Some-clause-added c = λ there.
     let added = c.add_bits.ensures.added (omega (arith, number, within)) in
     subst (λ (n : ℕ). bit_at (slice_index c.add_bits.new.self (n / 64)) (n % 64) ≡ 1) number
     (ap (λ (w : ℕ). bit_at w (c.in-Some.number % 64)) added
-    ∙ ap (λ (b : ℕ). bit_at (bit_or (slice_index c.args.self.now (c.in-Some.number / 64)) b) (c.in-Some.number % 64)) bit
+    ∙ ap (λ (b : ℕ). bit_at (bit_or (slice_index c.args.self.now (c.in-Some.number / 64)) b) (c.in-Some.number % 64))
+    bit
     ∙ set_same (slice_index c.args.self.now (c.in-Some.number / 64)) (c.in-Some.number % 64))
