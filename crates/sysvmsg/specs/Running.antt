@@ -74,3 +74,8 @@ module _ {P R W : Type 0} (remaining : R → Option (List ℕ)) (contents : W �
   AnswersWords words exit fed shown after contact =
       ((asked : Asked) × IsMeant words asked × Answers asked exit fed shown after contact)
       ⊎ DoesNothing shown after contact
+
+  -- The same, with the exit status and the screen alone.
+  abbrev pub EndsBy : List (List ℕ) → ExitCode → (fed shown after : Option (List ℕ)) → Type 0
+  EndsBy words exit fed shown after =
+      (contact : Contact P (Link R W)) × AnswersWords words exit fed shown after contact

@@ -7,7 +7,7 @@ mod scripts;
 mod serving;
 mod socket;
 
-use running::{NoWords, run};
+use running::{NoWords, exit_of};
 use std::fs::File;
 use std::io::IsTerminal;
 use std::os::fd::{AsRawFd, RawFd};
@@ -28,7 +28,7 @@ fn main(rt: HostRuntime) -> ExitCode {
     };
     let mut screen = Screen::new(io::writer(&rt));
     let (words, around) = (words_of(&rt), surroundings(&rt));
-    run(&rt, &words, &around, rt.stdin(), place, &mut screen).exit
+    exit_of(&rt, &words, &around, rt.stdin(), place, &mut screen)
 }
 
 /// Returns the words of the command line.

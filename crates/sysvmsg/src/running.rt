@@ -3,7 +3,7 @@ ghost use Rattle.std.specs.Prelude.{◌≡◌, IfOk, OnErr, map, string_bytes};
 ghost use Rattle.clap.specs.Values.{kind_of};
 ghost use Rattle.sysv_connect.specs.Ends.{Fails, Succeeds};
 ghost use Rattle.sysv_options.specs.Asked.{IsWithinLimits};
-ghost use Rattle.sysvmsg.specs.Running.{Answers, AnswersWords, DoesNothing, IsHelp};
+ghost use Rattle.sysvmsg.specs.Running.{Answers, AnswersWords, DoesNothing, EndsBy, IsHelp};
 
 use crate::scripts::answer_script;
 use crate::serving::serve_at;
@@ -72,6 +72,29 @@ pub(crate) fn run<
             unused(tell(rt, &error, asked), place)
         }
     }
+}
+
+/// Runs the program as `run` does, and returns the exit status alone.
+pub(crate) fn exit_of<
+    R: Files + Net + Threads + Wait + Sync + Print + Eprint + AllocGlobal + Clone + Drop,
+    I: Read + AsRawFd + Drop,
+    P: Place,
+    S: Write,
+>(
+    rt: &R,
+    words: &Result<Vec<String>, NoWords>,
+    around: &Surroundings,
+    input: I,
+    place: P,
+    screen: &mut Screen<S>,
+) -> ExitCode
+    ensures words { IfOk words.now (λ words. EndsBy P.Input.remaining P.Output.contents
+        P.incoming P.outgoing P.refuses around.now place (map string_bytes words.items) result
+        (I.remaining input) (S.contents screen.old.writer) (S.contents screen.new.writer)) }
+    ensures none { OnErr words.now (Fails result
+        × (S.contents screen.new.writer ≡ S.contents screen.old.writer)) }
+{
+    run(rt, words, around, input, place, screen).exit
 }
 
 /// Ends without a use of the place.

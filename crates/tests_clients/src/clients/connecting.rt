@@ -132,9 +132,23 @@ fn run_once(
 {
     let place = make_desk(&mut dialogue.replies, &mut dialogue.requests, how, true);
     let mut screen = Screen::new(Tape::new(rt, rt.alloc()));
-    let visit = run_as(rt, input, place, "./q", command, how, &mut screen);
+    let exit = exit_of(rt, input, place, command, how, &mut screen);
     dialogue.screen = screen.writer;
-    visit.exit
+    exit
+}
+
+/// Runs a client with this command at a place. Returns how it ends.
+fn exit_of<P: Place>(
+    rt: &(impl Print + Eprint + AllocGlobal),
+    input: &mut Tape,
+    place: P,
+    command: &Command<'_>,
+    how: &How,
+    screen: &mut Screen<Tape>,
+) -> ExitCode
+    requires { HasShortText command.now.task }
+{
+    run_as(rt, input, place, "./q", command, how, screen).exit
 }
 
 #[test]
@@ -186,10 +200,24 @@ fn a_client_without_a_server_fails(rt: HostRuntime) {
         task: LIST,
     };
     let mut screen = Screen::new(Tape::new(&rt, rt.alloc()));
-    let visit = run_as(&rt, &mut input, place, "./q", &command, &PLAIN, &mut screen);
-    assert_is(&rt, visit.exit, ExitCode::from(FAULT));
-    let has_asked = matches!(visit.contact, Contact::Refused(_) | Contact::Unused(_));
-    assert_is(&rt, has_asked, true);
+    let (exit, is_made) = contact_of(&rt, &mut input, place, &command, &mut screen);
+    assert_is(&rt, exit, ExitCode::from(FAULT));
+    assert_is(&rt, is_made, false);
+}
+
+/// Runs a client with this command at a place. Returns how it ends, and whether a connection was
+/// made.
+fn contact_of<P: Place>(
+    rt: &(impl Print + Eprint + AllocGlobal),
+    input: &mut Tape,
+    place: P,
+    command: &Command<'_>,
+    screen: &mut Screen<Tape>,
+) -> (ExitCode, bool)
+    requires { HasShortText command.now.task }
+{
+    let visit = run_as(rt, input, place, "./q", command, &PLAIN, screen);
+    (visit.exit, matches!(visit.contact, Contact::Made(_)))
 }
 
 /// A state of a server.
@@ -205,9 +233,19 @@ fn look(rt: &(impl Print + Eprint + AllocGlobal + Abort), dialogue: &mut Dialogu
     };
     let place = make_desk(&mut dialogue.replies, &mut dialogue.requests, &PLAIN, true);
     let mut screen = Screen::new(Tape::new(rt, rt.alloc()));
-    let visit = look_at(rt, place, &looking, &mut screen);
+    let exit = exit_of_look(rt, place, &looking, &mut screen);
     dialogue.screen = screen.writer;
-    visit.exit
+    exit
+}
+
+/// Shows the state of the server at a place, and returns how that ends.
+fn exit_of_look<P: Place>(
+    rt: &(impl Print + Eprint + AllocGlobal),
+    place: P,
+    looking: &Looking<'_>,
+    screen: &mut Screen<Tape>,
+) -> ExitCode {
+    look_at(rt, place, looking, screen).exit
 }
 
 #[test]
