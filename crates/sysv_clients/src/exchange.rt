@@ -74,6 +74,17 @@ pub(crate) fn put<W: Write>(
     write_request(writer, &request, text)
 }
 
+/// Reads the reply to a request from a reader whose failures are not counted.
+pub(crate) fn hear_plain<R: Read>(
+    reader: &mut R,
+    ask: Ask,
+    given: &mut Body,
+) -> Result<ReplyContent, ClientFault>
+    ensures { Hears ask result (R.remaining reader.old) (R.remaining reader.new) given.new }
+{
+    hear(&mut Instrumented::new(reader), ask, given)
+}
+
 /// Reads the reply to a request.
 pub(crate) fn hear<R: Read>(
     reader: &mut Instrumented<'_, R>,
