@@ -335,7 +335,7 @@ but_more : (page now text more : List ℕ) (shown so after : Option (List ℕ)) 
 but_more page now text more shown so after (part, split, shows) (next, joined, adds) = (
   part ++ next,
   ap (λ (l : List ℕ). l ++ more) split ∙ append_assoc part page more ∙ ap (λ (l : List ℕ). part ++ l) joined
-  ∙ sym (append_assoc part next now),
+      ∙ sym (append_assoc part next now),
   Appends-trans shown so after part next shows adds,
 )
 
@@ -362,7 +362,7 @@ pub but_whole : (page text more whole now : List ℕ) (shown so after : Option (
 but_whole page text more whole now shown so after (part, split, shows) is none adds = (
   part ++ whole,
   ap (λ (l : List ℕ). l ++ more) split ∙ append_assoc part page more ∙ ap (λ (l : List ℕ). part ++ l) (sym is)
-  ∙ sym (append-nil (part ++ whole)) ∙ ap (λ (l : List ℕ). (part ++ whole) ++ l) (sym none),
+      ∙ sym (append-nil (part ++ whole)) ∙ ap (λ (l : List ℕ). (part ++ whole) ++ l) (sym none),
   Appends-trans shown so after part whole shows adds,
 )
 
@@ -1024,8 +1024,8 @@ shown_fault page receiving why left rest taken more shown so after all adds =
 
 -- Something was shown of the receives, so there is one.
 no_takes_shown : (style : Style) (takes : List Call) → takes ≡ [] → 0 < length (shown_by style takes) → ⊥
-no_takes_shown style [] none some = absurd some
-no_takes_shown style (one ∷ others) none some = absurd none
+no_takes_shown style takes none some =
+    let nothing : 0 < 0 = subst (λ (l : List Call). 0 < length (shown_by style l)) none some in omega (arith, nothing)
 
 -- How a session that ended without a failure of the screen ends if the screen fails at what is left.
 ends_unshown : (receiving : Receiving) (fault : Option ClientFault) (opened takes : List Call) (waiting : ℕ)

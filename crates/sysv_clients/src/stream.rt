@@ -15,7 +15,7 @@ ghost use Rattle.sysv_model.specs.declared.limits.TheConstants.{MESSAGE_BYTES};
 
 use crate::client::found;
 use crate::command::Receipt;
-use crate::exchange::{exchange, hear_plain, put};
+use crate::exchange::{exchange_plain, hear_plain, put};
 use crate::fault::ClientFault;
 use crate::page::Page;
 use crate::read_ahead::ReadAhead;
@@ -287,7 +287,7 @@ impl Taker {
         ensures same_writer { stream_name writer.new ≡ stream_name writer.old }
     {
         let style = Style::of_receipt(&receiving.receipt);
-        let mut taking = match self.begin(receiving, reader, writer) {
+        let mut taking = match self.find(receiving, reader, writer) {
             Ok(taking) => taking,
             Err(why) => return Ok(Some(why)),
         };
@@ -316,44 +316,24 @@ impl Taker {
         Ok(None)
     }
 
-    /// Makes the requests before the first receive, whatever the reader's failures. Returns the
-    /// receives of the session.
-    fn begin<R: Read, W: Write>(
+    /// Makes the requests before the first receive. Returns the receives of the session.
+    fn find<R: Read, W: Write>(
         &mut self,
         receiving: &Receiving,
         reader: &mut R,
         writer: &mut Instrumented<'_, W>,
     ) -> Result<Taking, ClientFault>
         requires { self.old.text ≡ [] }
-        ensures finds { Finds receiving.now result
-            (R.remaining reader.old) (R.remaining reader.new)
-            (W.contents (stream_of writer.old)) (W.contents (stream_of writer.new)) }
-        ensures text { self.new.text ≡ self.old.text }
-        ensures page { self.new.page ≡ self.old.page }
-        ensures same_writer { stream_name writer.new ≡ stream_name writer.old }
-    {
-        self.find(receiving, &mut Instrumented::new(reader), writer)
-    }
-
-    /// Makes the requests before the first receive. Returns the receives of the session.
-    fn find<R: Read, W: Write>(
-        &mut self,
-        receiving: &Receiving,
-        reader: &mut Instrumented<'_, R>,
-        writer: &mut Instrumented<'_, W>,
-    ) -> Result<Taking, ClientFault>
-        requires { self.old.text ≡ [] }
-        ensures finds { Finds receiving.now result
-            (R.remaining (stream_of reader.old)) (R.remaining (stream_of reader.new))
+        ensures finds { Finds receiving.now result (R.remaining reader.old) (R.remaining reader.new)
             (W.contents (stream_of writer.old)) (W.contents (stream_of writer.new)) }
         ensures text { self.new.text ≡ self.old.text }
         ensures page { self.new.page ≡ self.old.page }
         ensures same_writer { stream_name writer.new ≡ stream_name writer.old }
     {
         let hello = Ask::Hello(receiving.cred);
-        let welcome = exchange(reader, writer, hello, &self.text, &mut self.given)?;
+        let welcome = exchange_plain(reader, writer, hello, &self.text, &mut self.given)?;
         let find = receiving.receipt.find();
-        let got = exchange(reader, writer, find, &self.text, &mut self.given)?;
+        let got = exchange_plain(reader, writer, find, &self.text, &mut self.given)?;
         let id = found(found(0, &welcome), &got);
         Ok(Taking {
             ask: receiving.receipt.receive(id),

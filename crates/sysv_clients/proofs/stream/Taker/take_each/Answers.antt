@@ -5,16 +5,16 @@ use Rattle.sysv_clients.proofs.stream.Taker.take_each.Goals as goal
 
 pub returns-in-Err-clause-ok : goal.returns-in-Err-clause-ok
 returns-in-Err-clause-ok g c =
-    unfound _ c.args.receiving.now c.in-Err.why _ _ _ _ _ (c.begin.ensures.page ∙ c.requires.page)
+    unfound _ c.args.receiving.now c.in-Err.why _ _ _ _ _ (c.find.ensures.page ∙ c.requires.page)
     c.in-Err.ensures.finds
 
 pub loop-taking-init : goal.loop-taking-init
 loop-taking-init g c = record {
-  takes = begins _ c.args.receiving.now c.in-Ok.taking _ _ _ _ _ (c.begin.ensures.page ∙ c.requires.page)
+  takes = begins _ c.args.receiving.now c.in-Ok.taking _ _ _ _ _ (c.find.ensures.page ∙ c.requires.page)
       c.in-Ok.ensures.finds;
-  text = c.begin.ensures.text ∙ c.requires.text;
+  text = c.find.ensures.text ∙ c.requires.text;
   screen = record { same = refl; failed = refl };
-  same_writer = c.begin.ensures.same_writer;
+  same_writer = c.find.ensures.same_writer;
 }
 
 pub returns-in-Err-request-clause-ok : goal.returns-in-Err-request-clause-ok
