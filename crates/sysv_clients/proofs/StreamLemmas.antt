@@ -1,10 +1,9 @@
 -- A session of several messages in progress, and how it ends.
 use Rattle.std.proofs.Common.{◌≡◌, ℕ, zero, suc, pos, ◌+◌, ◌-◌, ◌<◌, ◌≤◌, List, [], ◌∷◌, ◌++◌, Option, None}
-use Rattle.std.proofs.Common.{Bool, Some, false, length}
+use Rattle.std.proofs.Common.{Some, length}
 use Rattle.std.proofs.Common.{Ok, Err, ◌⊎◌, inl, inr, refl, sym, ap, subst, ◌∙◌, append_assoc, append-nil, arith}
 use Rattle.std.proofs.lemmas.List.{length-append}
 use Rattle.std.proofs.lemmas.List.Concat.{flat_map-append}
-use Rattle.std.specs.Prelude.{⊤}
 use Rattle.std.specs.Io.KnownBytes.{Appends, Consumes}
 use Rattle.std.proofs.KnownBytes.{Appends-nil, Appends-trans, Consumes-nil, Consumes-trans}
 use Rattle.sysv_clients.specs.declared.fault.ClientFault.{ClientFault}
@@ -26,8 +25,6 @@ use Rattle.sysv_clients.specs.Dialogue.{Exchanges, HasNoReply, IsDone, id_after,
 use Rattle.sysv_clients.proofs.CallLemmas.{call_of, done_more, none_made, written_more}
 use Rattle.sysv_clients.proofs.SendLemmas.{between, between_first, between_second, each_more, read_so}
 use Rattle.sysv_model.specs.declared.errno.Errno.{Errno}
-use Rattle.sysv_model.specs.declared.instrumented.Instrumented.{Instrumented}
-use Rattle.sysv_model.specs.Instrumented.{KeepsStream, failures_after}
 use Rattle.sysv_model.specs.Writing.{AppendsPrefix}
 use Rattle.sysv_wire.specs.declared.reply.ReplyContent.{ReplyContent}
 use Rattle.sysv_wire.specs.declared.reply.ReplyContent.TheVariants as content
@@ -35,14 +32,6 @@ use Rattle.sysv_wire.specs.declared.request.Ask.{Ask}
 use Rattle.sysv_wire.specs.declared.request.Ask.TheVariants.{Hello}
 use Rattle.sysv_wire.specs.Replies.{reply_encoding}
 use Rattle.sysv_wire.specs.Requests.{request_encoding}
-
--- A stream that had not failed is the same stream after a further call.
-pub keeps_on : {S : Type 0} {before mid after : Instrumented S} {fails : Bool} → KeepsStream before mid false
-    → KeepsStream mid after fails → KeepsStream before after fails
-keeps_on {fails} first next = record {
-  same = next.same ∙ first.same;
-  failed = next.failed ∙ ap (λ (n : ℕ). failures_after fails n) first.failed;
-}
 
 -- A request that is this one.
 as_ask : (ask of : Ask) (text given : List ℕ) (r : _) (left rest taken more : Option (List ℕ)) → ask ≡ of
@@ -228,7 +217,8 @@ repeated_more ask (suc count) more =
     ∙ sym (append_assoc frame (repeated_encoding ask count) (repeated_encoding ask more))
 
 -- More receives were written.
-pub asks_more : (page : List ℕ) (receiving : Receiving) (left rest taken more most shown after : Option (List ℕ)) (taking now : Taking)
+pub asks_more : (page : List ℕ) (receiving : Receiving) (left rest taken more most shown after : Option (List ℕ))
+    (taking now : Taking)
     (added : ℕ)
     → Takes page receiving left rest taken more shown after taking → now.ask ≡ taking.ask → now.owed ≡ taking.owed
     → now.waiting ≡ taking.waiting + added → now.waiting ≤ taking.owed → now.waiting ≤ ahead_of receiving
@@ -733,7 +723,8 @@ meets_more NoReply ahead waiting fewer unwritten takes one some done meets =
 meets_more NoMemory ahead waiting fewer unwritten takes one some done meets = absurd meets
 
 -- After a fault, one more message was received and shown.
-pub stops_more : (page now : List ℕ) (receiving : Receiving) (why : ClientFault) (answer : ReplyContent) (given : List ℕ)
+pub stops_more : (page now : List ℕ) (receiving : Receiving) (why : ClientFault) (answer : ReplyContent)
+    (given : List ℕ)
     (left mid rest taken more shown so after : Option (List ℕ)) (ask : Ask) (waiting fewer : ℕ)
     → Stops page receiving why left mid taken more shown so ask waiting → waiting ≡ fewer + 1
     → Consumes mid rest (reply_encoding (reply_to ask answer) given) → IsDone ask answer given

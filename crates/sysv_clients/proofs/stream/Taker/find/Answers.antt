@@ -28,7 +28,8 @@ returns-clause-finds g c =
       to_z-of_z w32 c.found.result (record { sfits = c.found.type_inv }),
       c.found.ensures,
     )
-    (finds c.args.receiving.now c.in_ok-welcome.welcome c.in_ok-got.got c.exchange_plain.new.given c.exchange_plain-2.new.given
+    (finds c.args.receiving.now c.in_ok-welcome.welcome c.in_ok-got.got c.exchange_plain.new.given
+    c.exchange_plain-2.new.given
     c.args.self.now.text _ _ _ _ _ _ c.find-find.result c.messages.result c.in_ok-welcome.ensures.exchanges
     c.find-find.ensures
     c.in_ok-got.ensures.exchanges c.messages.ensures)
