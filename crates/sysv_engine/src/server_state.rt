@@ -41,8 +41,7 @@ struct Post {
 
 /// What the workers share.
 ///
-/// A worker that is not there has no doorbell and no envelopes. Nothing comes for it, and it may
-/// not sleep.
+/// A worker that is not there has no doorbell and no envelopes, and nothing comes for it.
 #[derive(Drop)]
 pub struct ServerState {
     posts: Vec<Post>,

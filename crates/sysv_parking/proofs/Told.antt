@@ -1,9 +1,8 @@
 -- What a worker has after it has taken the words of its changes.
-use Rattle.std.proofs.Common.{◌≡◌, ◌∙◌, ◌+◌, ◌-◌, ◌/◌, ◌%◌, ◌<◌, ◌≤◌, ℕ, List, [], ◌∷◌, zero, suc, length, inl, inr}
-use Rattle.std.proofs.Common.{arith, ap, sym, subst, set, bit_or}
+use Rattle.std.proofs.Common.{◌≡◌, ◌∙◌, ◌-◌, ◌/◌, ◌%◌, ◌<◌, ◌≤◌, ℕ, List, [], ◌∷◌, zero, suc, length, inl, inr}
+use Rattle.std.proofs.Common.{arith, ap, sym, subst, bit_or}
 use Rattle.std.specs.Prelude.{slice_index, slice_index_or, ◌⊎◌}
 use Rattle.std.specs.Int.{bit_at}
-use Rattle.std.specs.List.{Contains}
 use Rattle.std.proofs.lemmas.List.{get_or-set_same, length-set, set_past}
 use Rattle.sysv_bells.specs.declared.view.Taking.{Taking}
 use Rattle.sysv_bells.specs.Seats.{joined, with_bits}
@@ -70,7 +69,8 @@ pub are_held : (more : List Taking) (words : List ℕ) → 9 ≤ length words �
 are_held more words enough = λ change there taking is word bit.
     let at : taking.word - 2 ≡ number_of change / 64 = omega (arith, word) in
     subst (λ (k : ℕ). bit_at (slice_index (joined more words) k) (number_of change % 64) ≡ 1) at
-    (joined_has more words is.0 (number_of change % 64) taking is.1 is.2 (omega (arith, at, enough, small change there)) bit)
+    (joined_has more words is.0 (number_of change % 64) taking is.1 is.2 (omega (arith, at, enough, small change there))
+    bit)
 
 pub hold_on : (more : List Taking) (words : List ℕ) → HoldsOn words (joined more words)
 hold_on more words = λ change holds. joined_keeps more words (number_of change / 64) (number_of change % 64) holds
