@@ -76,18 +76,20 @@ EXPORTED void sysvmsg_close(struct sysvmsg *server)
 
 EXPORTED int sysvmsg_slots(const struct sysvmsg *server)
 {
-    return connection_slots(server->connection);
+    return server ? connection_slots(server->connection) : outcome(EFAULT);
 }
 
 EXPORTED const char *sysvmsg_reason(const struct sysvmsg *server)
 {
-    const char *why = connection_why(server->connection);
+    const char *why = server ? connection_why(server->connection) : NULL;
     return why ? why : "";
 }
 
 EXPORTED int sysvmsg_get(struct sysvmsg *server, int key, int flags)
 {
     int id = -1;
+    if (!server)
+        return outcome(EFAULT);
     int error = request_get(server->connection, key, flags, &id);
     return error ? outcome(error) : id;
 }
@@ -101,7 +103,7 @@ EXPORTED int sysvmsg_snd(
     int64_t type;
     if (size > TEXT_MAX)
         return outcome(EINVAL);
-    if (!is_readable(message))
+    if (!server || !is_readable(message))
         return outcome(EFAULT);
     memcpy(&type, message, sizeof type);
     return outcome(request_snd(server->connection, queue, type, (const char *)message + sizeof type,
@@ -113,7 +115,7 @@ EXPORTED ssize_t sysvmsg_rcv(struct sysvmsg *server, int queue, void *message, s
 {
     size_t got;
     /* (a message that has no place is not taken) */
-    if (!is_readable(message))
+    if (!server || !is_readable(message))
         return outcome(EFAULT);
     flags = (flags & (SYSVMSG_NOERROR | SYSVMSG_EXCEPT)) | wait_flag(milliseconds);
     int error = request_rcv(server->connection, queue, message, size < TEXT_MAX ? size : TEXT_MAX,
@@ -124,6 +126,8 @@ EXPORTED ssize_t sysvmsg_rcv(struct sysvmsg *server, int queue, void *message, s
 EXPORTED int sysvmsg_stat(struct sysvmsg *server, int queue, struct sysvmsg_stat *stat)
 {
     struct queue_stat found;
+    if (!server)
+        return outcome(EFAULT);
     int error = request_stat(server->connection, queue, &found);
     if (error != 0)
         return outcome(error);
@@ -136,6 +140,8 @@ EXPORTED int sysvmsg_stat(struct sysvmsg *server, int queue, struct sysvmsg_stat
 EXPORTED int sysvmsg_set(struct sysvmsg *server, int queue, const struct sysvmsg_set *set)
 {
     struct sysvmsg_set given;
+    if (!server)
+        return outcome(EFAULT);
     int error = copy_from_caller(&(struct iovec){&given, sizeof given}, 1, set);
     if (error != 0)
         return outcome(error);
@@ -145,12 +151,14 @@ EXPORTED int sysvmsg_set(struct sysvmsg *server, int queue, const struct sysvmsg
 
 EXPORTED int sysvmsg_rm(struct sysvmsg *server, int queue)
 {
-    return outcome(request_rm(server->connection, queue));
+    return outcome(server ? request_rm(server->connection, queue) : EFAULT);
 }
 
 EXPORTED int sysvmsg_row(struct sysvmsg *server, int slot, struct sysvmsg_row *row)
 {
     struct queue_row found;
+    if (!server)
+        return outcome(EFAULT);
     int error = request_row(server->connection, slot, &found);
     if (error != 0)
         return outcome(error);

@@ -1,7 +1,7 @@
 /* A client of sysvmsg servers: System V message queues over a Unix socket.
  *
- * Calls return -1 and set errno if they fail: EFAULT if the memory of an argument is missing. Link
- * with -lsysvmsg -pthread. libsysvmsg(3) has an example. */
+ * Calls return -1 and set errno if they fail: EFAULT if the memory of an argument is missing, or
+ * the connection is NULL. Link with -lsysvmsg -pthread. libsysvmsg(3) has an example. */
 #ifndef SYSVMSG_H
 #define SYSVMSG_H
 

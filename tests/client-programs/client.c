@@ -349,6 +349,27 @@ static void try_faults(void)
     sysvmsg_close(server);
 }
 
+/* So is a connection that is missing, as after an open that failed. */
+static void try_no_connection(void)
+{
+    struct sysvmsg_message message = {.type = 1};
+    struct sysvmsg_stat stat;
+    struct sysvmsg_set set = {0};
+    struct sysvmsg_row row;
+    CHECK(sysvmsg_get(NULL, KEY, 0) == -1 && errno == EFAULT);
+    CHECK(sysvmsg_snd(NULL, 0, &message, 0, 0) == -1 && errno == EFAULT);
+    CHECK(sysvmsg_rcv(NULL, 0, &message, 1, 0, 0, 0) == -1 && errno == EFAULT);
+    CHECK(sysvmsg_stat(NULL, 0, &stat) == -1 && errno == EFAULT);
+    CHECK(sysvmsg_set(NULL, 0, &set) == -1 && errno == EFAULT);
+    errno = 0;
+    CHECK(sysvmsg_rm(NULL, 0) == -1 && errno == EFAULT);
+    CHECK(sysvmsg_row(NULL, 0, &row) == -1 && errno == EFAULT);
+    errno = 0;
+    CHECK(sysvmsg_slots(NULL) == -1 && errno == EFAULT);
+    CHECK(sysvmsg_reason(NULL)[0] == 0);
+    sysvmsg_close(NULL);
+}
+
 /* A connection that is closed leaves room for another one, and too many are refused. */
 static void try_many(void)
 {
@@ -369,7 +390,7 @@ int main(int count, char **words)
     } parts[] = {{"limits", try_limits}, {"races", try_races}, {"threads", try_threads},
         {"fork", try_fork}, {"signal", try_signal}, {"cancel", try_cancel},
         {"no-place", try_no_place}, {"no-server", try_no_server}, {"faults", try_faults},
-        {"many", try_many}};
+        {"no-connection", try_no_connection}, {"many", try_many}};
     if (count < 3)
         return 2;
     path = words[2];

@@ -214,7 +214,7 @@ class Pipeline:
         for each in sent:
             each.result()
 
-    The end of the `with` block waits for all replies. A call that waits holds up those behind it. A pipeline is for one
+    The end of the `with` block waits for all replies. A call that waits blocks those behind it. A pipeline is for one
     thread: it raises `InUse` while another thread uses the connection.
     """
 
