@@ -11,10 +11,9 @@ ghost use Rattle.sysv_queue.specs.Tally.{taken_in};
 ghost use Rattle.sysv_core.specs.Standing.{state_at, StandsNowhere, StandsThere};
 ghost use Rattle.sysv_core.specs.declared.event.Event.TheVariants.{Start, Step};
 
-use crate::actor_steps::{advance, begin, counted};
-use crate::doing::{Doing, Ended, Led};
+use crate::actor::{Doing, Led};
+use crate::actor_steps::{advance, begin, chain_in, counted, end_all};
 use crate::event::{Answer, Event, Stepped};
-use crate::giveback::{chain_in, end_all};
 use crate::laws::{each_world_is_sound, every_run_obeys};
 use crate::preset::preset_queue;
 use std::alloc::Global;
@@ -23,7 +22,7 @@ use sysv_keys::{GENERATION_LAST, unused_slots};
 use sysv_model::{Body, Cred, MAX_ACTORS, MAX_BLOCKS, MIN_BLOCKS, WORN};
 use sysv_objects::{Objects, legal_turns};
 use sysv_queue::Tally;
-use sysv_steps::Call;
+use sysv_steps::{Call, Ended};
 use thiserror::Error;
 
 /// The reason why a world cannot be opened.
@@ -383,13 +382,17 @@ fn settle(
             }
             Stepped::Nothing
         }
-        Led::Over(ended) => {
+        Led::Over(ended, brought) => {
             let Ended {
-                result,
-                body,
-                spare,
+                outcome: result,
+                receives,
                 delivery,
             } = ended;
+            let (body, spare) = if receives {
+                (brought, None)
+            } else {
+                (None, brought)
+            };
             if spare.is_some() {
                 *kept = spare;
             }

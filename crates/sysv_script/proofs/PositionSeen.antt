@@ -2,12 +2,12 @@
 use Rattle.std.proofs.Common.{◌≡◌, ℕ, zero, suc, List, [], ◌∷◌, ◌++◌, Option, Some, None, option_map, map, slice_get}
 use Rattle.std.proofs.Common.{refl, sym, ap, subst, ◌∙◌}
 use Rattle.std.proofs.lemmas.Option.{slice_get-map}
-use Rattle.sysv_core.specs.declared.doing.Doing.{Doing as DoingKept}
-use Rattle.sysv_core.specs.declared.doing.Doing.TheVariants as doing
+use Rattle.sysv_core.specs.declared.actor.Doing.{Doing as DoingKept}
 use Rattle.sysv_core.specs.World.{World, Doing, actor_at}
 use Rattle.sysv_core.specs.Seen.{Seen, IsSeenAs, state_in}
 use Rattle.sysv_core.specs.Kept.{state_kept, states_kept}
-use Rattle.sysv_core.specs.Standing.{Pending, state_at, of_state, doing_state, StandsThere, StandsNowhere}
+use Rattle.sysv_steps.specs.Pending.{Pending}
+use Rattle.sysv_core.specs.Standing.{state_at, of_state, doing_state, StandsThere, StandsNowhere}
 use Rattle.sysv_script.specs.Heads.{head_text}
 use Rattle.sysv_script.specs.Names.{operation_as, standing_text}
 use Rattle.sysv_script.specs.declared.head.Head.{Head}
@@ -37,15 +37,6 @@ idle_line actor None stands = refl
 idle_line actor (Some None) stands = refl
 idle_line actor (Some (Some d)) stands = absurd stands
 
-text_told : (actor : ℕ) (told : DoingKept) →
-    of_state (λ kind state. standing_text actor state) told ≡ standing_text actor (doing_state told).state
-text_told actor (doing.Get at) = refl
-text_told actor (doing.Send sent) = refl
-text_told actor (doing.Receive at body) = refl
-text_told actor (doing.Stat step) = refl
-text_told actor (doing.Set step) = refl
-text_told actor (doing.Remove step) = refl
-
 pub going_line : (actor : ℕ) (o : Option (Option Doing)) (told : DoingKept) (line : Head) →
     StandsThere (option_map state_in o) told →
     head_text line ≡ of_state (λ kind state. standing_text actor state) told →
@@ -54,7 +45,7 @@ going_line actor None told line stands says = absurd stands
 going_line actor (Some None) told line stands says = absurd stands
 going_line actor (Some (Some d)) told line stands says =
     ap (λ t. t ++ 10 ∷ [])
-    (says ∙ (text_told actor told ∙ sym (ap (λ (p : Pending). standing_text actor p.state) stands)))
+    (says ∙ sym (ap (λ (p : Pending). standing_text actor p.state) stands))
 
 pub going_way : (o : Option (Option Doing)) (told : DoingKept) (operation : Operation) →
     StandsThere (option_map state_in o) told →
