@@ -5,7 +5,7 @@ ghost use Rattle.sysv_model.specs.declared.limits.TheConstants.{MAX_ACTORS as mo
 ghost use Rattle.sysv_keys.specs.declared.identifier.TheConstants.{GENERATION_LAST as last_generation};
 ghost use Rattle.sysv_core.specs.Headline.{StandsWithPreset, StandsWithEvent, StandsWithEvents, LawsHold};
 ghost use Rattle.sysv_core.specs.Seen.{Represents, PresetsSeen, StepsSeen, AreAllFree};
-ghost use Rattle.sysv_core.specs.Kept.{doing_led, told_by};
+ghost use Rattle.sysv_core.specs.Kept.{doing_led, told_by, returned};
 ghost use Rattle.sysv_core.specs.Tallying.{none_taken, messages_given, messages_in};
 ghost use Rattle.sysv_queue.specs.Tally.{taken_in};
 ghost use Rattle.sysv_core.specs.Standing.{state_at, StandsNowhere, StandsThere};
@@ -388,11 +388,7 @@ fn settle(
                 receives,
                 delivery,
             } = ended;
-            let (body, spare) = if receives {
-                (brought, None)
-            } else {
-                (None, brought)
-            };
+            let (body, spare) = shared_out(receives, brought);
             if spare.is_some() {
                 *kept = spare;
             }
@@ -405,6 +401,17 @@ fn settle(
                 body,
             })
         }
+    }
+}
+
+/// Returns the body that the answer returns, which is that of a receive, and the body that is spare.
+fn shared_out(receives: bool, brought: Option<Body>) -> (Option<Body>, Option<Body>)
+    ensures { result.0 ≡ returned receives brought }
+{
+    if receives {
+        (brought, None)
+    } else {
+        (None, brought)
     }
 }
 

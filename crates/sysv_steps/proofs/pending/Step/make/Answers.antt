@@ -23,11 +23,11 @@ returns-in-Some-clause-steps g c =
     let text = c.in-Some.text in
     subst (λ s.
     StepsTo g.T.Turns.takes g.T.Turns.misses may (phase_of s (text_in c.args.body.now)) c.args.at.now
-    c.args.kept.now.blocks c.of_send.result c.args.body.now c.send_step.new.at c.send_step.new.kept.blocks)
+    c.args.kept.now.blocks c.of_send.result (Some text) c.send_step.new.at c.send_step.new.kept.blocks)
     (sym c.in-Send.is)
     (subst (λ b.
     StepsTo g.T.Turns.takes g.T.Turns.misses may (phase_of (step.Send c.in-Send.step) (text_in b)) c.args.at.now
-    c.args.kept.now.blocks c.of_send.result b c.send_step.new.at c.send_step.new.kept.blocks)
+    c.args.kept.now.blocks c.of_send.result (Some text) c.send_step.new.at c.send_step.new.kept.blocks)
     (sym c.in-Some.is)
     (send_state c.send_step.result text, c.send_step.ensures.steps, c.of_send.ensures.comes text))
 
