@@ -14,7 +14,6 @@ use Rattle.sysv_steps.specs.Answered.{text_given, body_with}
 use Rattle.sysv_steps.specs.Pending.{Pending, pending, ComesTo}
 use Rattle.sysv_steps.specs.declared.progress.Ended.{Ended}
 use Rattle.sysv_steps.specs.declared.progress.Progress.TheVariants as progress
-use Rattle.sysv_core.specs.declared.actor.Doing.{Doing}
 use Rattle.sysv_core.specs.declared.actor.Led.{Led}
 use Rattle.sysv_core.specs.declared.actor.Led.TheVariants as led
 use Rattle.sysv_core.specs.World.{value_of}
@@ -61,12 +60,6 @@ module _ {kind : Kind} (wait : Wait kind) (value above : ℕ) (turns : List Turn
 
 -- ---- the result of a start or a turn, with the body of the call
 
-pub leads_on : {kind : Kind} (state : State kind) (doing : Doing) → ComesTo state (progress.On doing.pending) doing.body →
-    LeadsTo state (led.To doing)
-leads_on (Goes phase) doing h = h
-leads_on (Waits wait) doing h = h
-leads_on (Over ending) doing h = h
-
 returned_same : (receives : Bool) (body : Option (List ℕ)) (text : List ℕ) → (receives ≡ true → body ≡ Some text) →
     returned receives body ≡ body_with receives text
 returned_same true body text h = h refl
@@ -78,5 +71,5 @@ leads_over (Goes phase) ended body h = h
 leads_over (Waits wait) ended body h = h
 leads_over {kind} (Over ending) ended body h = (
   h.0,
-  ap (λ r. returned r body) h.1.0 ∙ returned_same (gives_back kind) body (text_given ending) h.1.1,
+  ap (λ r. returned r body) h.1 ∙ returned_same (gives_back kind) body (text_given ending) h.2,
 )

@@ -23,7 +23,7 @@ use Rattle.sysv_core.specs.World.{value_of}
 -- the code reports the ending, with the body or without it. A spare body is not reported.
 abbrev pub LeadsTo : {kind : Kind} → State kind → Led → Type 0
 LeadsTo state (led.To doing) = pending state ≡ doing_state doing
-LeadsTo {kind} (Over ending) (led.Over ended body) = 
+LeadsTo {kind} (Over ending) (led.Over ended body) =
     TellsEnding (gives_back kind) ending ended.outcome (returned ended.receives body)
 LeadsTo (Goes phase) (led.Over ended body) = ⊥
 LeadsTo (Waits wait) (led.Over ended body) = ⊥

@@ -1,11 +1,10 @@
 use Rattle.std.proofs.Common.{subst}
 use Rattle.sysv_steps.specs.Pending.{ComesTo}
-use Rattle.sysv_core.proofs.TurnLeads.{leads_on, leads_over}
+use Rattle.sysv_core.proofs.TurnLeads.{leads_over}
 use Rattle.sysv_core.proofs.actor_steps.led_by.Goals as goal
 
 pub returns-in-On : goal.returns-in-On
-returns-in-On c = λ kind state comes.
-    leads_on state _ (subst (λ m. ComesTo state m c.args.body) c.in-On.is comes)
+returns-in-On c = λ kind state comes. subst (λ m. ComesTo state m c.args.body) c.in-On.is comes
 
 pub returns-in-Over : goal.returns-in-Over
 returns-in-Over c = λ kind state comes.
