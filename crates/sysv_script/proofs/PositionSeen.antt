@@ -6,10 +6,12 @@ use Rattle.sysv_core.specs.declared.actor.Doing.{Doing as DoingKept}
 use Rattle.sysv_core.specs.World.{World, Doing, actor_at}
 use Rattle.sysv_core.specs.Seen.{Seen, IsSeenAs, state_in}
 use Rattle.sysv_core.specs.Kept.{state_kept, states_kept}
-use Rattle.sysv_steps.specs.Pending.{Pending}
+use Rattle.sysv_steps.specs.Pending.{Pending, pending_kind, pending_state}
+use Rattle.sysv_steps.specs.declared.pending.Pending.{Pending as PendingKept}
+use Rattle.sysv_steps.specs.declared.pending.Pending.TheVariants as kept
 use Rattle.sysv_core.specs.Standing.{state_at, of_state, doing_state, StandsThere, StandsNowhere}
 use Rattle.sysv_script.specs.Heads.{head_text}
-use Rattle.sysv_script.specs.Names.{operation_as, standing_text}
+use Rattle.sysv_script.specs.Names.{operation_as, standing_text, step_now}
 use Rattle.sysv_script.specs.declared.head.Head.{Head}
 use Rattle.sysv_script.specs.declared.head.Head.TheVariants as head
 use Rattle.sysv_script.specs.declared.names.Operation.{Operation}
@@ -36,6 +38,13 @@ pub idle_line : (actor : ℕ) (o : Option (Option Doing)) → StandsNowhere (opt
 idle_line actor None stands = refl
 idle_line actor (Some None) stands = refl
 idle_line actor (Some (Some d)) stands = absurd stands
+
+-- The line of a call that waits.
+pub waits_text : (p : PendingKept) (text : List ℕ) (actor : ℕ) (operation : Operation) →
+    None ≡ step_now (pending_state p text) → operation_as (pending_kind p) ≡ operation →
+    head_text (head.Waits actor operation) ≡ standing_text actor (pending_state p text)
+waits_text (kept.At s) text actor operation none is = absurd cc
+waits_text (kept.Waits w) text actor operation none is = ap (λ o. head_text (head.Waits actor o)) (sym is)
 
 pub going_line : (actor : ℕ) (o : Option (Option Doing)) (told : DoingKept) (line : Head) →
     StandsThere (option_map state_in o) told →

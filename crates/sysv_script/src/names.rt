@@ -1,6 +1,6 @@
 //! The names of calls and their steps in a script.
 ghost use Rattle.std.specs.Prelude.{◌≡◌, ℕ, List, Some, option_map};
-ghost use Rattle.sysv_steps.specs.Seen.{get_phase, send_phase};
+ghost use Rattle.sysv_steps.specs.Seen.{get_phase, send_phase, receive_phase, set_phase, remove_phase};
 ghost use Rattle.sysv_steps.specs.Pending.{kind_at, kind_waiting, phase_of};
 ghost use Rattle.sysv_core.specs.Standing.{of_state, doing_state};
 ghost use Rattle.sysv_script.specs.Names.{operation_as, operation_of, step_in, step_now};
@@ -144,14 +144,10 @@ impl Step {
         match step {
             sysv_steps::Step::Get(step) => Step::of_get(step),
             sysv_steps::Step::Send(step) => Step::of_send(step),
-            sysv_steps::Step::Receive(ReceiveStep::Take(_)) => Step::Take,
-            sysv_steps::Step::Receive(ReceiveStep::Giveback { .. }) => Step::Giveback,
+            sysv_steps::Step::Receive(step) => Step::of_receive(step),
             sysv_steps::Step::Stat(_) => Step::Stat,
-            sysv_steps::Step::Set(SetStep::Set { .. }) => Step::Set,
-            sysv_steps::Step::Set(SetStep::Giveback) => Step::Giveback,
-            sysv_steps::Step::Remove(RemoveStep::Remove { .. }) => Step::Remove,
-            sysv_steps::Step::Remove(RemoveStep::Forget { .. }) => Step::Forget,
-            sysv_steps::Step::Remove(RemoveStep::Giveback { .. }) => Step::Giveback,
+            sysv_steps::Step::Set(step) => Step::of_set(step),
+            sysv_steps::Step::Remove(step) => Step::of_remove(step),
         }
     }
 
@@ -177,6 +173,37 @@ impl Step {
             SendStep::Reserve(_) => Step::Reserve,
             SendStep::Place { .. } => Step::Place,
             SendStep::Giveback { .. } => Step::Giveback,
+        }
+    }
+
+    /// Returns the name of a step of a receive.
+    fn of_receive(step: &ReceiveStep) -> Step
+        ensures { (text : List ℕ) → step_name result ≡ step_in (receive_phase step.now text) }
+    {
+        match step {
+            ReceiveStep::Take(_) => Step::Take,
+            ReceiveStep::Giveback { .. } => Step::Giveback,
+        }
+    }
+
+    /// Returns the name of a step of an IPC_SET.
+    fn of_set(step: &SetStep) -> Step
+        ensures { step_name result ≡ step_in (set_phase step.now) }
+    {
+        match step {
+            SetStep::Set { .. } => Step::Set,
+            SetStep::Giveback => Step::Giveback,
+        }
+    }
+
+    /// Returns the name of a step of an IPC_RMID.
+    fn of_remove(step: &RemoveStep) -> Step
+        ensures { step_name result ≡ step_in (remove_phase step.now) }
+    {
+        match step {
+            RemoveStep::Remove { .. } => Step::Remove,
+            RemoveStep::Forget { .. } => Step::Forget,
+            RemoveStep::Giveback { .. } => Step::Giveback,
         }
     }
 }
