@@ -15,7 +15,8 @@ returns-in-Send c = λ text.
 
 pub returns-in-Receive : goal.returns-in-Receive
 returns-in-Receive c = λ text.
-    subst (λ s. step_name c.of_receive.result ≡ step_in (phase_of s text)) (sym c.in-Receive.is) (c.of_receive.ensures text)
+    subst (λ s. step_name c.of_receive.result ≡ step_in (phase_of s text)) (sym c.in-Receive.is)
+    (c.of_receive.ensures text)
 
 pub returns-in-Stat : goal.returns-in-Stat
 returns-in-Stat c = λ text.
