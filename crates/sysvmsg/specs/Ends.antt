@@ -40,10 +40,10 @@ EndsWithin limit terms ended =
     (limits_in terms) ended
 
 -- A server that may have an input served on these terms until the input was over or the maximum
--- number of sessions was reached, and the sums of its sessions were printed. The limit of open files is
--- the one that it read before.
-pub record HasServedAll (has_input : Bool) (terms : Terms) (shown after : Option (List ℕ)) : Type 0 where
-  pub limit : Option ℕ
+-- number of sessions was reached, and the sums of its sessions were printed. It did so under this limit of
+-- open files.
+pub record HasServedAll (limit : Option ℕ) (has_input : Bool) (terms : Terms) (shown after : Option (List ℕ)) :
+    Type 0 where
   pub ended : Ended
   pub reason : Option Reason
   pub ends : EndsWithin limit terms ended
