@@ -233,7 +233,8 @@ impl<'a, R: Wait, T: NonBlocking> Place<'a, R, T> {
     pub(crate) fn cut_late(&mut self)
         ensures keeps { KeepsPlace T.incoming T.outgoing T.closes self.old self.new }
     {
-        self.cut(self.times.limit());
+        let limit = self.times.limit();
+        self.cut(limit);
     }
 
     /// Returns what the parked call waits for, if there is one.
