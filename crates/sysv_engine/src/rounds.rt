@@ -12,7 +12,7 @@ use crate::worker::{Worker, sooner};
 use std::alloc::Global;
 use std::sync::Wait;
 use sysv_parking::{Found, Key, collect, heed_all, read_envelopes};
-use sysv_seats::NonBlocking;
+use sysv_seats::{Limit, NonBlocking};
 use sysv_service::Service;
 use sysv_session::End;
 use sysv_workers::Job;
@@ -453,21 +453,21 @@ impl<'a, 'c, R: Wait> Serving<'a, 'c, R> {
         }
         let due = worker.due(place);
         if is_over(due) {
-            worker.cut(place);
+            worker.cut_late(place);
             self.settle(worker, place);
         } else {
             worker.check = sooner(worker.check, due);
         }
     }
 
-    /// Closes all clients.
+    /// Closes all clients, since the time for an orderly end is over.
     fn cut_all<T: NonBlocking, W: Watch<T>>(&self, worker: &mut Worker<'a, R, T, W>)
         ensures { KeepsAll T.incoming T.outgoing T.closes worker.old.places.items
             worker.new.places.items }
     {
         for place in 0..worker.places.len() {
             if worker.is_taken(place) {
-                worker.cut(place);
+                worker.cut(place, Limit::Drain);
                 self.settle(worker, place);
             }
         }

@@ -5,6 +5,7 @@ ghost use Rattle.sysv_engine.specs.Spinning.{learned};
 use crate::server_state::ServerState;
 use crate::watch::{Ready, Watch};
 use std::hint::spin_loop;
+use sysv_seats::NonBlocking;
 
 /// The number of looks before a sleep.
 const LOOKS: u32 = 16;
@@ -65,7 +66,7 @@ impl Spinning {
 
 /// Looks for events of a worker's clients until there is one, or something has come for the worker,
 /// for some microseconds. Returns which look found it, from 0 on, if one did.
-pub(crate) fn look<T, W: Watch<T>>(
+pub(crate) fn look<T: NonBlocking, W: Watch<T>>(
     server: &ServerState,
     worker: usize,
     watch: &mut W,

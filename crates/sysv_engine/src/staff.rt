@@ -105,7 +105,7 @@ pub(crate) fn staff<'a, R: Wait, T: NonBlocking, W: Watch<T>>(
 }
 
 /// Takes the places of all workers, and closes the clients that are left in them. They are served
-/// until each may be closed, with the tools of a worker.
+/// until nothing is left to do for each, with the tools of a worker.
 pub(crate) fn gather<'a, R: Wait, T: NonBlocking, W: Watch<T> + Drop>(
     rt: &R,
     workers: Vec<Worker<'a, R, T, W>>,

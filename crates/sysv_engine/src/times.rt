@@ -2,7 +2,7 @@
 
 use crate::moment::Moment;
 use crate::terms::Patience;
-use sysv_seats::{Client, NonBlocking};
+use sysv_seats::{Client, Limit, NonBlocking};
 
 /// What the time of a client runs for.
 #[derive(Clone, Copy, PartialEq, Eq)]
@@ -36,6 +36,14 @@ impl Times {
     /// Returns when the client's time is over.
     pub(crate) fn due(&self) -> Option<Moment> {
         self.due
+    }
+
+    /// Returns the limit that the client's time is of.
+    pub(crate) fn limit(&self) -> Limit {
+        match self.awaits {
+            Awaits::Begin(_) => Limit::Idle,
+            Awaits::Rest(_) | Awaits::Room(_) | Awaits::Call => Limit::Stall,
+        }
     }
 
     /// Takes note of what the client awaits after an event, and returns when its time is over.

@@ -1,5 +1,6 @@
 //! What reports which clients have events.
-ghost use Rattle.std.specs.Prelude.{◌≡◌, IfSome, vec_len};
+ghost use Rattle.std.specs.Prelude.{◌≡◌, IfSome, false, vec_len};
+ghost use Rattle.sysv_seats.specs.Breaking.{MayBreak};
 
 use crate::moment::pause;
 use crate::server_state::ServerState;
@@ -9,6 +10,7 @@ use std::alloc::Global;
 use std::net::Net;
 use std::os::fd::AsRawFd;
 use std::time::Duration;
+use sysv_seats::{NonBlocking, SocketStream};
 
 /// The token of a worker's doorbell.
 const DOORBELL: usize = usize::MAX;
@@ -46,10 +48,11 @@ impl Ready {
 
 /// Reports which places have events. What it reports may be anything: a client that has no event
 /// only looks in vain.
-pub trait Watch<T> {
+pub trait Watch<T: NonBlocking> {
     /// Has the place reported, whose client is on this connection, from now on. Returns whether
-    /// that succeeded.
-    fn add(&mut self, connection: &T, place: usize) -> bool;
+    /// that succeeded. It fails only for a connection on which reading and writing may break off.
+    fn add(&mut self, connection: &T, place: usize) -> bool
+        ensures { result ≡ false → MayBreak (T.closes.breaks connection.now) };
 
     /// Has the place reported also when the connection may take bytes, or not any more.
     fn await_room(&mut self, connection: &T, place: usize, awaits: bool);
@@ -86,8 +89,8 @@ impl Polled {
     }
 }
 
-impl<T: AsRawFd> Watch<T> for Polled {
-    fn add(&mut self, connection: &T, place: usize) -> bool {
+impl Watch<SocketStream> for Polled {
+    fn add(&mut self, connection: &SocketStream, place: usize) -> bool {
         let fd = connection.as_raw_fd();
         let interest = Interest::READABLE;
         self.poll
@@ -96,7 +99,7 @@ impl<T: AsRawFd> Watch<T> for Polled {
             .is_ok()
     }
 
-    fn await_room(&mut self, connection: &T, place: usize, awaits: bool) {
+    fn await_room(&mut self, connection: &SocketStream, place: usize, awaits: bool) {
         let fd = connection.as_raw_fd();
         let interest = if awaits {
             Interest::READABLE | Interest::WRITABLE
@@ -110,7 +113,7 @@ impl<T: AsRawFd> Watch<T> for Polled {
     }
 
     fn look(&mut self, ready: &mut Vec<Ready>) {
-        Watch::<T>::wait(self, Some(0), ready);
+        Watch::<SocketStream>::wait(self, Some(0), ready);
     }
 
     fn wait(&mut self, limit: Option<u64>, ready: &mut Vec<Ready>) {
@@ -163,7 +166,7 @@ impl Rounds {
     }
 }
 
-impl<T> Watch<T> for Rounds {
+impl<T: NonBlocking> Watch<T> for Rounds {
     fn add(&mut self, _connection: &T, place: usize) -> bool {
         if !self.places.contains(&place) && self.places.len() < self.places.capacity() {
             self.places.push_reserved(place);

@@ -13,7 +13,7 @@ use std::alloc::Global;
 use std::collections::VecDeque;
 use std::sync::Wait;
 use sysv_parking::{Agenda, Key};
-use sysv_seats::{NonBlocking, Tools};
+use sysv_seats::{Limit, NonBlocking, Tools};
 use sysv_session::Served;
 
 /// Of this number of messages that have arrived, one goes to another worker first.
@@ -340,15 +340,27 @@ impl<'a, R: Wait, T: NonBlocking, W: Watch<T>> Worker<'a, R, T, W> {
         }
     }
 
-    /// Ends the client because of a limit.
+    /// Ends the client because of this limit, if it may be cut off under it.
     #[tactic(auto, using(crate::proofs::PlaceLists::keeps_at))]
-    pub(crate) fn cut(&mut self, place: usize)
+    pub(crate) fn cut(&mut self, place: usize, limit: Limit)
         ensures keeps { KeepsAll T.incoming T.outgoing T.closes self.old.places.items
             self.new.places.items }
         ensures agenda { self.new.agenda ≡ self.old.agenda }
     {
         if let Some(there) = self.places.get_mut(place) {
-            there.cut();
+            there.cut(limit);
+        }
+    }
+
+    /// Ends the client because its time is over, if it may be cut off under that limit.
+    #[tactic(auto, using(crate::proofs::PlaceLists::keeps_at))]
+    pub(crate) fn cut_late(&mut self, place: usize)
+        ensures keeps { KeepsAll T.incoming T.outgoing T.closes self.old.places.items
+            self.new.places.items }
+        ensures agenda { self.new.agenda ≡ self.old.agenda }
+    {
+        if let Some(there) = self.places.get_mut(place) {
+            there.cut_late();
         }
     }
 

@@ -22,6 +22,7 @@ const NOWHERE: Surroundings = Surroundings {
         gid: 0,
         pid: 0,
     },
+    open_files: None,
 };
 
 /// No credentials.

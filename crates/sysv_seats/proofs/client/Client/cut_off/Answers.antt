@@ -1,6 +1,6 @@
 -- A client that has not stopped stops now.
 use Rattle.sysv_seats.proofs.ClientLemmas.{breaks_reading}
-use Rattle.sysv_seats.proofs.client.Client.cut.Goals as goal
+use Rattle.sysv_seats.proofs.client.Client.cut_off.Goals as goal
 
 pub returns-clause-keeps : goal.returns-clause-keeps
 returns-clause-keeps g c =
