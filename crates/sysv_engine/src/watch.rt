@@ -2,6 +2,7 @@
 ghost use Rattle.std.specs.Prelude.{◌≡◌, IfSome, false, vec_len};
 ghost use Rattle.sysv_seats.specs.Breaking.{MayBreak};
 
+use crate::alarm::Rest;
 use crate::moment::pause;
 use crate::server_state::ServerState;
 use mio::unix::SourceFd;
@@ -139,15 +140,23 @@ impl Watch<SocketStream> for Polled {
     }
 }
 
-/// Opens a watch for each worker. Returns `None` if memory or a descriptor is refused.
-pub fn watches(net: &impl Net, alloc: Global, server: &ServerState) -> Option<Vec<Polled>>
-    ensures { IfSome result (λ watches. vec_len watches ≡ vec_len server.now.posts) }
+/// Opens a watch for each worker, beside what it rests with. Returns `None` if memory or a
+/// descriptor is refused.
+pub fn watches(
+    net: &impl Net,
+    alloc: Global,
+    server: &ServerState,
+    rests: Vec<Rest>,
+) -> Option<Vec<(Polled, Rest)>>
+    ensures { IfSome result (λ watches. vec_len watches ≡ vec_len rests) }
 {
-    let mut watches = Vec::with_capacity(alloc, server.workers()).ok()?;
-    for worker in 0..server.workers() {
-        let watch = Polled::open(net, alloc, server.doorbell_of(worker))?;
-        watches.push(watch).ok()?;
+    let mut rests = rests;
+    let mut watches = Vec::with_capacity(alloc, rests.len()).ok()?;
+    while let Some(rest) = rests.pop() {
+        let watch = Polled::open(net, alloc, server.doorbell_of(rests.len()))?;
+        watches.push((watch, rest)).ok()?;
     }
+    watches.reverse();
     Some(watches)
 }
 

@@ -211,14 +211,14 @@ fn run<L: Listens, I: Input + Drop, H: Host, R: Threads + Wait + Net + Sync>(
     } = terms;
     *reason = None;
     let workers = workers.min(at_once);
-    let Some(server) = ServerState::open(alloc, workers as usize, at_once as usize, patience, drain)
-    else {
+    let opened = ServerState::open(alloc, workers as usize, at_once as usize, patience, drain);
+    let Some((server, rests)) = opened else {
         return Err(ServeFault::NoMemory);
     };
     let Some(mut books) = empty_books(alloc, at_once) else {
         return Err(ServeFault::NoMemory);
     };
-    let Some(watches) = watches(rt, alloc, &server) else {
+    let Some(watches) = watches(rt, alloc, &server, rests) else {
         return Err(ServeFault::NoMemory);
     };
     let limits = Limits::of_seconds(patience.idle, patience.stall, drain);
