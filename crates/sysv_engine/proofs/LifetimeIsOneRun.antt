@@ -156,7 +156,8 @@ module _ (law : EachSessionMakesCalls zero_moment ⊤) where
       }
 
   pub each_lifetime : EveryHiringObeys → EveryStopRemoves → EveryOrderParksRightly → EachLifetimeIsOneRun
-  each_lifetime obeys stops parks reads blocks gates shifts removed stopped closed counted opened fits hires turns_left =
+  each_lifetime obeys stops parks reads blocks gates shifts removed stopped closed counted opened fits hires
+      turns_left =
       let all = in_all reads shifts (first_pass gates) stopped.before hires in
       let stop = stops _ stopped.removed stopped.worn stopped.before stopped.after stopped.stops in
       let served : IsServed 0 blocks counted.all.order (all_of all.done.each ++ stop.0) =

@@ -219,7 +219,8 @@ module _ {L I H : Type 0} (told : L → Option (List SocketStream)) (listens : L
     opened = served.opened;
     shifts = served.shifts;
     worked = record {
-      places = as_books untold untold closing_sockets served.gates books served.desks served.shifts books' served.in_team
+      places =
+          as_books untold untold closing_sockets served.gates books served.desks served.shifts books' served.in_team
           ∙ counted;
       passes = served.in_team.passes;
       sums = served.sums;

@@ -8,5 +8,6 @@ pub returns-clause-ends : goal.returns-clause-ends
 returns-clause-ends g c =
     let terms = c.args.serving.now.terms in
     subst (λ places.
-    IfOk c.serve_listener.result (λ ended. EndsOn terms.stats terms.blocks places terms.sessions (limits_in terms) ended))
+    IfOk c.serve_listener.result
+    (λ ended. EndsOn terms.stats terms.blocks places terms.sessions (limits_in terms) ended))
     c.room.ensures.exact c.serve_listener.ensures.ok
