@@ -13,4 +13,3 @@ pub mod Serving
 pub mod Headline
 pub mod Places
 pub mod Heeding
-pub mod Waking

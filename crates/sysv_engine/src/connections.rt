@@ -7,7 +7,6 @@ ghost use Rattle.sysv_engine.specs.Added.{IsBalanced};
 ghost use Rattle.sysv_engine.specs.Headline.{ServesConnections};
 ghost use Rattle.sysv_engine.specs.Serving.{FaultOf, HasLived, HiredFrom, LeavesConnections, WorkedFrom};
 
-use crate::alarm::Rest;
 use crate::dealing::{Dealing, shares};
 use crate::fault::ServeFault;
 use crate::laws::each_lifetime_is_one_run;
@@ -70,27 +69,24 @@ where
         (HasLived false blocks) source.old books.old.items why source.new books.new.items) }
 {
     let (count, places) = (workers as usize, books.len());
-    let opened = ServerState::open(alloc, count, places, Patience::UNBOUNDED, 0);
-    let Some((server, rests)) = opened else {
+    let Some(server) = ServerState::open(alloc, count, places, Patience::UNBOUNDED, 0) else {
         return Err(ServeFault::NoMemory);
     };
-    let Some(watches) = watches(alloc, rests, places) else {
+    let Some(watches) = watches(alloc, count, places) else {
         return Err(ServeFault::NoMemory);
     };
     serve_all(rt, alloc, source, books, blocks, watches, &server)
 }
 
-/// Creates a watch of at most `places` places for each worker, beside what it rests with. Returns
-/// `None` if memory is refused.
-fn watches(alloc: Global, rests: Vec<Rest>, places: usize) -> Option<Vec<(Rounds, Rest)>>
-    ensures { IfSome result (λ watches. vec_len watches ≡ vec_len rests) }
+/// Creates this number of watches, each of at most `places` places. Returns `None` if memory is
+/// refused.
+fn watches(alloc: Global, count: usize, places: usize) -> Option<Vec<Rounds>>
+    ensures { IfSome result (λ watches. vec_len watches ≡ count) }
 {
-    let mut rests = rests;
-    let mut watches = Vec::with_capacity(alloc, rests.len()).ok()?;
-    while let Some(rest) = rests.pop() {
-        watches.push((Rounds::open(alloc, places)?, rest)).ok()?;
+    let mut watches = Vec::with_capacity(alloc, count).ok()?;
+    for _ in 0..count {
+        watches.push(Rounds::open(alloc, places)?).ok()?;
     }
-    watches.reverse();
     Some(watches)
 }
 
@@ -106,7 +102,7 @@ pub fn serve_all<
     source: &mut S,
     books: &mut Vec<T::Book>,
     blocks: u32,
-    watches: Vec<(W, Rest)>,
+    watches: Vec<W>,
     server: &ServerState,
 ) -> Result<Ended, ServeFault>
 where
@@ -154,7 +150,7 @@ pub(crate) fn serve_with<
     pass: &mut Pass,
     source: &mut S,
     books: &mut Vec<T::Book>,
-    watches: Vec<(W, Rest)>,
+    watches: Vec<W>,
     server: &ServerState,
 ) -> Result<(Sums, u64), ServeFault>
 where

@@ -103,11 +103,11 @@ impl<'a, 'c, R: Wait> Serving<'a, 'c, R> {
         ensures { KeepsAll T.incoming T.outgoing T.closes worker.old.places.items
             worker.new.places.items }
     {
-        let has_come = self.rest(worker);
+        self.rest(worker);
         self.note_ready(worker);
         worker.begin_looks();
-        if has_come {
-            read_envelopes(self, worker);
+        if self.server.wake_up(worker.agenda.number()) {
+            self.read(worker);
         }
         self.spread(worker);
         self.serve_ready(worker);
@@ -118,15 +118,12 @@ impl<'a, 'c, R: Wait> Serving<'a, 'c, R> {
         }
     }
 
-    /// Waits until a client has an event, or something came for the worker, and takes what the worker
-    /// was told into its agenda. Returns whether anyone has rung since it last woke up.
-    fn rest<T: NonBlocking, W: Watch<T>>(&self, worker: &mut Worker<'a, R, T, W>) -> bool
+    /// Waits until a client has an event, or something came for the worker.
+    fn rest<T: NonBlocking, W: Watch<T>>(&self, worker: &mut Worker<'a, R, T, W>)
         ensures { worker.new.places ≡ worker.old.places }
     {
-        if self.spin(worker) {
-            worker.wake_up()
-        } else {
-            self.sleep(worker)
+        if !self.spin(worker) {
+            self.sleep(worker);
         }
     }
 
@@ -166,22 +163,28 @@ impl<'a, 'c, R: Wait> Serving<'a, 'c, R> {
         if !is_idle || !self.server.has_few_clients() || !worker.spinning.is_due() {
             return false;
         }
-        let found = look(&worker.rest, &mut worker.watch, &mut worker.ready);
+        let found = look(
+            self.server,
+            worker.agenda.number(),
+            &mut worker.watch,
+            &mut worker.ready,
+        );
         worker.spinning.learn(found);
         found.is_some()
     }
 
-    /// Sleeps until a client has an event, or something came for the worker, and wakes up. It does
-    /// not sleep if there is more to do. Returns what `Worker::sleep` does.
-    fn sleep<T: NonBlocking, W: Watch<T>>(&self, worker: &mut Worker<'a, R, T, W>) -> bool
+    /// Sleeps until a client has an event, or something came for the worker. It does not sleep if
+    /// there is more to do.
+    fn sleep<T: NonBlocking, W: Watch<T>>(&self, worker: &mut Worker<'a, R, T, W>)
         ensures { worker.new.places ≡ worker.old.places }
     {
-        let limit = if worker.has_more() {
-            Some(0)
-        } else {
+        let may_sleep = self.server.fall_asleep(worker.agenda.number());
+        let limit = if may_sleep && !worker.has_more() {
             worker.check.map(Moment::left)
+        } else {
+            Some(0)
         };
-        worker.sleep(limit)
+        worker.wait(limit);
     }
 
     /// Serves a client of which the watch reports an event.
@@ -360,6 +363,16 @@ impl<'a, 'c, R: Wait> Serving<'a, 'c, R> {
             worker.free.push_reserved(place);
         }
         self.server.close(worker.agenda.number(), &served.tally);
+    }
+
+    /// Reads what came for the worker from other workers.
+    fn read<T: NonBlocking, W: Watch<T>>(&self, worker: &mut Worker<'a, R, T, W>)
+        ensures { KeepsAll T.incoming T.outgoing T.closes worker.old.places.items
+            worker.new.places.items }
+    {
+        let number = worker.agenda.number();
+        self.server.take_changes(number, &mut worker.agenda);
+        read_envelopes(self, worker);
     }
 
     /// Heeds what has changed, here and in other workers, as far as the worker's share of looks

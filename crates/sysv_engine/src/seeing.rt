@@ -8,7 +8,6 @@ ghost use Rattle.sysv_engine.specs.Headline.{ServesConnections};
 ghost use Rattle.sysv_engine.specs.Looks.{Looks};
 ghost use Rattle.sysv_engine.specs.Serving.{HasLived, HiredFrom, LeavesConnections, WorkedFrom};
 
-use crate::alarm::Rest;
 use crate::arrivals::Arrivals;
 use crate::connections::{given_back, serve_with};
 use crate::fault::ServeFault;
@@ -38,7 +37,7 @@ pub fn serve_arrivals<
     source: &mut S,
     books: &mut Vec<T::Book>,
     blocks: u32,
-    watches: Vec<(W, Rest)>,
+    watches: Vec<W>,
     server: &ServerState,
     reads: bool,
 ) -> Result<Ended, ServeFault>
@@ -88,7 +87,7 @@ fn serve_seeing<
     pass: &mut Pass,
     source: &mut S,
     books: &mut Vec<T::Book>,
-    watches: Vec<(W, Rest)>,
+    watches: Vec<W>,
     server: &ServerState,
     reads: bool,
 ) -> Result<(Sums, u64), ServeFault>

@@ -2,7 +2,7 @@
 ghost use Rattle.std.specs.Prelude.{◌≡◌, ◌-◌, ◌↔◌, IsTrue};
 ghost use Rattle.sysv_engine.specs.Spinning.{learned};
 
-use crate::alarm::Rest;
+use crate::server_state::ServerState;
 use crate::watch::{Ready, Watch};
 use std::hint::spin_loop;
 
@@ -66,13 +66,14 @@ impl Spinning {
 /// Looks for events of a worker's clients until there is one, or something has come for the worker,
 /// for some microseconds. Returns which look found it, from 0 on, if one did.
 pub(crate) fn look<T, W: Watch<T>>(
-    rest: &Rest,
+    server: &ServerState,
+    worker: usize,
     watch: &mut W,
     ready: &mut Vec<Ready>,
 ) -> Option<u32> {
     for look in 0..LOOKS {
         watch.look(ready);
-        if !ready.is_empty() || rest.has_come() {
+        if !ready.is_empty() || server.has_come(worker) {
             return Some(look);
         }
         for _ in 0..PAUSES {

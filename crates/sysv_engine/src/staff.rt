@@ -6,7 +6,6 @@ ghost use Rattle.sysv_service.specs.Seats.{AreOf};
 ghost use Rattle.sysv_thread_laws.specs.Hiring.{Gives};
 ghost use Rattle.sysv_engine.specs.Places.{IsOpened, KeepsAll};
 
-use crate::alarm::Rest;
 use crate::place::Place;
 use crate::team::{hire, vacate};
 use crate::watch::Watch;
@@ -20,7 +19,7 @@ use sysv_service::{Pass, Service};
 /// each for at least one and all for about the same number. Returns `None` if memory is refused.
 pub(crate) fn kits<'a, R: Wait, T: NonBlocking, W: Drop>(
     alloc: Global,
-    watches: Vec<(W, Rest)>,
+    watches: Vec<W>,
     places: usize,
 ) -> Option<Vec<Kit<'a, R, T, W>>>
     requires { (1 ≤ vec_len watches) × (vec_len watches ≤ places) }
@@ -32,10 +31,10 @@ pub(crate) fn kits<'a, R: Wait, T: NonBlocking, W: Drop>(
     let mut watches = watches;
     let mut kits = Vec::with_capacity(alloc, watches.len()).ok()?;
     let mut left = places;
-    while let Some((watch, rest)) = watches.pop() {
+    while let Some(watch) = watches.pop() {
         let count = share(left, watches.len());
         left -= count;
-        let Some(kit) = Kit::open(alloc, watches.len(), count, watch, rest) else {
+        let Some(kit) = Kit::open(alloc, watches.len(), count, watch) else {
             discard(kits);
             return None;
         };

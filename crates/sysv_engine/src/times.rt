@@ -48,8 +48,8 @@ impl Times {
         if awaits != self.awaits {
             self.awaits = awaits;
             self.due = match awaits {
-                Awaits::Begin(_) => end_of(patience.idle),
-                Awaits::Rest(_) | Awaits::Room(_) => end_of(patience.stall),
+                Awaits::Begin(_) => Moment::after(patience.idle),
+                Awaits::Rest(_) | Awaits::Room(_) => Moment::after(patience.stall),
                 Awaits::Call => None,
             };
         }
@@ -76,10 +76,4 @@ impl Times {
         }
         Awaits::Begin(client.requests())
     }
-}
-
-/// Returns when a limit of this number of seconds from now ends, or `None` (never) for 0. Limits end
-/// only at ticks, so a worker looks at its clients once for all that end between two ticks.
-fn end_of(seconds: u32) -> Option<Moment> {
-    Moment::after(seconds).map(Moment::tick)
 }

@@ -1,7 +1,6 @@
 //! What reports which clients have events.
 ghost use Rattle.std.specs.Prelude.{◌≡◌, IfSome, vec_len};
 
-use crate::alarm::Rest;
 use crate::moment::pause;
 use crate::server_state::ServerState;
 use mio::unix::SourceFd;
@@ -137,23 +136,15 @@ impl<T: AsRawFd> Watch<T> for Polled {
     }
 }
 
-/// Opens a watch for each worker, beside what it rests with. Returns `None` if memory or a
-/// descriptor is refused.
-pub fn watches(
-    net: &impl Net,
-    alloc: Global,
-    server: &ServerState,
-    rests: Vec<Rest>,
-) -> Option<Vec<(Polled, Rest)>>
-    ensures { IfSome result (λ watches. vec_len watches ≡ vec_len rests) }
+/// Opens a watch for each worker. Returns `None` if memory or a descriptor is refused.
+pub fn watches(net: &impl Net, alloc: Global, server: &ServerState) -> Option<Vec<Polled>>
+    ensures { IfSome result (λ watches. vec_len watches ≡ vec_len server.now.posts) }
 {
-    let mut rests = rests;
-    let mut watches = Vec::with_capacity(alloc, rests.len()).ok()?;
-    while let Some(rest) = rests.pop() {
-        let watch = Polled::open(net, alloc, server.doorbell_of(rests.len()))?;
-        watches.push((watch, rest)).ok()?;
+    let mut watches = Vec::with_capacity(alloc, server.workers()).ok()?;
+    for worker in 0..server.workers() {
+        let watch = Polled::open(net, alloc, server.doorbell_of(worker))?;
+        watches.push(watch).ok()?;
     }
-    watches.reverse();
     Some(watches)
 }
 

@@ -1,10 +1,8 @@
 //! The workers of a server: their places, and what happens at each.
 ghost use Rattle.std.specs.Prelude.{◌≡◌, ◌≤◌, ◌⊎◌, vec_len, vec_capacity, [], false, IfSome, Some};
 ghost use Rattle.sysv_parking.specs.Agenda.{IsAtRest};
-ghost use Rattle.sysv_engine.specs.Waking.{WakesUp};
 ghost use Rattle.sysv_engine.specs.Places.{AdoptsOne, IsVacantAt, KeepsAll};
 
-use crate::alarm::Rest;
 use crate::counts::Moved;
 use crate::moment::Moment;
 use crate::place::Place;
@@ -40,7 +38,6 @@ pub(crate) struct Worker<'a, R: Wait, T: NonBlocking, W> {
     /// The places without a client.
     pub(crate) free: Vec<usize>,
     pub(crate) watch: W,
-    pub(crate) rest: Rest,
     pub(crate) ready: Vec<Ready>,
     /// What is still to do for the parked calls.
     pub(crate) agenda: Agenda,
@@ -72,7 +69,6 @@ pub(crate) struct Kit<'a, R: Wait, T: NonBlocking, W> {
     turns: VecDeque<usize>,
     tools: Tools,
     watch: W,
-    rest: Rest,
 }
 
 impl<'a, R: Wait, T: NonBlocking, W: Drop> Kit<'a, R, T, W> {
@@ -83,7 +79,6 @@ impl<'a, R: Wait, T: NonBlocking, W: Drop> Kit<'a, R, T, W> {
         number: usize,
         count: usize,
         watch: W,
-        rest: Rest,
     ) -> Option<Kit<'a, R, T, W>>
         ensures { IfSome result (λ kit. (kit.places.items ≡ [])
             × (vec_capacity kit.places ≡ count)) }
@@ -102,7 +97,6 @@ impl<'a, R: Wait, T: NonBlocking, W: Drop> Kit<'a, R, T, W> {
             turns,
             tools,
             watch,
-            rest,
         })
     }
 }
@@ -120,7 +114,6 @@ impl<R: Wait, T: NonBlocking, W: Drop> Kit<'_, R, T, W> {
             turns: _,
             tools: _,
             watch: _,
-            rest: _,
         } = self;
         places.destroy_empty();
     }
@@ -139,13 +132,11 @@ impl<'a, R: Wait, T: NonBlocking, W: Watch<T>> Worker<'a, R, T, W> {
             turns,
             tools,
             watch,
-            rest,
         } = kit;
         Worker {
             places,
             free,
             watch,
-            rest,
             ready,
             agenda,
             turns,
@@ -170,7 +161,6 @@ impl<'a, R: Wait, T: NonBlocking, W: Watch<T>> Worker<'a, R, T, W> {
             places,
             free: _,
             watch: _,
-            rest: _,
             ready: _,
             agenda: _,
             turns: _,
@@ -226,31 +216,17 @@ impl<'a, R: Wait, T: NonBlocking, W: Watch<T>> Worker<'a, R, T, W> {
         !self.turns.is_empty() || self.agenda.has_more()
     }
 
-    /// Sleeps until a client has an event, something came for the worker, or the limit is over, and
-    /// takes what the worker was told into its agenda. Returns whether anyone has rung since it last
-    /// woke up.
+    /// Sleeps until a client has an event, something came for the worker, or the limit is over.
     ///
     /// # Conditions
     ///
     /// - There is nothing to do for parked calls, or the limit is 0.
-    pub(crate) fn sleep(&mut self, limit: Option<u64>) -> bool
+    pub(crate) fn wait(&mut self, limit: Option<u64>)
         requires { (limit ≡ Some 0) ⊎ IsAtRest self.old.agenda }
         ensures places { self.new.places ≡ self.old.places }
-        ensures wakes { WakesUp result self.old.rest.seat self.new.rest.seat self.old.agenda
-            self.new.agenda }
+        ensures agenda { self.new.agenda ≡ self.old.agenda }
     {
-        let (agenda, watch) = (&mut self.agenda, &mut self.watch);
-        self.rest.sleep(limit, agenda, watch, &mut self.ready)
-    }
-
-    /// Takes what the worker was told into its agenda. Returns whether anyone has rung since it last
-    /// woke up.
-    pub(crate) fn wake_up(&mut self) -> bool
-        ensures places { self.new.places ≡ self.old.places }
-        ensures wakes { WakesUp result self.old.rest.seat self.new.rest.seat self.old.agenda
-            self.new.agenda }
-    {
-        self.rest.wake_up(&mut self.agenda)
+        self.watch.wait(limit, &mut self.ready);
     }
 
     /// Returns whether there are no clients.

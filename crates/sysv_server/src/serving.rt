@@ -208,14 +208,14 @@ fn run<L: Listens, I: Input + Drop, H: Host, R: Threads + Wait + Net + Sync>(
     } = terms;
     *reason = None;
     let workers = workers.min(at_once);
-    let opened = ServerState::open(alloc, workers as usize, at_once as usize, patience, drain);
-    let Some((server, rests)) = opened else {
+    let Some(server) = ServerState::open(alloc, workers as usize, at_once as usize, patience, drain)
+    else {
         return Err(ServeFault::NoMemory);
     };
     let Some(mut books) = empty_books(alloc, at_once) else {
         return Err(ServeFault::NoMemory);
     };
-    let Some(watches) = watches(rt, alloc, &server, rests) else {
+    let Some(watches) = watches(rt, alloc, &server) else {
         return Err(ServeFault::NoMemory);
     };
     let mut source = Accepting::new(

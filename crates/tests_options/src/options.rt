@@ -251,9 +251,9 @@ const REFUSED: [(&[&str], &str); 16] = [
     ),
     (
         &[
-            "sysvmsg", "rcv", "./q", "7", "--count", "2", "--ahead", "257",
+            "sysvmsg", "rcv", "./q", "7", "--count", "2", "--ahead", "65",
         ],
-        "receives ahead is 1 to 256",
+        "receives ahead is 1 to 64",
     ),
     (
         &["sysvmsg", "snd", "./q", "7", "hello", "--uid", "x"],
