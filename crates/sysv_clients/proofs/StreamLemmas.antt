@@ -1,10 +1,9 @@
 -- A session of several messages in progress, and how it ends.
 use Rattle.std.proofs.Common.{◌≡◌, ℕ, zero, suc, pos, ◌+◌, ◌-◌, ◌<◌, ◌≤◌, List, [], ◌∷◌, ◌++◌, Option, None}
-use Rattle.std.proofs.Common.{Bool, Some, false}
+use Rattle.std.proofs.Common.{Some, length}
 use Rattle.std.proofs.Common.{Ok, Err, ◌⊎◌, inl, inr, refl, sym, ap, subst, ◌∙◌, append_assoc, append-nil, arith}
 use Rattle.std.proofs.lemmas.List.{length-append}
 use Rattle.std.proofs.lemmas.List.Concat.{flat_map-append}
-use Rattle.std.specs.Prelude.{⊤}
 use Rattle.std.specs.Io.KnownBytes.{Appends, Consumes}
 use Rattle.std.proofs.KnownBytes.{Appends-nil, Appends-trans, Consumes-nil, Consumes-trans}
 use Rattle.sysv_clients.specs.declared.fault.ClientFault.{ClientFault}
@@ -12,19 +11,20 @@ use Rattle.sysv_clients.specs.declared.fault.ClientFault.TheVariants.{Refused, N
 use Rattle.sysv_clients.specs.declared.stream.Receiving.{Receiving}
 use Rattle.sysv_clients.specs.declared.stream.Stop.TheVariants.{Fault, Screen}
 use Rattle.sysv_clients.specs.declared.stream.Taking.{Taking}
+use Rattle.sysv_clients.specs.declared.stream.Unshown.{Unshown}
 use Rattle.sysv_clients.specs.declared.style.Style.{Style}
 use Rattle.sysv_clients.specs.Asks.{find_ask, receive_ask, request_of}
 use Rattle.sysv_clients.specs.Calls.{BreaksPlan, Call, Each, IsCallDone, Made, read_by, written_by}
-use Rattle.sysv_clients.specs.Stream.{EndsTakes, EndsTaking, IsRefusedIn, IsReplied, TakesAll, ahead_of}
+use Rattle.sysv_clients.specs.Stream.{AreTakenByScreen, EndsTakes, EndsTaking, IsRefusedIn, IsReplied, IsUnshown}
+use Rattle.sysv_clients.specs.Stream.{TakesAll, ahead_of}
 use Rattle.sysv_clients.specs.Stream.{count_of, finding_plan, received_text, repeated_encoding, shown_by, taking_ask}
 use Rattle.sysv_clients.specs.Style.{style_of_receipt}
-use Rattle.sysv_clients.specs.Taking.{Finds, IsTaken, MeetsFault, Stops, Takes, first_fault}
+use Rattle.sysv_clients.specs.Taking.{Finds, IsTaken, MeetsFault, ShowsBut, ShowsPart, Stops, Takes, TakesBut}
+use Rattle.sysv_clients.specs.Taking.{ended_by, first_fault}
 use Rattle.sysv_clients.specs.Dialogue.{Exchanges, HasNoReply, IsDone, id_after, reply_to}
 use Rattle.sysv_clients.proofs.CallLemmas.{call_of, done_more, none_made, written_more}
 use Rattle.sysv_clients.proofs.SendLemmas.{between, between_first, between_second, each_more, read_so}
 use Rattle.sysv_model.specs.declared.errno.Errno.{Errno}
-use Rattle.sysv_model.specs.declared.instrumented.Instrumented.{Instrumented}
-use Rattle.sysv_model.specs.Instrumented.{KeepsStream, failures_after}
 use Rattle.sysv_model.specs.Writing.{AppendsPrefix}
 use Rattle.sysv_wire.specs.declared.reply.ReplyContent.{ReplyContent}
 use Rattle.sysv_wire.specs.declared.reply.ReplyContent.TheVariants as content
@@ -32,14 +32,6 @@ use Rattle.sysv_wire.specs.declared.request.Ask.{Ask}
 use Rattle.sysv_wire.specs.declared.request.Ask.TheVariants.{Hello}
 use Rattle.sysv_wire.specs.Replies.{reply_encoding}
 use Rattle.sysv_wire.specs.Requests.{request_encoding}
-
--- A stream that had not failed is the same stream after a further call.
-pub keeps_on : {S : Type 0} {before mid after : Instrumented S} {fails : Bool} → KeepsStream before mid false
-    → KeepsStream mid after fails → KeepsStream before after fails
-keeps_on {fails} first next = record {
-  same = next.same ∙ first.same;
-  failed = next.failed ∙ ap (λ (n : ℕ). failures_after fails n) first.failed;
-}
 
 -- A request that is this one.
 as_ask : (ask of : Ask) (text given : List ℕ) (r : _) (left rest taken more : Option (List ℕ)) → ask ≡ of
@@ -137,10 +129,10 @@ not_found receiving welcome why greeted given text left mid rest taken more most
     )
 
 -- A request before the first receive ends the session.
-pub unfound : (receiving : Receiving) (why : ClientFault) (left rest taken more shown : Option (List ℕ))
-    → Finds receiving (Err why) left rest taken more
-    → TakesAll receiving (Err (Fault why)) left rest taken more shown shown
-unfound receiving (Refused error) left rest taken more shown (opened, unread, written, made, breaks) = record {
+pub unfound : (page : List ℕ) (receiving : Receiving) (why : ClientFault)
+    (left rest taken more shown : Option (List ℕ)) → page ≡ [] → Finds receiving (Err why) left rest taken more
+    → TakesBut page receiving (Err (Fault why)) left rest taken more shown shown
+unfound page receiving (Refused error) left rest taken more shown is (opened, unread, written, made, breaks) = record {
   opened = opened;
   takes = [];
   waiting = 0;
@@ -153,9 +145,9 @@ unfound receiving (Refused error) left rest taken more shown (opened, unread, wr
   reads = subst (λ l. Consumes left unread (read_by l)) (sym (append-nil opened)) made.reads;
   writes = subst (λ l. Appends taken written (written_by l)) (sym (append-nil opened)) made.writes;
   ends = inl (record { no_takes = refl; none = refl; breaks = breaks });
-  shows = Appends-nil shown;
+  shows = ([], sym is, Appends-nil shown);
 }
-unfound receiving NoReply left rest taken more shown (opened, unread, written, made, breaks) = record {
+unfound page receiving NoReply left rest taken more shown is (opened, unread, written, made, breaks) = record {
   opened = opened;
   takes = [];
   waiting = 0;
@@ -168,9 +160,9 @@ unfound receiving NoReply left rest taken more shown (opened, unread, written, m
   reads = subst (λ l. Consumes left unread (read_by l)) (sym (append-nil opened)) made.reads;
   writes = subst (λ l. Appends taken written (written_by l)) (sym (append-nil opened)) made.writes;
   ends = inl (record { no_takes = refl; none = refl; breaks = breaks });
-  shows = Appends-nil shown;
+  shows = ([], sym is, Appends-nil shown);
 }
-unfound receiving NoMemory left rest taken more shown (opened, unread, written, made, breaks) = absurd breaks.2
+unfound page receiving NoMemory left rest taken more shown is (opened, unread, written, made, breaks) = absurd breaks.2
 
 -- Memory is refused, and no request was made.
 pub refused : (receiving : Receiving) (left taken shown : Option (List ℕ))
@@ -192,10 +184,10 @@ refused receiving left taken shown = record {
 }
 
 -- The queue was found, and nothing was received yet.
-pub begins : (receiving : Receiving) (taking : Taking) (left rest taken more shown : Option (List ℕ))
-    → Finds receiving (Ok taking) left rest taken more
-    → Takes receiving left rest taken more shown shown taking
-begins receiving taking left rest taken more shown (opened, made, found, is, count, none) = record {
+pub begins : (page : List ℕ) (receiving : Receiving) (taking : Taking) (left rest taken more shown : Option (List ℕ))
+    → page ≡ [] → Finds receiving (Ok taking) left rest taken more
+    → Takes page receiving left rest taken more shown shown taking
+begins page receiving taking left rest taken more shown empty (opened, made, found, is, count, none) = record {
   opened = opened;
   takes = [];
   follows = made.follows;
@@ -207,7 +199,7 @@ begins receiving taking left rest taken more shown (opened, made, found, is, cou
       Appends taken more (written_by (opened ++ []) ++ repeated_encoding (taking_ask receiving opened) n)) (sym none)
       (subst (Appends taken more) (sym (append-nil (written_by (opened ++ []))))
       (subst (λ l. Appends taken more (written_by l)) (sym (append-nil opened)) made.writes));
-  shows = Appends-nil shown;
+  shows = ([], sym empty, Appends-nil shown);
   owes = omega (arith, count);
   due = omega (arith, none);
   few = omega (arith, none);
@@ -225,13 +217,14 @@ repeated_more ask (suc count) more =
     ∙ sym (append_assoc frame (repeated_encoding ask count) (repeated_encoding ask more))
 
 -- More receives were written.
-pub asks_more : (receiving : Receiving) (left rest taken more most shown after : Option (List ℕ)) (taking now : Taking)
+pub asks_more : (page : List ℕ) (receiving : Receiving) (left rest taken more most shown after : Option (List ℕ))
+    (taking now : Taking)
     (added : ℕ)
-    → Takes receiving left rest taken more shown after taking → now.ask ≡ taking.ask → now.owed ≡ taking.owed
+    → Takes page receiving left rest taken more shown after taking → now.ask ≡ taking.ask → now.owed ≡ taking.owed
     → now.waiting ≡ taking.waiting + added → now.waiting ≤ taking.owed → now.waiting ≤ ahead_of receiving
     → Appends more most (repeated_encoding taking.ask added)
-    → Takes receiving left rest taken most shown after now
-asks_more receiving left rest taken more most shown after taking now added so_far same owes many due few wrote =
+    → Takes page receiving left rest taken most shown after now
+asks_more page receiving left rest taken more most shown after taking now added so_far same owes many due few wrote =
     let ask = taking_ask receiving so_far.opened in
     let calls = so_far.opened ++ so_far.takes in
     let frames = repeated_encoding ask taking.waiting in
@@ -262,16 +255,19 @@ shown_more style calls one =
     ∙ ap (λ l. shown_by style calls ++ l) (append-nil (received_text style one.answer one.given))
 
 -- A message in this style.
-pub as_shown : (style of : Style) (answer : ReplyContent) (given : List ℕ) (shown after : Option (List ℕ)) → style ≡ of
-    → Appends shown after (received_text style answer given) → Appends shown after (received_text of answer given)
-as_shown style of answer given shown after is shows =
-    subst (λ (s : Style). Appends shown after (received_text s answer given)) is shows
+pub as_shown : (page now : List ℕ) (style of : Style) (answer : ReplyContent) (given : List ℕ)
+    (shown after : Option (List ℕ)) → style ≡ of
+    → ShowsBut now (page ++ received_text style answer given) shown after
+    → ShowsBut now (page ++ received_text of answer given) shown after
+as_shown page now style of answer given shown after is shows =
+    subst (λ (s : Style). ShowsBut now (page ++ received_text s answer given) shown after) is shows
 
-pub as_prefix : (style of : Style) (answer : ReplyContent) (given : List ℕ) (shown after : Option (List ℕ)) → style ≡ of
-    → AppendsPrefix shown after (received_text style answer given)
-    → AppendsPrefix shown after (received_text of answer given)
-as_prefix style of answer given shown after is shows =
-    subst (λ (s : Style). AppendsPrefix shown after (received_text s answer given)) is shows
+pub as_part : (page : List ℕ) (style of : Style) (answer : ReplyContent) (given : List ℕ)
+    (shown after : Option (List ℕ)) → style ≡ of
+    → ShowsPart (page ++ received_text style answer given) shown after
+    → ShowsPart (page ++ received_text of answer given) shown after
+as_part page style of answer given shown after is shows =
+    subst (λ (s : Style). ShowsPart (page ++ received_text s answer given) shown after) is shows
 
 -- The frames of the calls with one more, and of the receives after it.
 written_so : (opened takes : List Call) (ask : Ask) (answer : ReplyContent) (given : List ℕ) (count : ℕ) →
@@ -305,22 +301,110 @@ reads_so left mid rest opened takes ask of answer given is before read =
     (Consumes-trans left mid rest _ _ before
     (subst (λ (a : Ask). Consumes mid rest (reply_encoding (reply_to a answer) given)) is read))
 
-shows_so : (shown so after : Option (List ℕ)) (style : Style) (takes : List Call) (one : Call)
-    → Appends shown so (shown_by style takes) → Appends so after (received_text style one.answer one.given)
-    → Appends shown after (shown_by style (takes ++ one ∷ []))
-shows_so shown so after style takes one before shows =
-    subst (Appends shown after) (sym (shown_more style takes one)) (Appends-trans shown so after _ _ before shows)
+-- A prefix of some bytes is one of these and others.
+longer_prefix : (taken more : Option (List ℕ)) (bytes others : List ℕ) → AppendsPrefix taken more bytes →
+    AppendsPrefix taken more (bytes ++ others)
+longer_prefix taken more bytes others (part, (rest, split), wrote) = (
+  part,
+  (rest ++ others, ap (λ (l : List ℕ). l ++ others) split ∙ append_assoc part rest others),
+  wrote,
+)
+
+-- A prefix after all of the bytes before it.
+prefix_after : (taken mid more : Option (List ℕ)) (bytes others : List ℕ) → Appends taken mid bytes →
+    AppendsPrefix mid more others → AppendsPrefix taken more (bytes ++ others)
+prefix_after taken mid more bytes others first (part, (rest, split), second) = (
+  bytes ++ part,
+  (rest, ap (λ (l : List ℕ). bytes ++ l) split ∙ sym (append_assoc bytes part rest)),
+  Appends-trans taken mid more bytes part first second,
+)
+
+-- More was collected or shown.
+but_more : (page now text more : List ℕ) (shown so after : Option (List ℕ)) → ShowsBut page text shown so
+    → ShowsBut now (page ++ more) so after → ShowsBut now (text ++ more) shown after
+but_more page now text more shown so after (part, split, shows) (next, joined, adds) = (
+  part ++ next,
+  ap (λ (l : List ℕ). l ++ more) split ∙ append_assoc part page more ∙ ap (λ (l : List ℕ). part ++ l) joined
+      ∙ sym (append_assoc part next now),
+  Appends-trans shown so after part next shows adds,
+)
+
+-- The page is the same, and so is what was shown.
+but_same : (page now text : List ℕ) (shown so after : Option (List ℕ)) → now ≡ page → after ≡ so
+    → ShowsBut page text shown so → ShowsBut now text shown after
+but_same page now text shown so after same kept shows =
+    subst (λ (l : List ℕ). ShowsBut l text shown after) (sym same)
+    (subst (λ (s : Option (List ℕ)). ShowsBut page text shown s) (sym kept) shows)
+
+-- The screen failed at the page and more.
+part_more : (page text more : List ℕ) (shown so after : Option (List ℕ)) → ShowsBut page text shown so
+    → ShowsPart (page ++ more) so after → ShowsPart (text ++ more) shown after
+part_more page text more shown so after (part, split, shows) (some, fails) =
+    let whole : part ++ (page ++ more) ≡ text ++ more =
+    sym (append_assoc part page more) ∙ ap (λ (l : List ℕ). l ++ more) (sym split) in (
+      subst (λ (l : List ℕ). 0 < length l) whole (omega (arith, some, length-append part (page ++ more))),
+      subst (AppendsPrefix shown after) whole (prefix_after shown so after part (page ++ more) shows fails),
+    )
+
+-- More was collected, and then all of it was shown.
+pub but_whole : (page text more whole now : List ℕ) (shown so after : Option (List ℕ)) → ShowsBut page text shown so
+    → whole ≡ page ++ more → now ≡ [] → Appends so after whole → ShowsBut now (text ++ more) shown after
+but_whole page text more whole now shown so after (part, split, shows) is none adds = (
+  part ++ whole,
+  ap (λ (l : List ℕ). l ++ more) split ∙ append_assoc part page more ∙ ap (λ (l : List ℕ). part ++ l) (sym is)
+      ∙ sym (append-nil (part ++ whole)) ∙ ap (λ (l : List ℕ). (part ++ whole) ++ l) (sym none),
+  Appends-trans shown so after part whole shows adds,
+)
+
+-- More was collected, and then the screen failed.
+pub part_whole : (page text more whole : List ℕ) (shown so after : Option (List ℕ)) → ShowsBut page text shown so
+    → whole ≡ page ++ more → ShowsPart whole so after → ShowsPart (text ++ more) shown after
+part_whole page text more whole shown so after shows is fails =
+    part_more page text more shown so after shows (subst (λ (l : List ℕ). ShowsPart l so after) is fails)
+
+-- The screen failed before more was collected.
+pub part_longer : (text more : List ℕ) (shown after : Option (List ℕ)) → ShowsPart text shown after →
+    ShowsPart (text ++ more) shown after
+part_longer text more shown after (some, fails) =
+    (omega (arith, some, length-append text more), longer_prefix shown after text more fails)
+
+shows_so : (page now : List ℕ) (shown so after : Option (List ℕ)) (style : Style) (takes : List Call) (one : Call)
+    → ShowsBut page (shown_by style takes) shown so
+    → ShowsBut now (page ++ received_text style one.answer one.given) so after
+    → ShowsBut now (shown_by style (takes ++ one ∷ [])) shown after
+shows_so page now shown so after style takes one before shows =
+    subst (λ (l : List ℕ). ShowsBut now l shown after) (sym (shown_more style takes one))
+    (but_more page now (shown_by style takes) (received_text style one.answer one.given) shown so after before shows)
+
+part_so : (page : List ℕ) (shown so after : Option (List ℕ)) (style : Style) (takes : List Call) (one : Call)
+    → ShowsBut page (shown_by style takes) shown so
+    → ShowsPart (page ++ received_text style one.answer one.given) so after
+    → ShowsPart (shown_by style (takes ++ one ∷ [])) shown after
+part_so page shown so after style takes one before shows =
+    subst (λ (l : List ℕ). ShowsPart l shown after) (sym (shown_more style takes one))
+    (part_more page (shown_by style takes) (received_text style one.answer one.given) shown so after before shows)
+
+-- A receive that was refused shows nothing.
+same_so : (page now : List ℕ) (shown so after : Option (List ℕ)) (style : Style) (takes : List Call) (one : Call)
+    → received_text style one.answer one.given ≡ [] → now ≡ page → after ≡ so
+    → ShowsBut page (shown_by style takes) shown so
+    → ShowsBut now (shown_by style (takes ++ one ∷ [])) shown after
+same_so page now shown so after style takes one none same kept before =
+    subst (λ (l : List ℕ). ShowsBut now l shown after)
+    (sym (shown_more style takes one ∙ ap (λ (l : List ℕ). shown_by style takes ++ l) none
+    ∙ append-nil (shown_by style takes)))
+    (but_same page now (shown_by style takes) shown so after same kept before)
 
 -- One more message was received and shown.
-pub takes_more : (receiving : Receiving) (answer : ReplyContent) (given : List ℕ)
+pub takes_more : (page now : List ℕ) (receiving : Receiving) (answer : ReplyContent) (given : List ℕ)
     (left mid rest taken more shown so after : Option (List ℕ)) (taking : Taking) (owed fewer : ℕ)
-    → Takes receiving left mid taken more shown so taking → taking.waiting ≡ fewer + 1 → taking.owed ≡ owed + 1
+    → Takes page receiving left mid taken more shown so taking → taking.waiting ≡ fewer + 1 → taking.owed ≡ owed + 1
     → Consumes mid rest (reply_encoding (reply_to taking.ask answer) given) → IsDone taking.ask answer given
-    → Appends so after (received_text (style_of_receipt receiving.receipt) answer given)
-    → Takes receiving left rest taken more shown after
+    → ShowsBut now (page ++ received_text (style_of_receipt receiving.receipt) answer given) so after
+    → Takes now receiving left rest taken more shown after
     (record { ask = taking.ask; owed = owed; waiting = fewer })
-takes_more receiving answer given left mid rest taken more shown so after taking owed fewer so_far some due read done
-    shows =
+takes_more page now receiving answer given left mid rest taken more shown so after taking owed fewer so_far some due
+    read done shows =
     let ask = taking_ask receiving so_far.opened in
     let one = call_of ask [] answer given in
     record {
@@ -335,7 +419,7 @@ takes_more receiving answer given left mid rest taken more shown so after taking
           read;
       writes = writes_so taken more so_far.opened so_far.takes ask answer given taking.waiting fewer some
           so_far.writes;
-      shows = shows_so shown so after (style_of_receipt receiving.receipt) so_far.takes one so_far.shows shows;
+      shows = shows_so page now shown so after (style_of_receipt receiving.receipt) so_far.takes one so_far.shows shows;
       owes = omega (arith, so_far.owes, due, length-append so_far.takes (one ∷ []));
       due = omega (arith, so_far.due, some, due);
       few = omega (arith, so_far.few, some);
@@ -358,24 +442,6 @@ nothing_wrote taken more (byte ∷ others, (rest, split), wrote) = absurd cc
 pub whole_prefix : (taken more : Option (List ℕ)) (bytes : List ℕ) → Appends taken more bytes →
     AppendsPrefix taken more bytes
 whole_prefix taken more bytes wrote = (bytes, ([], sym (append-nil bytes)), wrote)
-
--- A prefix of some bytes is one of these and others.
-longer_prefix : (taken more : Option (List ℕ)) (bytes others : List ℕ) → AppendsPrefix taken more bytes →
-    AppendsPrefix taken more (bytes ++ others)
-longer_prefix taken more bytes others (part, (rest, split), wrote) = (
-  part,
-  (rest ++ others, ap (λ (l : List ℕ). l ++ others) split ∙ append_assoc part rest others),
-  wrote,
-)
-
--- A prefix after all of the bytes before it.
-prefix_after : (taken mid more : Option (List ℕ)) (bytes others : List ℕ) → Appends taken mid bytes →
-    AppendsPrefix mid more others → AppendsPrefix taken more (bytes ++ others)
-prefix_after taken mid more bytes others first (part, (rest, split), second) = (
-  bytes ++ part,
-  (rest, ap (λ (l : List ℕ). bytes ++ l) split ∙ sym (append_assoc bytes part rest)),
-  Appends-trans taken mid more bytes part first second,
-)
 
 -- One more request was written.
 pub one_more_wrote : (ask : Ask) (text : List ℕ) (count : ℕ) (taken mid more : Option (List ℕ)) → text ≡ []
@@ -453,10 +519,11 @@ parts taken mid more calls ask waiting unwritten (suc count) is wrote breaks =
     }
 
 -- All messages came.
-pub finishes : (receiving : Receiving) (left rest taken more shown after : Option (List ℕ)) (taking : Taking) (done : ⊤)
-    → Takes receiving left rest taken more shown after taking → taking.owed ≡ 0
-    → TakesAll receiving (Ok done) left rest taken more shown after
-finishes receiving left rest taken more shown after taking done so_far none =
+pub finishes : (page : List ℕ) (receiving : Receiving) (left rest taken more shown after : Option (List ℕ))
+    (taking : Taking)
+    → Takes page receiving left rest taken more shown after taking → taking.owed ≡ 0
+    → TakesBut page receiving (Ok tt) left rest taken more shown after
+finishes page receiving left rest taken more shown after taking so_far none =
     let ask = taking_ask receiving so_far.opened in
     let calls = so_far.opened ++ so_far.takes in
     let free : taking.waiting ≡ 0 = omega (arith, none, so_far.due) in
@@ -485,11 +552,12 @@ finishes receiving left rest taken more shown after taking done so_far none =
     }
 
 -- What was read is no reply to a receive.
-pub loses : (receiving : Receiving) (left mid rest taken more shown after so : Option (List ℕ)) (taking : Taking)
-    → Takes receiving left mid taken more shown after taking → 0 < taking.waiting → so ≡ after
+pub loses : (page now : List ℕ) (receiving : Receiving)
+    (left mid rest taken more shown after so : Option (List ℕ)) (taking : Taking)
+    → Takes page receiving left mid taken more shown after taking → 0 < taking.waiting → now ≡ page → so ≡ after
     → HasNoReply taking.ask mid rest
-    → TakesAll receiving (Err (Fault NoReply)) left rest taken more shown so
-loses receiving left mid rest taken more shown after so taking so_far some kept none =
+    → TakesBut now receiving (Err (Fault NoReply)) left rest taken more shown so
+loses page now receiving left mid rest taken more shown after so taking so_far some same kept none =
     let ask = taking_ask receiving so_far.opened in
     let calls = so_far.opened ++ so_far.takes in
     record {
@@ -512,17 +580,18 @@ loses receiving left mid rest taken more shown after so taking so_far some kept 
           subst (λ (a : Ask). HasNoReply a mid rest) so_far.ask none,
         )));
       });
-      shows = subst (λ (s : Option (List ℕ)).
-          Appends shown s (shown_by (style_of_receipt receiving.receipt) so_far.takes)) (sym kept) so_far.shows;
+      shows = but_same page now (shown_by (style_of_receipt receiving.receipt) so_far.takes) shown after so same kept
+          so_far.shows;
     }
 
 -- The writer failed in more receives.
-pub stops_writing : (receiving : Receiving) (left rest taken more most shown after : Option (List ℕ)) (taking : Taking)
-    (added : ℕ) → Takes receiving left rest taken more shown after taking → 0 < added
+pub stops_writing : (page : List ℕ) (receiving : Receiving)
+    (left rest taken more most shown after : Option (List ℕ)) (taking : Taking)
+    (added : ℕ) → Takes page receiving left rest taken more shown after taking → 0 < added
     → taking.waiting + added ≤ taking.owed → taking.waiting + added ≤ ahead_of receiving
     → AppendsPrefix more most (repeated_encoding taking.ask added)
-    → Stops receiving NoReply left rest taken most shown after taking.ask taking.waiting
-stops_writing receiving left rest taken more most shown after taking added so_far some due few wrote =
+    → Stops page receiving NoReply left rest taken most shown after taking.ask taking.waiting
+stops_writing page receiving left rest taken more most shown after taking added so_far some due few wrote =
     let ask = taking_ask receiving so_far.opened in
     record {
       opened = so_far.opened;
@@ -543,12 +612,13 @@ stops_writing receiving left rest taken more most shown after taking added so_fa
     }
 
 -- A receive was refused.
-pub stops_at : (receiving : Receiving) (error : Errno) (left mid rest taken more shown after so : Option (List ℕ))
+pub stops_at : (page now : List ℕ) (receiving : Receiving) (error : Errno)
+    (left mid rest taken more shown after so : Option (List ℕ))
     (taking : Taking) (fewer : ℕ)
-    → Takes receiving left mid taken more shown after taking → taking.waiting ≡ fewer + 1 → so ≡ after
+    → Takes page receiving left mid taken more shown after taking → taking.waiting ≡ fewer + 1 → now ≡ page → so ≡ after
     → Consumes mid rest (reply_encoding (reply_to taking.ask (content.Refused error)) [])
-    → Stops receiving (Refused error) left rest taken more shown so taking.ask fewer
-stops_at receiving error left mid rest taken more shown after so taking fewer so_far some kept read =
+    → Stops now receiving (Refused error) left rest taken more shown so taking.ask fewer
+stops_at page now receiving error left mid rest taken more shown after so taking fewer so_far some same kept read =
     let ask = taking_ask receiving so_far.opened in
     let style = style_of_receipt receiving.receipt in
     let one = call_of ask [] (content.Refused error) [] in
@@ -576,25 +646,34 @@ stops_at receiving error left mid rest taken more shown after so taking fewer so
       writes = writes_so taken more so_far.opened so_far.takes ask (content.Refused error) [] taking.waiting fewer some
           so_far.writes;
       breaks = whole_prefix more more [] (Appends-nil more);
-      shows = shows_so shown after so style so_far.takes one so_far.shows
-          (subst (λ (s : Option (List ℕ)). Appends after s []) (sym kept) (Appends-nil after));
+      shows = same_so page now shown after so style so_far.takes one refl same kept so_far.shows;
       owed = omega (arith, so_far.owes, so_far.due, some, length-append so_far.takes (one ∷ []));
       few = omega (arith, so_far.few, some);
     }
 
+-- The receives without a reply, if nothing more was read.
+ends_all : (ask : Ask) (left taken more : Option (List ℕ)) (count : ℕ)
+    → ((count ≡ 0) × (more ≡ taken))
+    ⊎ ((1 ≤ count) × AppendsPrefix taken more (repeated_encoding ask count))
+    → EndsTaking ask count left left taken more
+ends_all ask left taken more count (inl (none, same)) = inl (none, refl, same)
+ends_all ask left taken more count (inr (some, wrote)) = inr (inl (wrote, refl))
+
 -- The screen failed at a message.
-pub unshown : (receiving : Receiving) (answer : ReplyContent) (given : List ℕ)
-    (left mid rest taken more shown so after : Option (List ℕ)) (taking : Taking) (fewer : ℕ)
-    → Takes receiving left mid taken more shown so taking → taking.waiting ≡ fewer + 1
+pub unshown : (page : List ℕ) (receiving : Receiving) (answer : ReplyContent) (given : List ℕ)
+    (left mid rest taken more shown so after : Option (List ℕ)) (taking : Taking) (fewer : ℕ) (told : Unshown)
+    → Takes page receiving left mid taken more shown so taking → taking.waiting ≡ fewer + 1
     → Consumes mid rest (reply_encoding (reply_to taking.ask answer) given) → IsDone taking.ask answer given
-    → AppendsPrefix so after (received_text (style_of_receipt receiving.receipt) answer given)
-    → TakesAll receiving (Err Screen) left rest taken more shown after
-unshown receiving answer given left mid rest taken more shown so after taking fewer so_far some read done shows =
+    → ShowsPart (page ++ received_text (style_of_receipt receiving.receipt) answer given) so after
+    → TakesAll receiving (Err (Screen told)) left rest taken more shown after
+unshown page receiving answer given left mid rest taken more shown so after taking fewer told so_far some read done
+    shows =
     let ask = taking_ask receiving so_far.opened in
     let style = style_of_receipt receiving.receipt in
     let one = call_of ask [] answer given in
     let takes = so_far.takes ++ one ∷ [] in
     let is_done = subst (λ (a : Ask). IsDone a answer given) so_far.ask done in
+    let part = part_so page shown so after style so_far.takes one so_far.shows shows in
     let parted = parts taken more more (written_by (so_far.opened ++ takes)) ask fewer 0 fewer (omega arith)
     (writes_so taken more so_far.opened so_far.takes ask answer given taking.waiting fewer some so_far.writes)
     (whole_prefix more more [] (Appends-nil more)) in
@@ -613,19 +692,12 @@ unshown receiving answer given left mid rest taken more shown so after taking fe
           read;
       writes = parted.writes;
       ends = record {
-        before = so_far.takes;
-        last = one;
-        split = refl;
         found = so_far.found;
-        done = is_done;
-        earlier = inl (all_done ask so_far.takes so_far.took);
-        few = omega (arith, so_far.few, some);
-        read = refl;
-        wrote = parted.left;
+        some = part.0;
+        by = inl (each_more IsCallDone so_far.takes one (all_done ask so_far.takes so_far.took) is_done);
+        ends = ends_all ask rest parted.written more fewer parted.left;
       };
-      shows = subst (AppendsPrefix shown after) (sym (shown_more style so_far.takes one))
-          (prefix_after shown so after (shown_by style so_far.takes) (received_text style answer given) so_far.shows
-          shows);
+      shows = part.1;
     }
 
 -- A later receive has a reply, after one that was refused.
@@ -651,14 +723,15 @@ meets_more NoReply ahead waiting fewer unwritten takes one some done meets =
 meets_more NoMemory ahead waiting fewer unwritten takes one some done meets = absurd meets
 
 -- After a fault, one more message was received and shown.
-pub stops_more : (receiving : Receiving) (why : ClientFault) (answer : ReplyContent) (given : List ℕ)
+pub stops_more : (page now : List ℕ) (receiving : Receiving) (why : ClientFault) (answer : ReplyContent)
+    (given : List ℕ)
     (left mid rest taken more shown so after : Option (List ℕ)) (ask : Ask) (waiting fewer : ℕ)
-    → Stops receiving why left mid taken more shown so ask waiting → waiting ≡ fewer + 1
+    → Stops page receiving why left mid taken more shown so ask waiting → waiting ≡ fewer + 1
     → Consumes mid rest (reply_encoding (reply_to ask answer) given) → IsDone ask answer given
-    → Appends so after (received_text (style_of_receipt receiving.receipt) answer given)
-    → Stops receiving why left rest taken more shown after ask fewer
-stops_more receiving why answer given left mid rest taken more shown so after ask waiting fewer so_far some read done
-    shows =
+    → ShowsBut now (page ++ received_text (style_of_receipt receiving.receipt) answer given) so after
+    → Stops now receiving why left rest taken more shown after ask fewer
+stops_more page now receiving why answer given left mid rest taken more shown so after ask waiting fewer so_far some
+    read done shows =
     let of = taking_ask receiving so_far.opened in
     let one = call_of of [] answer given in
     let is_done = subst (λ (a : Ask). IsDone a answer given) so_far.asks done in
@@ -677,7 +750,7 @@ stops_more receiving why answer given left mid rest taken more shown so after as
       writes = writes_so taken so_far.written so_far.opened so_far.takes of answer given waiting fewer some
           so_far.writes;
       breaks = so_far.breaks;
-      shows = shows_so shown so after (style_of_receipt receiving.receipt) so_far.takes one so_far.shows shows;
+      shows = shows_so page now shown so after (style_of_receipt receiving.receipt) so_far.takes one so_far.shows shows;
       owed = omega (arith, so_far.owed, some, length-append so_far.takes (one ∷ []));
       few = omega (arith, so_far.few, some);
     }
@@ -700,12 +773,13 @@ meets_refusal NoReply error ahead waiting fewer unwritten takes one some few is 
 meets_refusal NoMemory error ahead waiting fewer unwritten takes one some few is meets = absurd meets
 
 -- After a fault, one more receive was refused.
-pub stops_again : (receiving : Receiving) (why : ClientFault) (error : Errno)
+pub stops_again : (page now : List ℕ) (receiving : Receiving) (why : ClientFault) (error : Errno)
     (left mid rest taken more shown so after : Option (List ℕ)) (ask : Ask) (waiting fewer : ℕ)
-    → Stops receiving why left mid taken more shown so ask waiting → waiting ≡ fewer + 1 → after ≡ so
+    → Stops page receiving why left mid taken more shown so ask waiting → waiting ≡ fewer + 1 → now ≡ page → after ≡ so
     → Consumes mid rest (reply_encoding (reply_to ask (content.Refused error)) [])
-    → Stops receiving (first_fault why error) left rest taken more shown after ask fewer
-stops_again receiving why error left mid rest taken more shown so after ask waiting fewer so_far some kept read =
+    → Stops now receiving (first_fault why error) left rest taken more shown after ask fewer
+stops_again page now receiving why error left mid rest taken more shown so after ask waiting fewer so_far some same
+    kept read =
     let of = taking_ask receiving so_far.opened in
     let one = call_of of [] (content.Refused error) [] in
     record {
@@ -724,8 +798,8 @@ stops_again receiving why error left mid rest taken more shown so after ask wait
       writes = writes_so taken so_far.written so_far.opened so_far.takes of (content.Refused error) [] waiting fewer
           some so_far.writes;
       breaks = so_far.breaks;
-      shows = shows_so shown so after (style_of_receipt receiving.receipt) so_far.takes one so_far.shows
-          (subst (λ (s : Option (List ℕ)). Appends so s []) (sym kept) (Appends-nil so));
+      shows = same_so page now shown so after (style_of_receipt receiving.receipt) so_far.takes one refl same kept
+          so_far.shows;
       owed = omega (arith, so_far.owed, some, length-append so_far.takes (one ∷ []));
       few = omega (arith, so_far.few, some);
     }
@@ -748,12 +822,13 @@ ends_so receiving NoMemory opened takes waiting unwritten count left rest taken 
     absurd meets
 
 -- After a fault, what was read is no reply.
-pub stops_lost : (receiving : Receiving) (why : ClientFault) (left mid rest taken more shown after so : Option (List ℕ))
+pub stops_lost : (page now : List ℕ) (receiving : Receiving) (why : ClientFault)
+    (left mid rest taken more shown after so : Option (List ℕ))
     (ask : Ask) (waiting : ℕ)
-    → Stops receiving why left mid taken more shown after ask waiting → 0 < waiting → so ≡ after
+    → Stops page receiving why left mid taken more shown after ask waiting → 0 < waiting → now ≡ page → so ≡ after
     → HasNoReply ask mid rest
-    → TakesAll receiving (Err (Fault why)) left rest taken more shown so
-stops_lost receiving why left mid rest taken more shown after so ask waiting so_far some kept none =
+    → TakesBut now receiving (Err (Fault why)) left rest taken more shown so
+stops_lost page now receiving why left mid rest taken more shown after so ask waiting so_far some same kept none =
     let of = taking_ask receiving so_far.opened in
     let calls = so_far.opened ++ so_far.takes in
     let count = waiting + so_far.unwritten in
@@ -775,8 +850,8 @@ stops_lost receiving why left mid rest taken more shown after so ask waiting so_
           (between taken (written_by calls)) more refl so_far.found so_far.meets
           (ends_lost of mid rest (between taken (written_by calls)) so_far.written more waiting so_far.unwritten some
           front so_far.breaks (subst (λ (a : Ask). HasNoReply a mid rest) so_far.asks none));
-      shows = subst (λ (s : Option (List ℕ)).
-          Appends shown s (shown_by (style_of_receipt receiving.receipt) so_far.takes)) (sym kept) so_far.shows;
+      shows = but_same page now (shown_by (style_of_receipt receiving.receipt) so_far.takes) shown after so same kept
+          so_far.shows;
     }
   where
     ends_lost : (ask : Ask) (left rest taken mid more : Option (List ℕ)) (waiting unwritten : ℕ) → 0 < waiting
@@ -798,11 +873,12 @@ stops_lost receiving why left mid rest taken more shown after so ask waiting so_
     )))
 
 -- After a fault, each receive on its way has a reply.
-pub stops_all : (receiving : Receiving) (why : ClientFault) (left rest taken more shown after : Option (List ℕ))
+pub stops_all : (page : List ℕ) (receiving : Receiving) (why : ClientFault)
+    (left rest taken more shown after : Option (List ℕ))
     (ask : Ask) (waiting : ℕ)
-    → Stops receiving why left rest taken more shown after ask waiting → waiting ≡ 0
-    → TakesAll receiving (Err (Fault why)) left rest taken more shown after
-stops_all receiving why left rest taken more shown after ask waiting so_far none =
+    → Stops page receiving why left rest taken more shown after ask waiting → waiting ≡ 0
+    → TakesBut page receiving (Err (Fault why)) left rest taken more shown after
+stops_all page receiving why left rest taken more shown after ask waiting so_far none =
     let of = taking_ask receiving so_far.opened in
     let calls = so_far.opened ++ so_far.takes in
     let parted = parts taken so_far.written more (written_by calls) of waiting so_far.unwritten so_far.unwritten
@@ -824,38 +900,29 @@ stops_all receiving why left rest taken more shown after ask waiting so_far none
           (ends_all of rest parted.written more so_far.unwritten parted.left);
       shows = so_far.shows;
     }
-  where
-    ends_all : (ask : Ask) (left taken more : Option (List ℕ)) (count : ℕ)
-        → ((count ≡ 0) × (more ≡ taken))
-        ⊎ ((1 ≤ count) × AppendsPrefix taken more (repeated_encoding ask count))
-        → EndsTaking ask count left left taken more
-    ends_all ask left taken more count (inl (none, same)) = inl (none, refl, same)
-    ends_all ask left taken more count (inr (some, wrote)) = inr (inl (wrote, refl))
 
-earlier_so : (why : ClientFault) (ahead waiting fewer unwritten : ℕ) (takes : List Call) → waiting ≡ fewer + 1
-    → MeetsFault why ahead waiting unwritten takes
-    → Each IsCallDone takes ⊎ ((error : Errno) × IsRefusedIn error ahead (fewer + unwritten + 1) takes)
-earlier_so (Refused error) ahead waiting fewer unwritten takes some meets =
-    let same : waiting + unwritten ≡ fewer + unwritten + 1 = omega (arith, some) in
-    inr (error, subst (λ (n : ℕ). IsRefusedIn error ahead n takes) same meets)
-earlier_so NoReply ahead waiting fewer unwritten takes some meets = inl meets.0
-earlier_so NoMemory ahead waiting fewer unwritten takes some meets = absurd meets
+by_screen : (why : ClientFault) (ahead waiting unwritten : ℕ) (takes : List Call)
+    → MeetsFault why ahead waiting unwritten takes → AreTakenByScreen ahead (waiting + unwritten) takes
+by_screen (Refused error) ahead waiting unwritten takes meets = inr (error, meets)
+by_screen NoReply ahead waiting unwritten takes meets = inl meets.0
+by_screen NoMemory ahead waiting unwritten takes meets = absurd meets
 
 -- After a fault, the screen failed at a message.
-pub stops_unshown : (receiving : Receiving) (why : ClientFault) (answer : ReplyContent) (given : List ℕ)
-    (left mid rest taken more shown so after : Option (List ℕ)) (ask : Ask) (waiting fewer : ℕ)
-    → Stops receiving why left mid taken more shown so ask waiting → waiting ≡ fewer + 1
+pub stops_unshown : (page : List ℕ) (receiving : Receiving) (why : ClientFault) (answer : ReplyContent) (given : List ℕ)
+    (left mid rest taken more shown so after : Option (List ℕ)) (ask : Ask) (waiting fewer : ℕ) (told : Unshown)
+    → Stops page receiving why left mid taken more shown so ask waiting → waiting ≡ fewer + 1
     → Consumes mid rest (reply_encoding (reply_to ask answer) given) → IsDone ask answer given
-    → AppendsPrefix so after (received_text (style_of_receipt receiving.receipt) answer given)
-    → TakesAll receiving (Err Screen) left rest taken more shown after
-stops_unshown receiving why answer given left mid rest taken more shown so after ask waiting fewer so_far some read done
-    shows =
+    → ShowsPart (page ++ received_text (style_of_receipt receiving.receipt) answer given) so after
+    → TakesAll receiving (Err (Screen told)) left rest taken more shown after
+stops_unshown page receiving why answer given left mid rest taken more shown so after ask waiting fewer told so_far some
+    read done shows =
     let of = taking_ask receiving so_far.opened in
     let style = style_of_receipt receiving.receipt in
     let one = call_of of [] answer given in
     let takes = so_far.takes ++ one ∷ [] in
     let is_done = subst (λ (a : Ask). IsDone a answer given) so_far.asks done in
     let count = fewer + so_far.unwritten in
+    let part = part_so page shown so after style so_far.takes one so_far.shows shows in
     let parted = parts taken so_far.written more (written_by (so_far.opened ++ takes)) of fewer so_far.unwritten count
     refl
     (writes_so taken so_far.written so_far.opened so_far.takes of answer given waiting fewer some so_far.writes)
@@ -873,17 +940,135 @@ stops_unshown receiving why answer given left mid rest taken more shown so after
       reads = reads_so left mid rest so_far.opened so_far.takes of ask answer given so_far.asks so_far.reads read;
       writes = parted.writes;
       ends = record {
-        before = so_far.takes;
-        last = one;
-        split = refl;
         found = so_far.found;
-        done = is_done;
-        earlier = earlier_so why (ahead_of receiving) waiting fewer so_far.unwritten so_far.takes some so_far.meets;
-        few = omega (arith, so_far.few, some);
-        read = refl;
-        wrote = parted.left;
+        some = part.0;
+        by = by_screen why (ahead_of receiving) fewer so_far.unwritten takes
+            (meets_more why (ahead_of receiving) waiting fewer so_far.unwritten so_far.takes one some is_done
+            so_far.meets);
+        ends = ends_all of rest parted.written more count parted.left;
       };
-      shows = subst (AppendsPrefix shown after) (sym (shown_more style so_far.takes one))
-          (prefix_after shown so after (shown_by style so_far.takes) (received_text style answer given) so_far.shows
-          shows);
+      shows = part.1;
+    }
+
+-- All of the page was shown.
+but_shown : (page text : List ℕ) (shown so after : Option (List ℕ)) → ShowsBut page text shown so
+    → Appends so after page → Appends shown after text
+but_shown page text shown so after (part, split, shows) adds =
+    subst (Appends shown after) (sym split) (Appends-trans shown so after part page shows adds)
+
+-- The screen failed at the page.
+but_failed : (page text : List ℕ) (shown so after : Option (List ℕ)) → ShowsBut page text shown so
+    → ShowsPart page so after → ShowsPart text shown after
+but_failed page text shown so after (part, split, shows) (some, fails) = (
+  subst (λ (l : List ℕ). 0 < length l) (sym split) (omega (arith, some, length-append part page)),
+  subst (AppendsPrefix shown after) (sym split) (prefix_after shown so after part page shows fails),
+)
+
+-- The messages of a session that ended were shown.
+shown_all : (page : List ℕ) (receiving : Receiving) (fault : Option ClientFault)
+    (left rest taken more shown so after : Option (List ℕ))
+    → TakesBut page receiving (ended_by fault) left rest taken more shown so → Appends so after page
+    → TakesAll receiving (ended_by fault) left rest taken more shown after
+shown_all page receiving None left rest taken more shown so after all adds = record {
+  opened = all.opened;
+  takes = all.takes;
+  waiting = all.waiting;
+  unread = all.unread;
+  written = all.written;
+  follows = all.follows;
+  replied = all.replied;
+  few = all.few;
+  owed = all.owed;
+  reads = all.reads;
+  writes = all.writes;
+  ends = all.ends;
+  shows = but_shown page (shown_by (style_of_receipt receiving.receipt) all.takes) shown so after all.shows adds;
+}
+shown_all page receiving (Some why) left rest taken more shown so after all adds = record {
+  opened = all.opened;
+  takes = all.takes;
+  waiting = all.waiting;
+  unread = all.unread;
+  written = all.written;
+  follows = all.follows;
+  replied = all.replied;
+  few = all.few;
+  owed = all.owed;
+  reads = all.reads;
+  writes = all.writes;
+  ends = all.ends;
+  shows = but_shown page (shown_by (style_of_receipt receiving.receipt) all.takes) shown so after all.shows adds;
+}
+
+pub shown_done : (page : List ℕ) (receiving : Receiving) (left rest taken more shown so after : Option (List ℕ))
+    → TakesBut page receiving (ended_by None) left rest taken more shown so → Appends so after page
+    → TakesAll receiving (Ok tt) left rest taken more shown after
+shown_done page receiving left rest taken more shown so after all adds =
+    shown_all page receiving None left rest taken more shown so after all adds
+
+pub shown_fault : (page : List ℕ) (receiving : Receiving) (why : ClientFault)
+    (left rest taken more shown so after : Option (List ℕ))
+    → TakesBut page receiving (ended_by (Some why)) left rest taken more shown so → Appends so after page
+    → TakesAll receiving (Err (Fault why)) left rest taken more shown after
+shown_fault page receiving why left rest taken more shown so after all adds =
+    shown_all page receiving (Some why) left rest taken more shown so after all adds
+
+-- Something was shown of the receives, so there is one.
+no_takes_shown : (style : Style) (takes : List Call) → takes ≡ [] → 0 < length (shown_by style takes) → ⊥
+no_takes_shown style takes none some =
+    let nothing : 0 < 0 = subst (λ (l : List Call). 0 < length (shown_by style l)) none some in omega (arith, nothing)
+
+-- How a session that ended without a failure of the screen ends if the screen fails at what is left.
+ends_unshown : (receiving : Receiving) (fault : Option ClientFault) (opened takes : List Call) (waiting : ℕ)
+    (left rest taken more : Option (List ℕ)) → 0 < length (shown_by (style_of_receipt receiving.receipt) takes)
+    → EndsTakes receiving (ended_by fault) opened takes waiting left rest taken more
+    → IsUnshown receiving opened takes waiting left rest taken more
+ends_unshown receiving None opened takes waiting left rest taken more some ends = record {
+  found = ends.found;
+  some = some;
+  by = inl ends.done;
+  ends = inl (ends.none, ends.read, ends.wrote);
+}
+ends_unshown receiving (Some (Refused error)) opened takes waiting left rest taken more some (inl breaks) =
+    absurd (no_takes_shown (style_of_receipt receiving.receipt) takes breaks.no_takes some)
+ends_unshown receiving (Some (Refused error)) opened takes waiting left rest taken more some (inr stopped) = record {
+  found = stopped.found;
+  some = some;
+  by = inr (error, stopped.by);
+  ends = stopped.ends;
+}
+ends_unshown receiving (Some NoReply) opened takes waiting left rest taken more some (inl breaks) =
+    absurd (no_takes_shown (style_of_receipt receiving.receipt) takes breaks.no_takes some)
+ends_unshown receiving (Some NoReply) opened takes waiting left rest taken more some (inr stopped) = record {
+  found = stopped.found;
+  some = some;
+  by = inl stopped.by.0;
+  ends = stopped.ends;
+}
+ends_unshown receiving (Some NoMemory) opened takes waiting left rest taken more some ends =
+    absurd (no_takes_shown (style_of_receipt receiving.receipt) takes ends.no_takes some)
+
+-- The screen failed at the messages that were left.
+pub closes_unshown : (page : List ℕ) (receiving : Receiving) (fault : Option ClientFault) (told : Unshown)
+    (left rest taken more shown so after : Option (List ℕ))
+    → TakesBut page receiving (ended_by fault) left rest taken more shown so → ShowsPart page so after
+    → TakesAll receiving (Err (Screen told)) left rest taken more shown after
+closes_unshown page receiving fault told left rest taken more shown so after all fails =
+    let text = shown_by (style_of_receipt receiving.receipt) all.takes in
+    let part = but_failed page text shown so after all.shows fails in
+    record {
+      opened = all.opened;
+      takes = all.takes;
+      waiting = all.waiting;
+      unread = all.unread;
+      written = all.written;
+      follows = all.follows;
+      replied = all.replied;
+      few = all.few;
+      owed = all.owed;
+      reads = all.reads;
+      writes = all.writes;
+      ends = ends_unshown receiving fault all.opened all.takes all.waiting all.unread rest all.written more part.0
+          all.ends;
+      shows = part.1;
     }

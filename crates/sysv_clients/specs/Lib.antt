@@ -2,6 +2,7 @@
 pub mod Asks
 pub mod Style
 pub mod Dialogue
+pub mod ReadAhead
 pub mod Rows
 pub mod Faults
 pub mod Table

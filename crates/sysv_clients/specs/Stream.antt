@@ -1,5 +1,5 @@
 -- A session of several messages (this project's programs): what is requested, how it ends, and what
--- is shown as the messages come. Receives may be on their way together: written, and without a
+-- is shown of the messages. Receives may be on their way together: written, and without a
 -- reply.
 use Rattle.std.specs.Prelude.{◌≡◌, ◌⊎◌, ◌+◌, ◌<◌, ◌≤◌, ⊤, ℕ, zero, suc, Bool, true, false, List, [], ◌∷◌, ◌++◌}
 use Rattle.std.specs.Prelude.{length, Option, None, Some, Result, Ok, Err, flat_map, max, min, if◌then◌else◌}
@@ -122,20 +122,18 @@ pub record AreAllTaken (receiving : Receiving) (opened takes : List Call) (waiti
   pub read : rest ≡ left
   pub wrote : more ≡ taken
 
--- The screen failed at the message of the last receive with a reply. Before that all were done, or
--- one was refused.
+-- The receives with a reply, if the screen ends the session: all were done, or one was refused.
+abbrev pub AreTakenByScreen : (ahead waiting : ℕ) → List Call → Type 0
+AreTakenByScreen ahead waiting takes =
+    Each IsCallDone takes ⊎ ((error : Errno) × IsRefusedIn error ahead waiting takes)
+
+-- The queue was found, and the screen failed at what it was to show of the receives with a reply.
 pub record IsUnshown (receiving : Receiving) (opened takes : List Call) (waiting : ℕ)
     (left rest taken more : Option (List ℕ)) : Type 0 where
-  pub before : List Call
-  pub last : Call
-  pub split : takes ≡ before ++ last ∷ []
   pub found : finding_plan receiving opened ≡ None
-  pub done : IsCallDone last
-  pub earlier : Each IsCallDone before ⊎ ((error : Errno) × IsRefusedIn error (ahead_of receiving) (waiting + 1) before)
-  pub few : waiting < ahead_of receiving
-  pub read : rest ≡ left
-  pub wrote : ((waiting ≡ 0) × (more ≡ taken))
-      ⊎ ((1 ≤ waiting) × AppendsPrefix taken more (repeated_encoding (taking_ask receiving opened) waiting))
+  pub some : 0 < length (shown_by (style_of_receipt receiving.receipt) takes)
+  pub by : AreTakenByScreen (ahead_of receiving) waiting takes
+  pub ends : EndsTaking (taking_ask receiving opened) waiting left rest taken more
 
 -- Memory was refused before the first request.
 pub record IsUnfound (opened takes : List Call) (waiting : ℕ) (left rest taken more : Option (List ℕ)) : Type 0 where
@@ -151,7 +149,7 @@ abbrev pub EndsTakes : Receiving → Result ⊤ Stop → (opened takes : List Ca
     (left rest taken more : Option (List ℕ)) → Type 0
 EndsTakes receiving (Ok done) opened takes waiting left rest taken more =
     AreAllTaken receiving opened takes waiting left rest taken more
-EndsTakes receiving (Err Screen) opened takes waiting left rest taken more =
+EndsTakes receiving (Err (Screen unshown)) opened takes waiting left rest taken more =
     IsUnshown receiving opened takes waiting left rest taken more
 EndsTakes receiving (Err (Fault (fault.Refused error))) opened takes waiting left rest taken more =
     BreaksFinding receiving (fault.Refused error) opened takes waiting left rest taken more
@@ -167,13 +165,13 @@ EndsTakes receiving (Err (Fault fault.NoMemory)) opened takes waiting left rest 
 abbrev pub ShowsCalls : Result ⊤ Stop → List ℕ → (shown after : Option (List ℕ)) → Type 0
 ShowsCalls (Ok done) text shown after = Appends shown after text
 ShowsCalls (Err (Fault why)) text shown after = Appends shown after text
-ShowsCalls (Err Screen) text shown after = AppendsPrefix shown after text
+ShowsCalls (Err (Screen unshown)) text shown after = AppendsPrefix shown after text
 
 -- The screen ended the session.
 abbrev pub is_of_screen : Result ⊤ Stop → Bool
 is_of_screen (Ok done) = false
 is_of_screen (Err (Fault why)) = false
-is_of_screen (Err Screen) = true
+is_of_screen (Err (Screen unshown)) = true
 
 -- A session that ended this way. What was read is the replies to its requests, and then what ended
 -- it. What was written is those requests, and then the receives without a reply, or a prefix of
@@ -198,4 +196,4 @@ pub record TakesAll (receiving : Receiving) (ended : Result ⊤ Stop)
 -- The line that reports why a session ended early. It is empty if the screen failed.
 abbrev pub stop_line : Stop → List ℕ
 stop_line (Fault why) = fault_line why
-stop_line Screen = []
+stop_line (Screen unshown) = []

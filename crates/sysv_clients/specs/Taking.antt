@@ -1,17 +1,19 @@
 -- A session of several messages in progress: the queue was found, and some receives are on their way.
 use Rattle.std.specs.Prelude.{◌≡◌, ◌+◌, ◌≤◌, ◌<◌, ⊤, ℕ, Bool, true, false, List, [], ◌++◌, length, Option, None, Result}
-use Rattle.std.specs.Prelude.{Ok, Err}
+use Rattle.std.specs.Prelude.{Ok, Err, Some}
 use Rattle.std.specs.Io.KnownBytes.{Appends, Consumes}
 use Rattle.sysv_clients.specs.declared.fault.ClientFault.{ClientFault}
 use Rattle.sysv_clients.specs.declared.fault.ClientFault.TheVariants as fault
 use Rattle.sysv_clients.specs.declared.stream.Receiving.{Receiving}
+use Rattle.sysv_clients.specs.declared.stream.Stop.{Stop}
+use Rattle.sysv_clients.specs.declared.stream.Stop.TheVariants.{Fault}
 use Rattle.sysv_clients.specs.declared.stream.Taking.{Taking}
 use Rattle.sysv_clients.specs.declared.stream.Took.{Took}
 use Rattle.sysv_clients.specs.declared.stream.Took.TheVariants.{Message, Refused, Lost, Unshown}
 use Rattle.sysv_clients.specs.declared.style.Style.{Style}
 use Rattle.sysv_clients.specs.Calls.{BreaksPlan, Call, Each, FollowsPlan, IsCallDone, Made, read_by, written_by}
 use Rattle.sysv_clients.specs.Stream.{IsReplied, ahead_of, count_of, finding_plan, received_text, repeated_encoding}
-use Rattle.sysv_clients.specs.Stream.{IsRefusedIn, shown_by, taking_ask}
+use Rattle.sysv_clients.specs.Stream.{EndsTakes, IsRefusedIn, shown_by, taking_ask}
 use Rattle.sysv_clients.specs.Style.{style_of_receipt}
 use Rattle.sysv_clients.specs.Dialogue.{HasNoReply, IsDone, reply_to}
 use Rattle.sysv_model.specs.declared.errno.Errno.{Errno}
@@ -37,9 +39,17 @@ Finds receiving (Err why) left rest taken more =
 abbrev pub IsTaken : Ask → Call → Type 0
 IsTaken ask call = (call.ask ≡ ask) × (call.text ≡ []) × IsCallDone call
 
--- The queue was found, and messages were received. Each of them was shown.
-pub record Takes (receiving : Receiving) (left rest taken more shown after : Option (List ℕ)) (taking : Taking) :
-    Type 0 where
+-- The text was shown, but for a page at its end.
+abbrev pub ShowsBut : (page text : List ℕ) → (shown after : Option (List ℕ)) → Type 0
+ShowsBut page text shown after = (part : List ℕ) × (text ≡ part ++ page) × Appends shown after part
+
+-- The screen failed at a text that has bytes, and took a prefix of it.
+abbrev pub ShowsPart : List ℕ → (shown after : Option (List ℕ)) → Type 0
+ShowsPart text shown after = (0 < length text) × AppendsPrefix shown after text
+
+-- The queue was found, and messages were received. They were shown, but for those on the page.
+pub record Takes (page : List ℕ) (receiving : Receiving) (left rest taken more shown after : Option (List ℕ))
+    (taking : Taking) : Type 0 where
   pub opened : List Call
   pub takes : List Call
   pub follows : FollowsPlan IsCallDone (finding_plan receiving) [] opened
@@ -49,7 +59,7 @@ pub record Takes (receiving : Receiving) (left rest taken more shown after : Opt
   pub reads : Consumes left rest (read_by (opened ++ takes))
   pub writes : Appends taken more
       (written_by (opened ++ takes) ++ repeated_encoding (taking_ask receiving opened) taking.waiting)
-  pub shows : Appends shown after (shown_by (style_of_receipt receiving.receipt) takes)
+  pub shows : ShowsBut page (shown_by (style_of_receipt receiving.receipt) takes) shown after
   pub owes : length takes + taking.owed ≡ count_of receiving
   pub due : taking.waiting ≤ taking.owed
   pub few : taking.waiting ≤ ahead_of receiving
@@ -64,25 +74,27 @@ RequestsMore owed ahead (Err fault) waiting now ask taken more =
     (now ≡ waiting) × (added : ℕ) × (0 < added) × (waiting + added ≤ owed) × (waiting + added ≤ ahead)
     × AppendsPrefix taken more (repeated_encoding ask added)
 
--- What was read as the reply to this receive, and what was shown of it. If the screen failed, it is
--- a message.
-abbrev pub TakesOne : Style → Ask → Took → (left rest shown after : Option (List ℕ)) → Type 0
-TakesOne style ask Message left rest shown after =
+-- What was read as the reply to this receive, and what was collected on the page and shown of it. If
+-- the screen failed, it is a message.
+abbrev pub TakesOne : Style → Ask → Took → (left rest : Option (List ℕ)) → (page now : List ℕ) →
+    (shown after : Option (List ℕ)) → Type 0
+TakesOne style ask Message left rest page now shown after =
     (answer : ReplyContent) × (given : List ℕ) × Consumes left rest (reply_encoding (reply_to ask answer) given)
-    × IsDone ask answer given × Appends shown after (received_text style answer given)
-TakesOne style ask (Refused error) left rest shown after =
-    Consumes left rest (reply_encoding (reply_to ask (content.Refused error)) []) × (after ≡ shown)
-TakesOne style ask Lost left rest shown after = HasNoReply ask left rest × (after ≡ shown)
-TakesOne style ask Unshown left rest shown after =
+    × IsDone ask answer given × ShowsBut now (page ++ received_text style answer given) shown after
+TakesOne style ask (Refused error) left rest page now shown after =
+    Consumes left rest (reply_encoding (reply_to ask (content.Refused error)) []) × (now ≡ page) × (after ≡ shown)
+TakesOne style ask Lost left rest page now shown after =
+    HasNoReply ask left rest × (now ≡ page) × (after ≡ shown)
+TakesOne style ask (Unshown unshown) left rest page now shown after =
     (answer : ReplyContent) × (given : List ℕ) × Consumes left rest (reply_encoding (reply_to ask answer) given)
-    × IsDone ask answer given × AppendsPrefix shown after (received_text style answer given)
+    × IsDone ask answer given × ShowsPart (page ++ received_text style answer given) shown after
 
 -- The screen failed.
 abbrev pub is_unshown : Took → Bool
 is_unshown Message = false
 is_unshown (Refused error) = false
 is_unshown Lost = false
-is_unshown Unshown = true
+is_unshown (Unshown unshown) = true
 
 -- The receives with a reply by a fault that was met: one was refused, or all were done and the
 -- writer failed in this number of later ones.
@@ -99,8 +111,8 @@ first_fault fault.NoReply error = fault.Refused error
 first_fault fault.NoMemory error = fault.Refused error
 
 -- The session met this fault, and this number of receives is on its way. Nothing more is requested.
-pub record Stops (receiving : Receiving) (why : ClientFault) (left rest taken more shown after : Option (List ℕ))
-    (ask : Ask) (waiting : ℕ) : Type 0 where
+pub record Stops (page : List ℕ) (receiving : Receiving) (why : ClientFault)
+    (left rest taken more shown after : Option (List ℕ)) (ask : Ask) (waiting : ℕ) : Type 0 where
   pub opened : List Call
   pub takes : List Call
   pub unwritten : ℕ  -- the number of receives in which the writer failed
@@ -114,6 +126,29 @@ pub record Stops (receiving : Receiving) (why : ClientFault) (left rest taken mo
   pub writes : Appends taken written
       (written_by (opened ++ takes) ++ repeated_encoding (taking_ask receiving opened) waiting)
   pub breaks : AppendsPrefix written more (repeated_encoding (taking_ask receiving opened) unwritten)
-  pub shows : Appends shown after (shown_by (style_of_receipt receiving.receipt) takes)
+  pub shows : ShowsBut page (shown_by (style_of_receipt receiving.receipt) takes) shown after
   pub owed : length takes + (waiting + unwritten) ≤ count_of receiving
   pub few : waiting + unwritten ≤ ahead_of receiving
+
+-- How a session ends by this fault, or without one.
+abbrev pub ended_by : Option ClientFault → Result ⊤ Stop
+ended_by None = Ok tt
+ended_by (Some why) = Err (Fault why)
+
+-- A session that ended this way, of whose messages those on the page were not shown yet.
+pub record TakesBut (page : List ℕ) (receiving : Receiving) (ended : Result ⊤ Stop)
+    (left rest taken more shown after : Option (List ℕ)) :
+    Type 0 where
+  pub opened : List Call
+  pub takes : List Call
+  pub waiting : ℕ
+  pub unread : Option (List ℕ)
+  pub written : Option (List ℕ)
+  pub follows : FollowsPlan IsCallDone (finding_plan receiving) [] opened
+  pub replied : Each (IsReplied (taking_ask receiving opened)) takes
+  pub few : waiting ≤ ahead_of receiving
+  pub owed : length takes + waiting ≤ count_of receiving
+  pub reads : Consumes left unread (read_by (opened ++ takes))
+  pub writes : Appends taken written (written_by (opened ++ takes))
+  pub ends : EndsTakes receiving ended opened takes waiting unread rest written more
+  pub shows : ShowsBut page (shown_by (style_of_receipt receiving.receipt) takes) shown after

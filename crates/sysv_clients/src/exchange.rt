@@ -40,6 +40,26 @@ pub(crate) fn exchange<R: Read, W: Write>(
     }
 }
 
+/// Writes a request and reads its reply like `exchange`, from a reader whose failures are not
+/// counted.
+pub(crate) fn exchange_plain<R: Read, W: Write>(
+    reader: &mut R,
+    writer: &mut Instrumented<'_, W>,
+    ask: Ask,
+    text: &Body,
+    given: &mut Body,
+) -> Result<ReplyContent, ClientFault>
+    ensures exchanges { Exchanges (request_encoding (request_of ask) text.now) ask result
+        (R.remaining reader.old) (R.remaining reader.new)
+        (W.contents (stream_of writer.old)) (W.contents (stream_of writer.new)) given.new }
+    ensures same_writer { stream_name writer.new ≡ stream_name writer.old }
+{
+    match send(writer, ask, text) {
+        Ok(()) => hear_plain(reader, ask, given),
+        Err(WriteFault) => Err(ClientFault::NoReply),
+    }
+}
+
 /// Writes a request and flushes it.
 fn send<W: Write>(writer: &mut Instrumented<'_, W>, ask: Ask, text: &Body) -> Result<(), WriteFault>
     ensures ok { OnOk result (Appends (W.contents (stream_of writer.old))
@@ -72,6 +92,17 @@ pub(crate) fn put<W: Write>(
         ask,
     };
     write_request(writer, &request, text)
+}
+
+/// Reads the reply to a request from a reader whose failures are not counted.
+pub(crate) fn hear_plain<R: Read>(
+    reader: &mut R,
+    ask: Ask,
+    given: &mut Body,
+) -> Result<ReplyContent, ClientFault>
+    ensures { Hears ask result (R.remaining reader.old) (R.remaining reader.new) given.new }
+{
+    hear(&mut Instrumented::new(reader), ask, given)
 }
 
 /// Reads the reply to a request.

@@ -13,6 +13,7 @@ mod laws;
 mod object;
 mod page;
 mod queue_line;
+mod read_ahead;
 mod rows;
 mod screen;
 mod sending;
@@ -26,6 +27,9 @@ pub use command::{Command, Form, Format, Making, Receipt, Target, Task};
 pub use fault::ClientFault;
 pub use feed::Feed;
 pub use laws::numerals_of_commands;
+pub use read_ahead::ReadAhead;
 pub use sending::{Cut, Sending, Unsent, send_feed, send_lines};
-pub use stream::{MAX_AHEAD, MAX_MESSAGES, Receiving, Stop, receive_all, receive_instrumented};
+pub use stream::{
+    MAX_AHEAD, MAX_MESSAGES, Receiving, Stop, Unshown, receive_all, receive_instrumented,
+};
 pub use words::{id_of, key_of, type_of};

@@ -1,6 +1,6 @@
 //! What a client collects to show. Space for a message is reserved from the start; rows allocate
 //! more as they arrive.
-ghost use Rattle.std.specs.Prelude.{◌≡◌, ◌+◌, ◌*◌, ◌≤◌, [], ◌∷◌, ◌++◌, ℕ, length, take, true, IfOk, OnOk, OnErr};
+ghost use Rattle.std.specs.Prelude.{◌≡◌, ◌+◌, ◌*◌, ◌<◌, ◌≤◌, [], ◌∷◌, ◌++◌, ℕ, length, take, true, false, IfOk, OnOk, OnErr};
 ghost use Rattle.sysv_clients.specs.Page.{answer_most, answer_text, body_text, message_text, row_text, type_text};
 ghost use Rattle.sysv_clients.specs.Queue.{id_line, stat_lines};
 ghost use Rattle.sysv_clients.specs.Style.{grows};
@@ -20,6 +20,14 @@ use sysv_wire::ReplyContent;
 /// The number of bytes that a page has space for from the start: a message of the maximum size as a
 /// JSON object, in which each byte of its body may take six, and 567 bytes before it.
 pub(crate) const PAGE_ROOM: usize = 49_767;
+
+/// The maximum number of bytes of several messages together. A pipe takes this many bytes of one
+/// write without those of other writers between them.
+const WRITE_MOST: usize = 4_096;
+
+/// The maximum number of bytes that a message in a form that is no JSON object has beside its body:
+/// its type with a tab, and what ends it.
+const PLAIN_MORE: usize = 22;
 
 /// What a client collects to show.
 #[derive(Drop)]
@@ -54,6 +62,26 @@ impl Page {
         ensures { result.now ≡ self.now }
     {
         &self.bytes
+    }
+
+    /// Returns whether nothing was collected.
+    pub(crate) fn is_empty(&self) -> bool
+        ensures none { result ≡ true → self.now ≡ [] }
+        ensures some { result ≡ false → 0 < length self.now }
+    {
+        self.bytes.is_empty()
+    }
+
+    /// Returns whether a message can be appended and then written at once with what was collected.
+    pub(crate) fn fits(&self, style: &Style, text: &Body) -> bool
+        requires { length text.now ≤ MESSAGE_BYTES }
+        ensures { result ≡ true → length self.now + 6 * length text.now + 48 ≤ PAGE_ROOM }
+    {
+        let most = match style.form {
+            Form::Object => 6 * text.len() + 48,
+            Form::Line | Form::Raw | Form::Zero => text.len() + PLAIN_MORE,
+        };
+        most <= WRITE_MOST.saturating_sub(self.bytes.len())
     }
 
     /// Appends bytes that fit in the space reserved from the start.

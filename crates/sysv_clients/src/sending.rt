@@ -38,7 +38,7 @@ pub struct Sending {
 }
 
 /// The maximum number of sends that are on their way: written, and without a reply.
-pub(crate) const WINDOW: u32 = 64;
+pub(crate) const WINDOW: u32 = 256;
 
 /// How a session of sends ended at a send that was refused or has no reply.
 #[derive(Clone, Copy, PartialEq, Eq, Debug)]
@@ -127,7 +127,7 @@ impl Sending {
 /// without its LF; the last line may lack one.
 ///
 /// The client writes a hello, the request that finds the queue, and a send for each line, all of
-/// version 2. It sends lines that one read of the input returned in a window: at most 64 sends are
+/// version 2. It sends lines that one read of the input returned in a window: at most 256 sends are
 /// written and have no reply, or one with `nowait`. It reads all replies before it reads the input
 /// again, so a line is sent as soon as it was read. Requests are flushed before a reply is read.
 ///

@@ -1,20 +1,24 @@
-//! A `rcv` of several messages: a session that shows each message as it comes.
+//! A `rcv` of several messages: a session that shows each message as it comes, and messages that
+//! came together in one write.
 
-ghost use Rattle.std.specs.Prelude.{◌≡◌, ◌<◌, ◌≤◌, ℕ, List, Option, [], length, is_err, Err, IfOk, OnOk, OnErr};
+ghost use Rattle.std.specs.Prelude.{◌≡◌, ◌+◌, ◌*◌, ◌<◌, ◌≤◌, ℕ, List, Option, [], ◌++◌, length, is_err, Err, IfOk, IfErr, OnOk, OnErr};
 ghost use Rattle.std.specs.Io.KnownBytes.{Appends};
+ghost use Rattle.sysv_clients.specs.declared.page.TheConstants.{PAGE_ROOM};
 ghost use Rattle.sysv_clients.specs.declared.stream.Receiving.{Receiving as AReceiving};
+ghost use Rattle.sysv_clients.specs.declared.stream.Stop.TheVariants.{Screen};
 ghost use Rattle.sysv_clients.specs.Stream.{TakesAll, ahead_of, count_of, is_of_screen, received_text, repeated_encoding, stop_line};
 ghost use Rattle.sysv_clients.specs.Style.{style_of_receipt};
-ghost use Rattle.sysv_clients.specs.Taking.{Finds, RequestsMore, Stops, TakesOne, first_fault, is_unshown};
+ghost use Rattle.sysv_clients.specs.Taking.{Finds, RequestsMore, ShowsBut, ShowsPart, Stops, Takes, TakesBut, TakesOne, ended_by, first_fault, is_unshown};
 ghost use Rattle.sysv_model.specs.Instrumented.{KeepsStream, stream_name, stream_of};
 ghost use Rattle.sysv_model.specs.Writing.{AppendsPrefix};
 ghost use Rattle.sysv_model.specs.declared.limits.TheConstants.{MESSAGE_BYTES};
 
 use crate::client::found;
 use crate::command::Receipt;
-use crate::exchange::{exchange, hear, put};
+use crate::exchange::{exchange_plain, hear_plain, put};
 use crate::fault::ClientFault;
 use crate::page::Page;
+use crate::read_ahead::ReadAhead;
 use crate::screen::print_instrumented;
 use crate::style::Style;
 use std::alloc::Global;
@@ -27,7 +31,7 @@ use thiserror::Error;
 pub const MAX_MESSAGES: u64 = 1 << 62;
 
 /// The maximum number of receives that are on their way: written, and without a reply.
-pub const MAX_AHEAD: u32 = 64;
+pub const MAX_AHEAD: u32 = 256;
 
 /// A `rcv` of several messages, with the credentials for it.
 #[derive(Clone, Copy, PartialEq, Eq, Debug)]
@@ -71,7 +75,16 @@ pub enum Stop {
     Fault(ClientFault),
     /// The screen failed.
     #[error("cannot write")]
-    Screen,
+    Screen(Unshown),
+}
+
+/// The messages of a session whose screen failed.
+#[derive(Clone, Copy, PartialEq, Eq, Debug)]
+pub struct Unshown {
+    /// The number of messages that were received.
+    pub taken: u64,
+    /// The number of messages that were written and flushed.
+    pub shown: u64,
 }
 
 impl From<ClientFault> for Stop {
@@ -91,18 +104,18 @@ impl Stop {
     {
         match self {
             Stop::Fault(fault) => fault.line(),
-            Stop::Screen => "",
+            Stop::Screen(_) => "",
         }
     }
 }
 
-impl From<WriteFault> for Stop {
+impl From<Unshown> for Stop {
     ghost use Rattle.sysv_clients.specs.declared.stream.Stop.TheVariants as stops;
 
-    ghost from_gives = { λ _ given. given ≡ stops.Screen };
+    ghost from_gives = { λ unshown given. given ≡ stops.Screen unshown };
 
-    fn from(_: WriteFault) -> Stop {
-        Stop::Screen
+    fn from(unshown: Unshown) -> Stop {
+        Stop::Screen(unshown)
     }
 }
 
@@ -110,8 +123,9 @@ impl From<WriteFault> for Stop {
 ///
 /// The client writes a hello, the request that finds the queue, and a request for each message, all
 /// of version 2. At most `receiving.ahead` receives are written and have no reply, and no more than
-/// there are messages to receive. Requests are flushed before a reply is read, and each message is
-/// written and flushed before the next reply is read. Only messages are written to the screen.
+/// there are messages to receive. Requests are flushed before a reply is read. Messages are written
+/// and flushed as soon as the reader has no whole frame left, so those that came together are one
+/// write if they fit in one. Only messages are written to the screen.
 ///
 /// # Errors
 ///
@@ -122,7 +136,7 @@ impl From<WriteFault> for Stop {
 ///   written to the server or read.
 /// - `Screen`: the screen failed, and nothing more was requested or read. It has taken a prefix of
 ///   the messages so far.
-pub fn receive_all<R: Read, W: Write, S: Write>(
+pub fn receive_all<R: ReadAhead, W: Write, S: Write>(
     alloc: Global,
     receiving: &Receiving,
     reader: &mut R,
@@ -136,7 +150,7 @@ pub fn receive_all<R: Read, W: Write, S: Write>(
     receive_instrumented(
         alloc,
         receiving,
-        &mut Instrumented::new(reader),
+        reader,
         &mut Instrumented::new(writer),
         &mut Instrumented::new(screen),
     )
@@ -148,20 +162,19 @@ pub fn receive_all<R: Read, W: Write, S: Write>(
 /// # Errors
 ///
 /// Those of `receive_all`.
-pub fn receive_instrumented<R: Read, W: Write, S: Write>(
+pub fn receive_instrumented<R: ReadAhead, W: Write, S: Write>(
     alloc: Global,
     receiving: &Receiving,
-    reader: &mut Instrumented<'_, R>,
+    reader: &mut R,
     writer: &mut Instrumented<'_, W>,
     screen: &mut Instrumented<'_, S>,
 ) -> Result<(), Stop>
     ensures takes { TakesAll receiving.now result
-        (R.remaining (stream_of reader.old)) (R.remaining (stream_of reader.new))
+        (R.remaining reader.old) (R.remaining reader.new)
         (W.contents (stream_of writer.old)) (W.contents (stream_of writer.new))
         (S.contents (stream_of screen.old)) (S.contents (stream_of screen.new)) }
     ensures screen { KeepsStream screen.old screen.new (is_of_screen result) }
-    // The streams stay the same.
-    ensures same_reader { stream_name reader.new ≡ stream_name reader.old }
+    // The writer stays the same.
     ensures same_writer { stream_name writer.new ≡ stream_name writer.old }
 {
     match Taker::open(alloc) {
@@ -191,7 +204,7 @@ enum Took {
     /// There is no reply.
     Lost,
     /// A message, and the screen failed.
-    Unshown,
+    Unshown(Unshown),
 }
 
 /// A client that receives several messages.
@@ -201,47 +214,89 @@ struct Taker {
     text: Body,
     /// The body that it received last.
     given: Body,
-    /// What it shows of it.
+    /// The messages that it received and has not shown.
     page: Page,
+    /// The number of messages that it received.
+    taken: u64,
+    /// The number of messages that it has shown.
+    shown: u64,
+    /// The number of messages on the page.
+    held: u64,
 }
 
 impl Taker {
     /// Creates a client that has made no request. Fails with `NoMemory` if allocation fails.
     fn open(alloc: Global) -> Result<Taker, NoMemory>
-        ensures { IfOk result (λ taker. taker.text ≡ []) }
+        ensures { IfOk result (λ taker. (taker.text ≡ []) × (taker.page ≡ [])) }
     {
         Ok(Taker {
             text: Body::open(alloc)?,
             given: Body::open(alloc)?,
             page: Page::open(alloc)?,
+            taken: 0,
+            shown: 0,
+            held: 0,
         })
     }
 
     /// Finds the queue, makes all receives, and shows each message.
-    fn take_all<R: Read, W: Write, S: Write>(
+    fn take_all<R: ReadAhead, W: Write, S: Write>(
         &mut self,
         receiving: &Receiving,
-        reader: &mut Instrumented<'_, R>,
+        reader: &mut R,
         writer: &mut Instrumented<'_, W>,
         screen: &mut Instrumented<'_, S>,
     ) -> Result<(), Stop>
-        requires { self.old.text ≡ [] }
+        requires text { self.old.text ≡ [] }
+        requires page { self.old.page ≡ [] }
         ensures takes { TakesAll receiving.now result
-            (R.remaining (stream_of reader.old)) (R.remaining (stream_of reader.new))
+            (R.remaining reader.old) (R.remaining reader.new)
             (W.contents (stream_of writer.old)) (W.contents (stream_of writer.new))
             (S.contents (stream_of screen.old)) (S.contents (stream_of screen.new)) }
         ensures screen { KeepsStream screen.old screen.new (is_of_screen result) }
-        ensures same_reader { stream_name reader.new ≡ stream_name reader.old }
+        ensures same_writer { stream_name writer.new ≡ stream_name writer.old }
+    {
+        let fault = self.take_each(receiving, reader, writer, screen)?;
+        self.show_page(screen)?;
+        match fault {
+            None => Ok(()),
+            Some(fault) => Err(Stop::Fault(fault)),
+        }
+    }
+
+    /// Finds the queue, makes all receives, and collects or shows each message. Returns the fault
+    /// that ends the session, if one does. Fails if the screen does.
+    fn take_each<R: ReadAhead, W: Write, S: Write>(
+        &mut self,
+        receiving: &Receiving,
+        reader: &mut R,
+        writer: &mut Instrumented<'_, W>,
+        screen: &mut Instrumented<'_, S>,
+    ) -> Result<Option<ClientFault>, Unshown>
+        requires text { self.old.text ≡ [] }
+        requires page { self.old.page ≡ [] }
+        ensures ok { IfOk result (λ fault. TakesBut self.new.page receiving.now (ended_by fault)
+            (R.remaining reader.old) (R.remaining reader.new)
+            (W.contents (stream_of writer.old)) (W.contents (stream_of writer.new))
+            (S.contents (stream_of screen.old)) (S.contents (stream_of screen.new))) }
+        ensures err { IfErr result (λ unshown. TakesAll receiving.now (Err (Screen unshown))
+            (R.remaining reader.old) (R.remaining reader.new)
+            (W.contents (stream_of writer.old)) (W.contents (stream_of writer.new))
+            (S.contents (stream_of screen.old)) (S.contents (stream_of screen.new))) }
+        ensures screen { KeepsStream screen.old screen.new (is_err result) }
         ensures same_writer { stream_name writer.new ≡ stream_name writer.old }
     {
         let style = Style::of_receipt(&receiving.receipt);
-        let mut taking = self.find(receiving, reader, writer)?;
+        let mut taking = match self.find(receiving, reader, writer) {
+            Ok(taking) => taking,
+            Err(why) => return Ok(Some(why)),
+        };
         while taking.owed > 0 {
             match self.request(receiving, writer, &mut taking) {
                 Ok(()) => {}
                 Err(WriteFault) => {
                     let why = ClientFault::NoReply;
-                    return Err(self.finish(&style, reader, screen, &taking, why));
+                    return self.finish(&style, reader, screen, &taking, why);
                 }
             }
             match self.take(&style, taking.ask, reader, screen) {
@@ -252,34 +307,33 @@ impl Taker {
                 Took::Refused(error) => {
                     taking.waiting -= 1;
                     let why = ClientFault::Refused(error);
-                    return Err(self.finish(&style, reader, screen, &taking, why));
+                    return self.finish(&style, reader, screen, &taking, why);
                 }
-                Took::Lost => return Err(Stop::Fault(ClientFault::NoReply)),
-                Took::Unshown => return Err(Stop::Screen),
+                Took::Lost => return Ok(Some(ClientFault::NoReply)),
+                Took::Unshown(unshown) => return Err(unshown),
             }
         }
-        Ok(())
+        Ok(None)
     }
 
     /// Makes the requests before the first receive. Returns the receives of the session.
     fn find<R: Read, W: Write>(
         &mut self,
         receiving: &Receiving,
-        reader: &mut Instrumented<'_, R>,
+        reader: &mut R,
         writer: &mut Instrumented<'_, W>,
     ) -> Result<Taking, ClientFault>
         requires { self.old.text ≡ [] }
-        ensures finds { Finds receiving.now result
-            (R.remaining (stream_of reader.old)) (R.remaining (stream_of reader.new))
+        ensures finds { Finds receiving.now result (R.remaining reader.old) (R.remaining reader.new)
             (W.contents (stream_of writer.old)) (W.contents (stream_of writer.new)) }
         ensures text { self.new.text ≡ self.old.text }
-        ensures same_reader { stream_name reader.new ≡ stream_name reader.old }
+        ensures page { self.new.page ≡ self.old.page }
         ensures same_writer { stream_name writer.new ≡ stream_name writer.old }
     {
         let hello = Ask::Hello(receiving.cred);
-        let welcome = exchange(reader, writer, hello, &self.text, &mut self.given)?;
+        let welcome = exchange_plain(reader, writer, hello, &self.text, &mut self.given)?;
         let find = receiving.receipt.find();
-        let got = exchange(reader, writer, find, &self.text, &mut self.given)?;
+        let got = exchange_plain(reader, writer, find, &self.text, &mut self.given)?;
         let id = found(found(0, &welcome), &got);
         Ok(Taking {
             ask: receiving.receipt.receive(id),
@@ -317,25 +371,24 @@ impl Taker {
         Ok(())
     }
 
-    /// Reads the reply to a receive, and shows the message in it.
-    fn take<R: Read, S: Write>(
+    /// Reads the reply to a receive, and collects or shows the message in it.
+    fn take<R: ReadAhead, S: Write>(
         &mut self,
         style: &Style,
         ask: Ask,
-        reader: &mut Instrumented<'_, R>,
+        reader: &mut R,
         screen: &mut Instrumented<'_, S>,
     ) -> Took
-        ensures takes { TakesOne style.now ask result
-            (R.remaining (stream_of reader.old)) (R.remaining (stream_of reader.new))
+        ensures takes { TakesOne style.now ask result (R.remaining reader.old)
+            (R.remaining reader.new) self.old.page self.new.page
             (S.contents (stream_of screen.old)) (S.contents (stream_of screen.new)) }
         ensures text { self.new.text ≡ self.old.text }
         ensures screen { KeepsStream screen.old screen.new (is_unshown result) }
-        ensures same_reader { stream_name reader.new ≡ stream_name reader.old }
     {
-        match hear(reader, ask, &mut self.given) {
-            Ok(answer) => match self.show(style, &answer, screen) {
+        match hear_plain(reader, ask, &mut self.given) {
+            Ok(answer) => match self.show(style, &answer, reader.has_frame(), screen) {
                 Ok(()) => Took::Message,
-                Err(WriteFault) => Took::Unshown,
+                Err(unshown) => Took::Unshown(unshown),
             },
             Err(ClientFault::Refused(error)) => Took::Refused(error),
             Err(ClientFault::NoReply) => Took::Lost,
@@ -343,24 +396,29 @@ impl Taker {
         }
     }
 
-    /// Reads the replies to the receives on their way after a fault, and shows their messages.
-    /// Returns why the session ends.
-    fn finish<R: Read, S: Write>(
+    /// Reads the replies to the receives on their way after a fault, and collects or shows their
+    /// messages. Returns why the session ends. Fails if the screen does.
+    fn finish<R: ReadAhead, S: Write>(
         &mut self,
         style: &Style,
-        reader: &mut Instrumented<'_, R>,
+        reader: &mut R,
         screen: &mut Instrumented<'_, S>,
         taking: &Taking,
         fault: ClientFault,
-    ) -> Stop
-        ensures stops { (receiving : AReceiving) (left taken more shown : Option (List ℕ)) →
+    ) -> Result<Option<ClientFault>, Unshown>
+        ensures ok { (receiving : AReceiving) (left taken more shown : Option (List ℕ)) →
             style.now ≡ style_of_receipt receiving.receipt
-            → Stops receiving fault left (R.remaining (stream_of reader.old)) taken more shown
+            → Stops self.old.page receiving fault left (R.remaining reader.old) taken more shown
             (S.contents (stream_of screen.old)) taking.now.ask taking.now.waiting
-            → TakesAll receiving (Err result) left (R.remaining (stream_of reader.new)) taken
-            more shown (S.contents (stream_of screen.new)) }
-        ensures screen { KeepsStream screen.old screen.new (is_of_screen (Err result)) }
-        ensures same_reader { stream_name reader.new ≡ stream_name reader.old }
+            → IfOk result (λ why. TakesBut self.new.page receiving (ended_by why) left
+            (R.remaining reader.new) taken more shown (S.contents (stream_of screen.new))) }
+        ensures err { (receiving : AReceiving) (left taken more shown : Option (List ℕ)) →
+            style.now ≡ style_of_receipt receiving.receipt
+            → Stops self.old.page receiving fault left (R.remaining reader.old) taken more shown
+            (S.contents (stream_of screen.old)) taking.now.ask taking.now.waiting
+            → IfErr result (λ unshown. TakesAll receiving (Err (Screen unshown)) left
+            (R.remaining reader.new) taken more shown (S.contents (stream_of screen.new))) }
+        ensures screen { KeepsStream screen.old screen.new (is_err result) }
     {
         let mut why = fault;
         let mut waiting = taking.waiting;
@@ -368,38 +426,99 @@ impl Taker {
             match self.take(style, taking.ask, reader, screen) {
                 Took::Message => {}
                 Took::Refused(error) => why = first_of(why, error),
-                Took::Lost => return Stop::Fault(why),
-                Took::Unshown => return Stop::Screen,
+                Took::Lost => return Ok(Some(why)),
+                Took::Unshown(unshown) => return Err(unshown),
             }
             waiting -= 1;
         }
-        Stop::Fault(why)
+        Ok(Some(why))
     }
 
-    /// Shows a message, if the result is one.
+    /// Collects a message, if the result is one. What was collected is shown before it if it does
+    /// not fit in a write with the message, and after it unless more messages are there.
     fn show<S: Write>(
         &mut self,
         style: &Style,
         answer: &ReplyContent,
+        has_more: bool,
         screen: &mut Instrumented<'_, S>,
-    ) -> Result<(), WriteFault>
+    ) -> Result<(), Unshown>
         requires { length self.old.given ≤ MESSAGE_BYTES }
         ensures text { self.new.text ≡ self.old.text }
-        ensures ok { OnOk result (Appends (S.contents (stream_of screen.old))
-            (S.contents (stream_of screen.new))
-            (received_text style.now answer.now self.old.given)) }
-        ensures err { OnErr result (AppendsPrefix (S.contents (stream_of screen.old))
-            (S.contents (stream_of screen.new))
-            (received_text style.now answer.now self.old.given)) }
+        ensures ok { OnOk result (ShowsBut self.new.page
+            (self.old.page ++ received_text style.now answer.now self.old.given)
+            (S.contents (stream_of screen.old)) (S.contents (stream_of screen.new))) }
+        ensures err { OnErr result (ShowsPart
+            (self.old.page ++ received_text style.now answer.now self.old.given)
+            (S.contents (stream_of screen.old)) (S.contents (stream_of screen.new))) }
         ensures kept { KeepsStream screen.old screen.new (is_err result) }
     {
         match answer {
             ReplyContent::Rcv { mtype } => {
-                self.page.clear();
+                self.taken = self.taken.saturating_add(1);
+                self.make_room(style, screen)?;
                 self.page.message(style, *mtype, &mut self.given);
-                print_instrumented(screen, self.page.bytes())
+                self.held = self.held.saturating_add(1);
+                if has_more {
+                    return Ok(());
+                }
+                self.show_page(screen)?;
+                Ok(())
             }
             _ => Ok(()),
+        }
+    }
+
+    /// Shows what was collected, unless the message that was received last fits in a write with it.
+    fn make_room<S: Write>(
+        &mut self,
+        style: &Style,
+        screen: &mut Instrumented<'_, S>,
+    ) -> Result<(), Unshown>
+        requires { length self.old.given ≤ MESSAGE_BYTES }
+        ensures text { self.new.text ≡ self.old.text }
+        ensures given { self.new.given ≡ self.old.given }
+        ensures room { OnOk result
+            (length self.new.page + 6 * length self.old.given + 48 ≤ PAGE_ROOM) }
+        ensures ok { OnOk result (ShowsBut self.new.page self.old.page
+            (S.contents (stream_of screen.old)) (S.contents (stream_of screen.new))) }
+        ensures err { OnErr result (ShowsPart self.old.page
+            (S.contents (stream_of screen.old)) (S.contents (stream_of screen.new))) }
+        ensures kept { KeepsStream screen.old screen.new (is_err result) }
+    {
+        if self.page.fits(style, &self.given) {
+            return Ok(());
+        }
+        self.show_page(screen)
+    }
+
+    /// Writes what was collected and flushes it, if that is anything.
+    fn show_page<S: Write>(&mut self, screen: &mut Instrumented<'_, S>) -> Result<(), Unshown>
+        ensures text { self.new.text ≡ self.old.text }
+        ensures given { self.new.given ≡ self.old.given }
+        ensures page { OnOk result (self.new.page ≡ []) }
+        ensures ok { OnOk result (Appends (S.contents (stream_of screen.old))
+            (S.contents (stream_of screen.new)) self.old.page) }
+        ensures err { OnErr result (ShowsPart self.old.page
+            (S.contents (stream_of screen.old)) (S.contents (stream_of screen.new))) }
+        ensures kept { KeepsStream screen.old screen.new (is_err result) }
+    {
+        if !self.page.is_empty() {
+            match print_instrumented(screen, self.page.bytes()) {
+                Ok(()) => self.page.clear(),
+                Err(WriteFault) => return Err(self.unshown()),
+            }
+        }
+        self.shown = self.shown.saturating_add(self.held);
+        self.held = 0;
+        Ok(())
+    }
+
+    /// Returns how many messages were received and shown.
+    fn unshown(&self) -> Unshown {
+        Unshown {
+            taken: self.taken,
+            shown: self.shown,
         }
     }
 }

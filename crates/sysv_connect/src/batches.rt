@@ -15,12 +15,12 @@ use crate::patience::Patience;
 use crate::place::{Leave, Place};
 use crate::screen::Screen;
 use crate::sentence::Detail;
-use crate::teller::{Teller, Unshown};
+use crate::teller::{Left, Teller};
 use std::io::{Eprint, Read, Write};
 use std::process::ExitCode;
 use sysv_clients::{
     ClientFault, Cut, Form, MAX_AHEAD, Receipt, Receiving, Refusal, Sending, Stop, Target, Task,
-    Unsent, receive_all, remove_all, send_lines,
+    Unsent, Unshown, receive_all, remove_all, send_lines,
 };
 use sysv_model::{Cred, Errno};
 
@@ -169,8 +169,8 @@ fn receive_on<R: Leave, W: Write + Drop, S: Write>(
     };
     let fault = match stop {
         Stop::Fault(fault) => fault,
-        Stop::Screen => {
-            let unshown = unshown_of(receiving, screen.flushes);
+        Stop::Screen(unshown) => {
+            let unshown = left_after(receiving, unshown);
             return teller.no_output(rt, screen.failure, Some(unshown));
         }
     };
@@ -180,16 +180,16 @@ fn receive_on<R: Leave, W: Write + Drop, S: Write>(
     failed(is_late)
 }
 
-/// Returns which messages were not shown by a screen that failed after this number of messages.
-fn unshown_of(receiving: &Receiving, shown: u64) -> Unshown {
+/// Returns what became of the messages of a session whose screen failed.
+fn left_after(receiving: &Receiving, unshown: Unshown) -> Left {
     let ahead = if receiving.receipt.nowait {
         0
     } else {
         receiving.ahead.clamp(1, MAX_AHEAD) - 1
     };
-    let owed = receiving.count.saturating_sub(shown).saturating_sub(1);
-    Unshown {
-        shown,
+    let owed = receiving.count.saturating_sub(unshown.taken);
+    Left {
+        unshown,
         ahead: owed.min(u64::from(ahead)),
     }
 }

@@ -22,12 +22,12 @@ use crate::place::{Leave, Place};
 use crate::room::look;
 use crate::screen::{Screen, put};
 use crate::sentence::Detail;
-use crate::teller::{Teller, Unshown};
+use crate::teller::{Left, Teller};
 use std::alloc::Global;
 use std::io::{Eprint, Read, Write};
 use std::process::ExitCode;
 use std::str;
-use sysv_clients::{ClientFault, Command, Task, run_client};
+use sysv_clients::{ClientFault, Command, Task, Unshown, run_client};
 use sysv_model::{BODY_ROOM, Errno};
 
 /// No memory for what a command needs.
@@ -38,6 +38,12 @@ const NO_ROOM: ClientFault = ClientFault::Refused(Errno::EAGAIN);
 
 /// A request without a reply.
 const NO_REPLY: ClientFault = ClientFault::NoReply;
+
+/// The one message of a receive, which was not shown.
+const ONE_LEFT: Left = Left {
+    unshown: Unshown { taken: 1, shown: 0 },
+    ahead: 0,
+};
 
 /// More bytes than a client shows of one message.
 const PAGE_ROOM: usize = 8_300;
@@ -411,11 +417,11 @@ fn show<R: Leave, W: Write + Drop, S: Write>(
     if put(screen, page) {
         return ExitCode::SUCCESS;
     }
-    let unshown = match command.task {
-        Task::Receive(_) => Some(Unshown { shown: 0, ahead: 0 }),
+    let left = match command.task {
+        Task::Receive(_) => Some(ONE_LEFT),
         _ => None,
     };
-    teller.no_output(rt, screen.failure, unshown)
+    teller.no_output(rt, screen.failure, left)
 }
 
 /// Returns the status of a fault, or that of a time-out if a call was left.

@@ -7,7 +7,7 @@ use std::io;
 use std::io::Write;
 use sysv_model::Instrumented;
 
-/// A writer that remembers why it failed last, and how often it was flushed.
+/// A writer that remembers why it failed last.
 ///
 /// Writes and flushes pass on unchanged.
 #[derive(Drop)]
@@ -16,8 +16,6 @@ pub struct Screen<S> {
     pub writer: S,
     /// Why it failed last, if it has failed.
     pub failure: Option<io::Error>,
-    /// The number of flushes that succeeded.
-    pub flushes: u64,
 }
 
 impl<S> Screen<S> {
@@ -25,12 +23,10 @@ impl<S> Screen<S> {
     pub fn new(writer: S) -> Screen<S>
         ensures writer { result.writer ≡ writer }
         ensures failure { result.failure ≡ None }
-        ensures flushes { result.flushes ≡ 0 }
     {
         Screen {
             writer,
             failure: None,
-            flushes: 0,
         }
     }
 }
@@ -48,9 +44,8 @@ impl<S: Write> Write for Screen<S> {
 
     fn flush(&mut self) -> io::Result<()> {
         let outcome = self.writer.flush();
-        match &outcome {
-            Ok(()) => self.flushes = self.flushes.saturating_add(1),
-            Err(why) => self.failure = Some(*why),
+        if let Err(why) = &outcome {
+            self.failure = Some(*why);
         }
         outcome
     }

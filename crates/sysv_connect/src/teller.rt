@@ -10,7 +10,7 @@ use crate::sentence::{Detail, Head, Sentence, name_in};
 use std::io;
 use std::io::{Eprint, ErrorKind, Write};
 use std::process::ExitCode;
-use sysv_clients::{ClientFault, Command, Refusal, Target, Task};
+use sysv_clients::{ClientFault, Command, Refusal, Target, Task, Unshown};
 
 /// How the faults of a client are told.
 #[derive(Clone, Copy)]
@@ -25,10 +25,10 @@ pub(crate) struct Teller<'a> {
 
 /// The messages that a receive could not show.
 #[derive(Clone, Copy, PartialEq, Eq, Debug)]
-pub(crate) struct Unshown {
-    /// The number of messages that were shown.
-    pub(crate) shown: u64,
-    /// The maximum number of messages that were taken after the one that could not be shown.
+pub(crate) struct Left {
+    /// How many messages were received and shown.
+    pub(crate) unshown: Unshown,
+    /// The maximum number of messages that were taken after those.
     pub(crate) ahead: u64,
 }
 
@@ -133,7 +133,7 @@ impl Teller<'_> {
         &self,
         rt: &(impl Eprint + AllocGlobal),
         why: Option<io::Error>,
-        unshown: Option<Unshown>,
+        left: Option<Left>,
     ) -> ExitCode
         ensures { Fails result }
     {
@@ -145,8 +145,8 @@ impl Teller<'_> {
             }
             None => eprintln!(rt; "sysvmsg: {head}: cannot write standard output"),
         };
-        if let Some(unshown) = unshown {
-            count(rt, unshown);
+        if let Some(left) = left {
+            count(rt, left);
         }
         ExitCode::from(FAULT)
     }
@@ -198,9 +198,9 @@ impl Teller<'_> {
 }
 
 /// Reports how many messages a client took and showed.
-fn count(rt: &impl Eprint, unshown: Unshown) {
-    let Unshown { shown, ahead } = unshown;
-    let taken = shown.saturating_add(1);
+fn count(rt: &impl Eprint, left: Left) {
+    let Left { unshown, ahead } = left;
+    let Unshown { taken, shown } = unshown;
     let _ = eprintln!(rt; "sysvmsg: messages that were taken: {taken}, and shown: {shown}");
     if ahead > 0 {
         let _ = eprintln!(rt; "sysvmsg: later messages that may have been taken: at most {ahead}");

@@ -10,9 +10,8 @@ use Rattle.sysv_queue.specs.Slot.{Slot}
 use Rattle.sysv_queue.specs.Blocks.{blocks_of}
 use Rattle.sysv_objects.specs.Objects.{blocks_in}
 use Rattle.sysv_core.specs.World.{World, Opening, Doing, Response, Transition, opening}
-use Rattle.sysv_core.specs.Standing.{Pending, pending}
-use Rattle.sysv_core.specs.declared.doing.Doing.{Doing as DoingKept}
-use Rattle.sysv_core.specs.declared.doing.Doing.TheVariants as doing
+use Rattle.sysv_steps.specs.Pending.{Pending, pending}
+use Rattle.sysv_core.specs.declared.actor.Doing.{Doing as DoingKept}
 use Rattle.sysv_steps.specs.HeldBlocks.{held as held_at}
 use Rattle.sysv_core.specs.Kept.{state_kept, states_kept, blocks_kept_by, blocks_kept}
 use Rattle.sysv_core.specs.Seen.{Seen, state_in, IsSeenAs, Represents}
@@ -55,12 +54,7 @@ in_calls (Some d ∷ actors) = omega (
 
 one_kept : (x : Option DoingKept) → blocks_kept_by x ≡ blocks_at (state_kept x)
 one_kept None = refl
-one_kept (Some (doing.Get at)) = refl
-one_kept (Some (doing.Send sent)) = refl
-one_kept (Some (doing.Receive at body)) = refl
-one_kept (Some (doing.Stat step)) = refl
-one_kept (Some (doing.Set step)) = refl
-one_kept (Some (doing.Remove step)) = refl
+one_kept (Some d) = refl
 
 all_kept : (doings : List (Option DoingKept)) → blocks_kept doings ≡ sum_by blocks_at (states_kept doings)
 all_kept [] = refl

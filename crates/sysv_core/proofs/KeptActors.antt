@@ -10,12 +10,13 @@ use Rattle.sysv_model.specs.Pool.{Reserve, Release}
 use Rattle.sysv_model.specs.Turn.{Op, AtSlot, AtRegistry, AtPool}
 use Rattle.sysv_steps.specs.Call.{Kind}
 use Rattle.sysv_steps.specs.State.{State, Goes, Waits, Over}
-use Rattle.sysv_core.specs.declared.doing.Doing.{Doing}
-use Rattle.sysv_core.specs.declared.doing.Led.{Led}
-use Rattle.sysv_core.specs.declared.doing.Led.TheVariants as led
+use Rattle.sysv_core.specs.declared.actor.Doing.{Doing}
+use Rattle.sysv_core.specs.declared.actor.Led.{Led}
+use Rattle.sysv_core.specs.declared.actor.Led.TheVariants as led
 use Rattle.sysv_queue.specs.Tally.{Tallied}
 use Rattle.sysv_core.specs.Kept.{doing_led, counted_led, told_by}
-use Rattle.sysv_core.specs.Tallying.{is_got, messages_given}
+use Rattle.sysv_steps.specs.Answered.{is_got}
+use Rattle.sysv_core.specs.Tallying.{messages_given}
 use Rattle.sysv_core.specs.Led.{StepLeads}
 use Rattle.sysv_core.specs.Seen.{Seen}
 use Rattle.sysv_core.proofs.Lists.{slice_set-same, get_set_same}
@@ -70,7 +71,7 @@ same_seen o p s t m n a b e f g h = cc
 pub given_counted : (actor : ℕ) (l : Led) → messages_given (told_by actor l) ≤ counted_led l
 given_counted actor (led.To doing) = omega arith
 given_counted actor (led.Stays doing) = omega arith
-given_counted actor (led.Over ended) = one_at_most (is_got ended.result)
+given_counted actor (led.Over ended body) = one_at_most (is_got ended.outcome)
   where
     one_at_most : (b : Bool) → cond {A = ℕ} b 1 0 ≤ 1
     one_at_most true = omega arith
@@ -79,7 +80,7 @@ given_counted actor (led.Over ended) = one_at_most (is_got ended.result)
 counted_at_most : (l : Led) → counted_led l ≤ 1
 counted_at_most (led.To doing) = omega arith
 counted_at_most (led.Stays doing) = omega arith
-counted_at_most (led.Over ended) = omega arith
+counted_at_most (led.Over ended body) = omega arith
 
 pub given_at_most : (actor : ℕ) (l : Led) → messages_given (told_by actor l) ≤ 1
 given_at_most actor l = omega (arith, given_counted actor l, counted_at_most l)
@@ -105,7 +106,7 @@ pub counts_on : {kind : Kind} (old : Objects) (state : State kind) (now : ℕ) (
     StepLeads old state now l new → CountsUpTo n old → CountsUpTo (n + counted_led l) new
 counts_on old (Goes phase) now (led.To doing) new n step up =
     weaker (n + raises_by step.op) (n + 1) new (omega (arith, raises_at_most step.op)) (step.turn.counts n up)
-counts_on old (Goes phase) now (led.Over ended) new n step up =
+counts_on old (Goes phase) now (led.Over ended body) new n step up =
     weaker (n + raises_by step.op) (n + 1) new (omega (arith, raises_at_most step.op)) (step.turn.counts n up)
 counts_on old (Goes phase) now (led.Stays doing) new n step up = absurd step.leads
 counts_on old (Waits wait) now l new n step up =

@@ -16,8 +16,8 @@ use Rattle.sysv_core.specs.World.{World, Invocation, Doing, Response, Transition
 use Rattle.sysv_core.specs.World.{response_in}
 use Rattle.sysv_core.specs.World.{in_state, with_turn, Turns, Looks, Continues, StartsAt, StepsAt, Presets, Makes}
 use Rattle.sysv_core.specs.Run.{Leads}
-use Rattle.sysv_core.specs.Answered.{TellsEnding}
-use Rattle.sysv_core.specs.Kinds.{gives_back}
+use Rattle.sysv_steps.specs.Answered.{TellsEnding}
+use Rattle.sysv_steps.specs.Kinds.{gives_back}
 use Rattle.sysv_core.specs.Sound.{IsToCaller, IsSound, StaysSound}
 use Rattle.sysv_core.specs.Seen.{Tells, Gives, transition_of}
 use Rattle.sysv_model.specs.History.{Who, Actor, Seat}

@@ -12,7 +12,8 @@ use Rattle.sysv_core.specs.declared.event.Stepped.TheVariants as stepped
 use Rattle.sysv_core.specs.World.{World, Opening, Response, Transition, Preset, opening, Makes}
 use Rattle.sysv_core.specs.Run.{Leads}
 use Rattle.sysv_core.specs.Seen.{Seen, Represents, transition_of, Tells, TellAll, Gives, PresetsSeen, StepsSeen}
-use Rattle.sysv_core.specs.Tallying.{is_got, messages_given, messages_in}
+use Rattle.sysv_steps.specs.Answered.{is_got}
+use Rattle.sysv_core.specs.Tallying.{messages_given, messages_in}
 use Rattle.sysv_core.specs.Headline.{StandsWithEvent, RunsOn, LawsHold, EveryRunObeys}
 
 pub leads_more : (w : World) (xs : List Transition) (x : Transition) (responses more : List Response)

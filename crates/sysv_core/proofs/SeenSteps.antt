@@ -19,14 +19,13 @@ use Rattle.sysv_steps.specs.State.{Phase, Wait, Ending, State, Goes, Waits, Over
 use Rattle.sysv_steps.specs.Resume.{awaited, resume}
 use Rattle.sysv_steps.specs.Begin.{begin}
 use Rattle.sysv_steps.specs.declared.call.Call.{Call}
-use Rattle.sysv_core.specs.declared.doing.Led.{Led}
-use Rattle.sysv_core.specs.declared.doing.Led.TheVariants as led
+use Rattle.sysv_core.specs.declared.actor.Led.{Led}
+use Rattle.sysv_core.specs.declared.actor.Led.TheVariants as led
 use Rattle.sysv_core.specs.declared.event.Event.{Event}
 use Rattle.sysv_core.specs.declared.event.Event.TheVariants.{Start, Step}
-use Rattle.sysv_core.specs.declared.doing.Doing.{Doing as DoingKept}
-use Rattle.sysv_core.specs.declared.doing.Doing.TheVariants as doing
-use Rattle.sysv_core.specs.declared.doing.Standing.{Standing}
-use Rattle.sysv_core.specs.declared.doing.Standing.TheVariants as standing
+use Rattle.sysv_core.specs.declared.actor.Doing.{Doing as DoingKept}
+use Rattle.sysv_steps.specs.declared.pending.Pending.{Pending as PendingKept}
+use Rattle.sysv_steps.specs.declared.pending.Pending.TheVariants.{At, Waits as InWait}
 use Rattle.sysv_core.specs.declared.event.Stepped.{Stepped}
 use Rattle.sysv_core.specs.declared.event.Stepped.TheVariants as stepped
 use Rattle.sysv_core.specs.World.{World, Invocation, Doing, Response, Start as Begun, Step as Stepping, Preset}
@@ -35,7 +34,8 @@ use Rattle.sysv_core.specs.World.{doing_in, response_in, in_state, with_call, st
 use Rattle.sysv_core.specs.World.{StartsAt, StepsAt, Presets, with_preset}
 use Rattle.sysv_core.specs.Sound.{IsToCaller, StaysSound}
 use Rattle.sysv_steps.specs.Asked.{asked_of}
-use Rattle.sysv_core.specs.Standing.{Pending, pending, stands_at, doing_state}
+use Rattle.sysv_steps.specs.Pending.{Pending, pending, text_in, pending_state}
+use Rattle.sysv_core.specs.Standing.{doing_state}
 use Rattle.sysv_core.specs.Kept.{state_kept, states_kept, doing_led, kept_led, counted_led, told_by}
 use Rattle.sysv_core.specs.Led.{LeadsTo, TurnLeads, LookLeads, Stays, StepLeads, DoingLeads}
 use Rattle.sysv_core.specs.Preset.{MakesPreset}
@@ -62,29 +62,20 @@ abbrev IsOver : {kind : Kind} → State kind → Type 0
 IsOver (Over ending) = Unit {0}
 IsOver state = ⊥
 
-stands_on : {kind : Kind} {S W : Type 0} (phase : S → Phase kind) (wait : W → Wait kind) (k : Standing S W) →
-    IsOver (stands_at phase wait k) → ⊥
-stands_on phase wait (standing.At step) e = e
-stands_on phase wait (standing.Waits w) e = e
-
-pending_on : (d : DoingKept) → IsOver (doing_state d).state → ⊥
-pending_on (doing.Get at) e = stands_on _ _ at e
-pending_on (doing.Send sent) e = stands_on _ _ sent.at e
-pending_on (doing.Receive at body) e = stands_on _ _ at e
-pending_on (doing.Stat step) e = e
-pending_on (doing.Set step) e = e
-pending_on (doing.Remove step) e = e
+stands_on : (p : PendingKept) (text : List ℕ) → IsOver (pending_state p text) → ⊥
+stands_on (At step) text e = e
+stands_on (InWait w) text e = e
 
 -- A pending call is not over.
 never_over : {kind : Kind} (ending : Ending) (d : DoingKept) → pending {kind = kind} (Over ending) ≡ doing_state d → ⊥
-never_over ending d e = pending_on d (subst (λ (p : Pending). IsOver p.state) e tt)
+never_over ending d e = stands_on d.pending (text_in d.body) (subst (λ (p : Pending). IsOver p.state) e tt)
 
 state_led : (call : Invocation) (state : State (kind_of call.asked)) (l : Led) → LeadsTo state l →
     state_in (doing_in call state) ≡ kept_led l
 state_led call (Goes phase) (led.To doing) h = ap Some h
 state_led call (Waits wait) (led.To doing) h = ap Some h
 state_led call (Over ending) (led.To doing) h = absurd (never_over ending doing h)
-state_led call (Over ending) (led.Over ended) h = refl
+state_led call (Over ending) (led.Over ended body) h = refl
 state_led call state l h = absurd h
 
 -- The result of a start or a step is reported.
@@ -94,24 +85,15 @@ tells_led : (w : World) (call : Invocation) (actor : ℕ) (state : State (kind_o
 tells_led w call actor (Goes phase) (led.To doing) young own h = (young, refl)
 tells_led w call actor (Waits wait) (led.To doing) young own h = (young, refl)
 tells_led w call actor (Over ending) (led.To doing) young own h = absurd (never_over ending doing h)
-tells_led w call actor (Over ending) (led.Over ended) young own h =
+tells_led w call actor (Over ending) (led.Over ended body) young own h =
     let g : Response = record { call = call; ending = ending } in
     (young, (g, refl, record { caller = own; ending = h }))
 tells_led w call actor state l young own h = absurd h
 
 counts_led : {kind : Kind} (state : State kind) (l : Led) (n : ℕ) → LeadsTo state l → n + 1 ≡ n + counted_led l
 counts_led state (led.To doing) n h = refl
-counts_led state (led.Over ended) n h = refl
+counts_led state (led.Over ended body) n h = refl
 counts_led state (led.Stays doing) n h = absurd h
-
-pub state_leads : (old : Objects) (d : DoingKept) (now : ℕ) (l : Led) (new : Objects) → DoingLeads old d now l new →
-    StepLeads old (doing_state d).state now l new
-state_leads old (doing.Get at) now l new h = h
-state_leads old (doing.Send sent) now l new h = h
-state_leads old (doing.Receive at body) now l new h = h
-state_leads old (doing.Stat step) now l new h = h
-state_leads old (doing.Set step) now l new h = h
-state_leads old (doing.Remove step) now l new h = h
 
 -- What is seen after the call of a place was led on.
 abbrev led_on : Seen → ℕ → Led → Objects → Seen
@@ -309,7 +291,7 @@ module _ (w : World) (seen : Seen) (s : IsSeenAs w seen) (sound : StaysSound) wh
     },
   )
   stays_here n place now (led.To doing) call wait young same busy continues stays = absurd stays
-  stays_here n place now (led.Over ended) call wait young same busy continues stays = absurd stays
+  stays_here n place now (led.Over ended body) call wait young same busy continues stays = absurd stays
 
   look_here : (n place now : ℕ) (l : Led) (call : Invocation) (wait : Wait (kind_of call.asked)) → w.steps < WORN →
       n ≡ place → slice_get w.actors n ≡ Some (Some record { call = call; state = Waits wait }) →
@@ -344,8 +326,7 @@ module _ (w : World) (seen : Seen) (s : IsSeenAs w seen) (sound : StaysSound) wh
       let found = busy_at place p there in
       step_here n place now l objects found.0.call found.0.state (young_too h) same
       (ap (slice_get w.actors) same ∙ found.1)
-      (subst (λ (x : Pending). StepLeads seen.objects x.state now l objects) (sym found.2)
-      (state_leads seen.objects p now l objects step))
+      (subst (λ (x : Pending). StepLeads seen.objects x.state now l objects) (sym found.2) step)
 
   -- ---- a preset
 

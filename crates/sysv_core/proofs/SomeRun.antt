@@ -28,9 +28,9 @@ use Rattle.sysv_core.specs.World.{actor_at}
 use Rattle.sysv_core.specs.World.{response_in, in_state, with_call, with_turn, with_preset, starting, begun, value_of}
 use Rattle.sysv_core.specs.World.{StartsAt, StepsAt, Presets, Makes}
 use Rattle.sysv_core.specs.Run.{Leads}
-use Rattle.sysv_core.specs.Answered.{outcome_of, text_given, body_with}
+use Rattle.sysv_steps.specs.Answered.{outcome_of, text_given, body_with}
 use Rattle.sysv_steps.specs.Asked.{asked_of}
-use Rattle.sysv_core.specs.Kinds.{gives_back}
+use Rattle.sysv_steps.specs.Kinds.{gives_back}
 use Rattle.sysv_core.specs.Sound.{IsToCaller, IsSound, StaysSound}
 use Rattle.sysv_core.specs.Seen.{Gives, transition_of}
 use Rattle.sysv_core.specs.SomeRun.{SomeStep, SomePreset, SomeRun}

@@ -1,23 +1,24 @@
 -- What a turn of a call at the objects themselves leads to.
-use Rattle.std.proofs.Common.{◌≡◌, ◌↔◌, ◌<◌, ◌≤◌, ◌⊎◌, inl, inr, IsTrue, rules, arith, ℕ, Bool, true, false, List, refl}
-use Rattle.std.proofs.Common.{ap}
-use Rattle.std.proofs.Common.{subst, ◌∙◌}
+use Rattle.std.proofs.Common.{◌≡◌, ◌<◌, ◌≤◌, ◌+◌, ◌⊎◌, inl, inr, arith, ℕ, Bool, true, false, List, Option, Some, refl}
+use Rattle.std.proofs.Common.{ap, subst, ◌∙◌}
 use Rattle.sysv_model.specs.Turn.{Turn}
 use Rattle.sysv_objects.specs.Objects.{Objects}
 use Rattle.sysv_objects.specs.Represents.{MakesTurn}
 use Rattle.sysv_steps.specs.Call.{Kind}
-use Rattle.sysv_steps.specs.State.{Phase, AtInstall, AtPlace, AtTake, AtSet, State, Wait, Goes, Waits}
+use Rattle.sysv_steps.specs.State.{Phase, AtInstall, AtPlace, AtTake, AtSet, State, Wait, Goes, Waits, Over}
 use Rattle.sysv_steps.specs.Asks.{asks}
-use Rattle.sysv_steps.specs.Seen.{receive_phase, receive_state}
-use Rattle.sysv_steps.specs.Stepping.{is_stamped, no_moment, StepsOn}
-use Rattle.sysv_steps.specs.Giving.{ReceiveKept, StepsGiving}
-use Rattle.sysv_steps.specs.declared.receive.ReceiveStep.{ReceiveStep}
-use Rattle.sysv_core.specs.declared.doing.Led.{Led}
+use Rattle.sysv_steps.specs.Stepping.{is_stamped, StepsOn}
 use Rattle.sysv_steps.specs.Resume.{awaited, goal_of, resume}
+use Rattle.sysv_steps.specs.Kinds.{gives_back}
+use Rattle.sysv_steps.specs.Answered.{text_given, body_with}
+use Rattle.sysv_steps.specs.Pending.{Pending, pending, ComesTo}
+use Rattle.sysv_steps.specs.declared.progress.Ended.{Ended}
+use Rattle.sysv_steps.specs.declared.progress.Progress.TheVariants as progress
+use Rattle.sysv_core.specs.declared.actor.Led.{Led}
+use Rattle.sysv_core.specs.declared.actor.Led.TheVariants as led
 use Rattle.sysv_core.specs.World.{value_of}
+use Rattle.sysv_core.specs.Kept.{returned}
 use Rattle.sysv_core.specs.Led.{LeadsTo, TurnLeads}
-use Rattle.sysv_core.specs.Standing.{Pending, pending}
-use Rattle.sysv_lists.proofs.Orders.{at_most}
 
 -- ---- the objects always have a turn
 
@@ -42,47 +43,33 @@ module _ {kind : Kind} (old new : Objects) (p : Phase kind) (now before after : 
   }
   leads_so (inr worn) leads = absurd worn.worn
 
-  -- A step that does not use the time.
-  pub leads_ever : StepsOn MakesTurn (λ _ _ _. ⊥) no_moment p old before s new after → LeadsTo s l →
-      TurnLeads old p now l new
-  leads_ever (inl step) leads = record {
-    op = step.op;
-    state = s;
-    asked = step.asked ∙ same_asks p step.now now (λ e. absurd (step.moment e));
-    turn = step.makes.turn;
-    goes = step.goes;
-    leads = leads;
-  }
-  leads_ever (inr worn) leads = absurd worn.worn
-
-pub receive_leads : (old new : Objects) (p : ReceiveStep) (text out : List ℕ) (now before after : ℕ) (s : ReceiveKept)
-    (l : Led) → StepsGiving MakesTurn (λ _ _ _. ⊥) (λ n. n ≡ now) p text old before s out new after →
-    LeadsTo (receive_state s out) l → TurnLeads old (receive_phase p text) now l new
-receive_leads old new p text out now before after s l (inl step) leads =
-    leads_so old new (receive_phase p text) now before after (receive_state s out) l (inl step.0) leads
-receive_leads old new p text out now before after s l (inr step) leads = absurd step.0.worn
-
 -- ---- a look at the count of a wait
 
--- A wait that is found not to be over.
-not_over : (b : Bool) → b ≡ false → (goal count value : ℕ) → IsTrue b ↔ goal ≤ count → count ≡ value → value < goal
-not_over b off goal count value test is = elim (at_most goal count) [
-  | inl reached ↦ let bad : IsTrue false = subst IsTrue off (test.1 reached) in search rules
-  | inr below ↦ omega arith
-]
-
-module _ {kind : Kind} (wait : Wait kind) (value : ℕ) (turns : List Turn)
-    (is : value ≡ value_of turns (awaited wait)) (over : Bool) (test : IsTrue over ↔ goal_of wait ≤ value) where
-  -- The count is at the goal, and the call continues in this state.
-  pub looks_over : {Q : Type 0} (at : Pending) → IsTrue over → pending (Goes (resume wait value)) ≡ at →
+module _ {kind : Kind} (wait : Wait kind) (value above : ℕ) (turns : List Turn)
+    (is : value ≡ value_of turns (awaited wait)) (goal : goal_of wait ≡ above + 1) where
+  -- The count is above the value of the wait, and the call continues in this state.
+  pub looks_over : {Q : Type 0} (at : Pending) → above < value → pending (Goes (resume wait value)) ≡ at →
       ((goal_of wait ≤ value_of turns (awaited wait))
       × (pending (Goes (resume wait (value_of turns (awaited wait)))) ≡ at)) ⊎ Q
-  looks_over at reached e = inl (
-    subst (λ n. goal_of wait ≤ n) is (test.0 reached),
-    subst (λ n. pending (Goes (resume wait n)) ≡ at) is e,
-  )
+  looks_over at over e = inl (omega (arith, over, goal, is), subst (λ n. pending (Goes (resume wait n)) ≡ at) is e)
 
-  -- The count is below the goal, and the call still waits.
-  pub looks_on : {Q : Type 0} (at : Pending) → over ≡ false → pending (Waits wait) ≡ at →
+  -- The count is not above it, and the call still waits.
+  pub looks_on : {Q : Type 0} (at : Pending) → value ≤ above → pending (Waits wait) ≡ at →
       Q ⊎ ((value_of turns (awaited wait) < goal_of wait) × (pending (Waits wait) ≡ at))
-  looks_on at below e = inr (not_over over below (goal_of wait) value (value_of turns (awaited wait)) test is, e)
+  looks_on at below e = inr (omega (arith, below, goal, is), e)
+
+-- ---- the result of a start or a turn, with the body of the call
+
+returned_same : (receives : Bool) (body : Option (List ℕ)) (text : List ℕ) → (receives ≡ true → body ≡ Some text) →
+    returned receives body ≡ body_with receives text
+returned_same true body text h = h refl
+returned_same false body text h = refl
+
+pub leads_over : {kind : Kind} (state : State kind) (ended : Ended) (body : Option (List ℕ)) →
+    ComesTo state (progress.Over ended) body → LeadsTo state (led.Over ended body)
+leads_over (Goes phase) ended body h = h
+leads_over (Waits wait) ended body h = h
+leads_over {kind} (Over ending) ended body h = (
+  h.0,
+  ap (λ r. returned r body) h.1 ∙ returned_same (gives_back kind) body (text_given ending) h.2,
+)

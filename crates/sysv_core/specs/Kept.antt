@@ -1,13 +1,14 @@
 -- What a world of the code keeps of its actors, as states of the definitions (this project's
 -- profile).
-use Rattle.std.specs.Prelude.{ℕ, List, Option, Some, None, option_map, map, sum_by}
+use Rattle.std.specs.Prelude.{ℕ, Bool, List, Option, Some, None, option_map, map, sum_by, if◌then◌else◌}
 use Rattle.sysv_steps.specs.HeldBlocks.{held}
-use Rattle.sysv_core.specs.declared.doing.Doing.{Doing}
-use Rattle.sysv_core.specs.declared.doing.Led.{Led}
-use Rattle.sysv_core.specs.declared.doing.Led.TheVariants as led
+use Rattle.sysv_core.specs.declared.actor.Doing.{Doing}
+use Rattle.sysv_core.specs.declared.actor.Led.{Led}
+use Rattle.sysv_core.specs.declared.actor.Led.TheVariants as led
 use Rattle.sysv_core.specs.declared.event.Stepped.{Stepped}
 use Rattle.sysv_core.specs.declared.event.Stepped.TheVariants as stepped
-use Rattle.sysv_core.specs.Standing.{Pending, of_state, doing_state}
+use Rattle.sysv_steps.specs.Pending.{Pending}
+use Rattle.sysv_core.specs.Standing.{of_state, doing_state}
 
 -- The state of the call that an actor is in, if it is in one.
 abbrev pub state_kept : Option Doing → Option Pending
@@ -34,7 +35,7 @@ blocks_kept actors = sum_by blocks_kept_by actors
 abbrev pub doing_led : Led → Option Doing
 doing_led (led.To doing) = Some doing
 doing_led (led.Stays doing) = Some doing
-doing_led (led.Over ended) = None
+doing_led (led.Over ended body) = None
 
 -- The same, as a state of the definitions.
 abbrev pub kept_led : Led → Option Pending
@@ -44,10 +45,18 @@ kept_led l = state_kept (doing_led l)
 abbrev pub counted_led : Led → ℕ
 counted_led (led.To doing) = 1
 counted_led (led.Stays doing) = 0
-counted_led (led.Over ended) = 1
+counted_led (led.Over ended body) = 1
+
+-- The body of the call that the answer returns: that of a receive.
+abbrev pub returned : Bool → Option (List ℕ) → Option (List ℕ)
+returned receives body = if receives then body else None
 
 -- What a start or a step of the actor's call returns.
 abbrev pub told_by : ℕ → Led → Stepped
 told_by actor (led.To doing) = stepped.Nothing
 told_by actor (led.Stays doing) = stepped.Nothing
-told_by actor (led.Over ended) = stepped.Answer record { actor = actor; result = ended.result; body = ended.body }
+told_by actor (led.Over ended body) = stepped.Answer record {
+  actor = actor;
+  result = ended.outcome;
+  body = returned ended.receives body;
+}

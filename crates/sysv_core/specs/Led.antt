@@ -9,21 +9,24 @@ use Rattle.sysv_steps.specs.State.{Phase, Wait, State, Goes, Waits, Over}
 use Rattle.sysv_steps.specs.Asks.{asks}
 use Rattle.sysv_steps.specs.Next.{next}
 use Rattle.sysv_steps.specs.Resume.{awaited, goal_of, resume}
-use Rattle.sysv_core.specs.declared.doing.Doing.{Doing}
-use Rattle.sysv_core.specs.declared.doing.Led.{Led}
-use Rattle.sysv_core.specs.declared.doing.Led.TheVariants as led
-use Rattle.sysv_core.specs.Answered.{TellsEnding}
-use Rattle.sysv_core.specs.Kinds.{gives_back}
-use Rattle.sysv_core.specs.Standing.{pending, of_state, doing_state}
+use Rattle.sysv_core.specs.declared.actor.Doing.{Doing}
+use Rattle.sysv_core.specs.declared.actor.Led.{Led}
+use Rattle.sysv_core.specs.declared.actor.Led.TheVariants as led
+use Rattle.sysv_steps.specs.Answered.{TellsEnding}
+use Rattle.sysv_steps.specs.Kinds.{gives_back}
+use Rattle.sysv_steps.specs.Pending.{pending}
+use Rattle.sysv_core.specs.Kept.{returned}
+use Rattle.sysv_core.specs.Standing.{of_state, doing_state}
 use Rattle.sysv_core.specs.World.{value_of}
 
 -- The code's call continues in the state in which the definitions' call is, or both are over and
 -- the code reports the ending, with the body or without it. A spare body is not reported.
 abbrev pub LeadsTo : {kind : Kind} → State kind → Led → Type 0
 LeadsTo state (led.To doing) = pending state ≡ doing_state doing
-LeadsTo {kind} (Over ending) (led.Over ended) = TellsEnding (gives_back kind) ending ended.result ended.body
-LeadsTo (Goes phase) (led.Over ended) = ⊥
-LeadsTo (Waits wait) (led.Over ended) = ⊥
+LeadsTo {kind} (Over ending) (led.Over ended body) =
+    TellsEnding (gives_back kind) ending ended.outcome (returned ended.receives body)
+LeadsTo (Goes phase) (led.Over ended body) = ⊥
+LeadsTo (Waits wait) (led.Over ended body) = ⊥
 LeadsTo state (led.Stays doing) = ⊥
 
 -- One turn of the call in that phase at its object, and its result.
@@ -40,7 +43,7 @@ pub record TurnLeads {kind : Kind} (old : Objects) (phase : Phase kind) (now : �
 abbrev pub Stays : {kind : Kind} → State kind → Led → Type 0
 Stays state (led.Stays doing) = pending state ≡ doing_state doing
 Stays state (led.To doing) = ⊥
-Stays state (led.Over ended) = ⊥
+Stays state (led.Over ended body) = ⊥
 
 -- The call's look at the count for which it waits: it continues if its goal is reached, else it
 -- still waits.

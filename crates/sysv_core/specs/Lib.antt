@@ -20,10 +20,8 @@ pub use Rattle.sysv_steps.specs.AsksFor
 pub use Rattle.sysv_steps.specs.Answers
 pub mod World
 pub mod Run
-pub mod Kinds
 pub mod Conserved
 pub mod Sound
-pub mod Answered
 pub mod Tallying
 pub mod Seen
 pub mod Held

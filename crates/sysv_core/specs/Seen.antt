@@ -14,11 +14,11 @@ use Rattle.sysv_core.specs.declared.event.Stepped.TheVariants as stepped
 use Rattle.sysv_core.specs.World.{World, Opening, Doing, Response, Transition, Start, Step, Makes, Presets, opening}
 use Rattle.sysv_core.specs.Run.{Leads}
 use Rattle.sysv_steps.specs.Asked.{asked_of}
-use Rattle.sysv_core.specs.Answered.{TellsEnding}
-use Rattle.sysv_core.specs.Kinds.{gives_back}
-use Rattle.sysv_core.specs.Standing.{Pending, pending}
+use Rattle.sysv_steps.specs.Answered.{TellsEnding}
+use Rattle.sysv_steps.specs.Kinds.{gives_back}
+use Rattle.sysv_steps.specs.Pending.{Pending, pending}
 use Rattle.sysv_core.specs.Kept.{states_kept}
-use Rattle.sysv_core.specs.declared.doing.Doing.{Doing as DoingKept}
+use Rattle.sysv_core.specs.declared.actor.Doing.{Doing as DoingKept}
 use Rattle.sysv_core.specs.Sound.{IsToCaller, IsSound}
 
 -- ---- events

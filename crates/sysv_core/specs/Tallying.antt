@@ -1,9 +1,8 @@
 -- The tally of a world (this project's profile): the messages that its answers returned are counted
 -- as written, and none as lost.
-use Rattle.std.specs.Prelude.{ℕ, Bool, true, false, List, cond, count_by}
+use Rattle.std.specs.Prelude.{ℕ, List, cond, count_by}
 use Rattle.sysv_queue.specs.Tally.{Tallied}
-use Rattle.sysv_steps.specs.declared.outcome.Outcome.{Outcome}
-use Rattle.sysv_steps.specs.declared.outcome.Outcome.TheVariants as outcome
+use Rattle.sysv_steps.specs.Answered.{is_got}
 use Rattle.sysv_core.specs.declared.event.Answer.{Answer}
 use Rattle.sysv_core.specs.declared.event.Stepped.{Stepped}
 use Rattle.sysv_core.specs.declared.event.Stepped.TheVariants as stepped
@@ -11,14 +10,6 @@ use Rattle.sysv_core.specs.declared.event.Stepped.TheVariants as stepped
 -- The tally of no messages.
 abbrev pub none_taken : Tallied
 none_taken = record { written = 0; lost = 0 }
-
--- A receive succeeded.
-abbrev pub is_got : Outcome → Bool
-is_got (outcome.Id id) = false
-is_got outcome.Zero = false
-is_got (outcome.Got mtype len) = true
-is_got (outcome.Stat stat) = false
-is_got (outcome.Refused why) = false
 
 -- The number of messages that an event returned: 1 if it ended a receive that succeeded, else 0.
 abbrev pub messages_given : Stepped → ℕ

@@ -1,46 +1,46 @@
-//! The start and the steps of an actor's call at the objects.
+//! The start, the steps and the end of an actor's call at the objects.
 
-ghost use Rattle.std.specs.Prelude.{◌≡◌, ◌≤◌, ◌^◌, Some};
+ghost use Rattle.std.specs.Prelude.{◌≡◌, ◌≤◌, ◌^◌, ℕ, List};
+ghost use Rattle.sysv_model.specs.Turn.{Turn};
 ghost use Rattle.sysv_objects.specs.Objects.{CountsUpTo};
-ghost use Rattle.sysv_steps.specs.Begin.{begin as begins};
+ghost use Rattle.sysv_objects.specs.Represents.{Represents};
 ghost use Rattle.sysv_steps.specs.Asked.{asked_of};
-ghost use Rattle.sysv_core.specs.Kept.{counted_led};
-ghost use Rattle.sysv_core.specs.Led.{LeadsTo, DoingLeads};
+ghost use Rattle.sysv_steps.specs.Begin.{begin as begins};
+ghost use Rattle.sysv_steps.specs.Call.{Kind};
+ghost use Rattle.sysv_steps.specs.Pending.{phase_of, wait_of, text_in, count_meant, CanStep, CanWait, StillCanGoOn, ComesTo};
+ghost use Rattle.sysv_steps.specs.State.{State};
+ghost use Rattle.sysv_core.specs.Kept.{counted_led, blocks_held_by, blocks_kept};
+ghost use Rattle.sysv_core.specs.Led.{LeadsTo, TurnLeads, LookLeads, DoingLeads};
+ghost use Rattle.sysv_core.specs.World.{value_of};
 
-use crate::doing::{Doing, Led, Sent, Standing};
-use crate::leading::{get_leads, receive_leads, remove_leads, send_leads, set_leads, stat_leads};
-use crate::looks::{get_again, receive_again, send_again};
-use crate::turns::{get_turn, receive_turn, remove_turn, send_turn, set_turn, stat_turn};
-use sysv_model::Cred;
-use sysv_objects::Objects;
-use sysv_steps::{Call, Getting, Receiving, RemoveStep, Sending, SetStep, StatStep};
+use crate::actor::{Doing, Led};
+use sysv_model::{Body, Cred};
+use sysv_objects::{Directly, Objects};
+use sysv_pool::Chain;
+use sysv_steps::{Awaited, Call, Clock, Pending, Progress, Step, Waiting};
+
+/// The time of a step, as a clock that always returns it.
+#[derive(Clone, Copy)]
+struct Moment {
+    at: u64,
+}
+
+impl Clock for Moment {
+    ghost use Rattle.std.specs.Prelude.{◌≡◌};
+
+    ghost may = { λ moment now. now ≡ moment.at };
+
+    fn now(&self) -> u64 {
+        self.at
+    }
+}
 
 /// Starts a call. `released` is the released count at that time.
 pub fn begin(cred: Cred, call: Call, released: u64) -> Led
     ensures { LeadsTo (begins cred (asked_of call) released) result }
 {
-    match call {
-        Call::Get { key, flags } => get_leads(Getting::begin(cred, key, flags)),
-        Call::Send {
-            id,
-            mtype,
-            flags,
-            body,
-        } => {
-            let state = Sending::begin(cred, id, mtype, flags, body.len(), released);
-            send_leads(state, body)
-        }
-        Call::Receive {
-            id,
-            size,
-            mtype,
-            flags,
-            body,
-        } => receive_leads(Receiving::begin(cred, id, size, mtype, flags), body),
-        Call::Stat { id } => stat_leads(StatStep::begin(cred, id)),
-        Call::Set { id, to } => set_leads(SetStep::begin(cred, id, to)),
-        Call::Remove { id } => remove_leads(RemoveStep::begin(cred, id)),
-    }
+    let (begun, body) = Pending::begin(cred, call, released);
+    led_by(begun, body)
 }
 
 /// Makes one step of a call at the time `now`: a turn at its object, or a look at the count for
@@ -49,23 +49,65 @@ pub fn advance(objects: &mut Objects, doing: Doing, now: u64) -> Led
     requires { CountsUpTo (2 ^ 62) objects.old }
     ensures { DoingLeads objects.old doing now result objects.new }
 {
-    match doing {
-        Doing::Get(Standing::At(step)) => get_turn(objects, now, step),
-        Doing::Get(Standing::Waits(wait)) => get_again(objects, wait),
-        Doing::Send(send) => {
-            let Sent { at, body } = send;
-            match at {
-                Standing::At(step) => send_turn(objects, now, step, body),
-                Standing::Waits(wait) => send_again(objects, wait, body),
-            }
-        }
-        Doing::Receive { at, body } => match at {
-            Standing::At(step) => receive_turn(objects, now, step, body),
-            Standing::Waits(wait) => receive_again(objects, wait, body),
-        },
-        Doing::Stat(step) => stat_turn(objects, step),
-        Doing::Set(step) => set_turn(objects, now, step),
-        Doing::Remove(step) => remove_turn(objects, step),
+    let Doing { pending, body } = doing;
+    match pending {
+        Pending::At(step) => turn(objects, now, step, body),
+        Pending::Waits(wait) => look(objects, wait, body),
+    }
+}
+
+/// Makes one turn of a call at the time `now`. A chain that the pool refuses as foreign ends here,
+/// because a chain is released only once.
+fn turn(objects: &mut Objects, now: u64, step: Step, mut body: Option<Body>) -> Led
+    requires counts { CountsUpTo (2 ^ 62) objects.old }
+    requires body { CanStep step body }
+    ensures { TurnLeads objects.old (phase_of step (text_in body)) now result objects.new }
+{
+    let moment = Moment { at: now };
+    let mut kept = Chain::empty();
+    let made = step.make(&Directly, objects, &mut kept, &moment, &mut body);
+    kept.end();
+    led_by(made, body)
+}
+
+/// Makes a step of a call that waits: it continues if its count is above the value of the wait,
+/// else it still waits.
+fn look(objects: &Objects, wait: Waiting, body: Option<Body>) -> Led
+    requires { CanWait wait body }
+    ensures { LookLeads objects.now (wait_of wait (text_in body)) result }
+{
+    let (count, above) = wait.awaits();
+    let value = count_now(objects, count);
+    if value > above {
+        let pending = Pending::At(wait.resume(value));
+        Led::To(Doing { pending, body })
+    } else {
+        let pending = Pending::Waits(wait);
+        Led::Stays(Doing { pending, body })
+    }
+}
+
+/// Returns the value of a count.
+fn count_now(objects: &Objects, count: Awaited) -> u64
+    ensures { (generation : ℕ) (turns : List Turn) → Represents generation turns objects.now →
+        result ≡ value_of turns (count_meant count) }
+{
+    match count {
+        Awaited::Settled => objects.settled(),
+        Awaited::Released => objects.released(),
+        Awaited::Freed { id } => objects.freed(id),
+        Awaited::Arrived { id } => objects.arrived(id),
+    }
+}
+
+/// Returns the result of a start or a turn, with the body of the call.
+fn led_by(made: Progress, body: Option<Body>) -> Led
+    requires { StillCanGoOn made body }
+    ensures { (kind : Kind) (state : State kind) → ComesTo state made body → LeadsTo state result }
+{
+    match made {
+        Progress::On(pending) => Led::To(Doing { pending, body }),
+        Progress::Over(ended) => Led::Over(ended, body),
     }
 }
 
@@ -76,6 +118,31 @@ pub fn counted(led: &Led) -> u64
 {
     match led {
         Led::Stays(_) => 0,
-        Led::To(_) | Led::Over(_) => 1,
+        Led::To(_) | Led::Over(..) => 1,
     }
+}
+
+/// Ends the call and returns the blocks that it holds. A message that a receive has taken is lost.
+pub(crate) fn chain_in(doing: Doing) -> Chain
+    ensures { result.blocks ≡ blocks_held_by doing }
+{
+    let Doing {
+        pending,
+        body: _body,
+    } = doing;
+    pending.into_chain()
+}
+
+/// Ends the pending calls and returns the blocks that they hold as one chain.
+pub fn end_all(mut actors: Vec<Option<Doing>>) -> Chain
+    ensures { result.blocks ≡ blocks_kept actors.items }
+{
+    let mut chain = Chain::empty();
+    while let Some(actor) = actors.pop() {
+        if let Some(doing) = actor {
+            chain = chain.join(chain_in(doing));
+        }
+    }
+    actors.destroy_empty();
+    chain
 }

@@ -10,18 +10,14 @@
 //! ```
 #![tactic(auto)]
 
+mod actor;
 mod actor_steps;
-mod doing;
 mod event;
-mod giveback;
 mod laws;
-mod leading;
-mod looks;
 mod preset;
-mod turns;
 mod world;
 
-pub use doing::{Doing, Sent, Standing};
+pub use actor::Doing;
 pub use event::{Answer, Event, Stepped};
 pub use laws::{
     each_world_is_sound, every_run_obeys, exact_fit, no_wrong_reply, one_run, one_step, some_run,

@@ -5,16 +5,15 @@ ghost use Rattle.sysv_model.specs.declared.limits.TheConstants.{MAX_ACTORS as mo
 ghost use Rattle.sysv_keys.specs.declared.identifier.TheConstants.{GENERATION_LAST as last_generation};
 ghost use Rattle.sysv_core.specs.Headline.{StandsWithPreset, StandsWithEvent, StandsWithEvents, LawsHold};
 ghost use Rattle.sysv_core.specs.Seen.{Represents, PresetsSeen, StepsSeen, AreAllFree};
-ghost use Rattle.sysv_core.specs.Kept.{doing_led, told_by};
+ghost use Rattle.sysv_core.specs.Kept.{doing_led, told_by, returned};
 ghost use Rattle.sysv_core.specs.Tallying.{none_taken, messages_given, messages_in};
 ghost use Rattle.sysv_queue.specs.Tally.{taken_in};
 ghost use Rattle.sysv_core.specs.Standing.{state_at, StandsNowhere, StandsThere};
 ghost use Rattle.sysv_core.specs.declared.event.Event.TheVariants.{Start, Step};
 
-use crate::actor_steps::{advance, begin, counted};
-use crate::doing::{Doing, Ended, Led};
+use crate::actor::{Doing, Led};
+use crate::actor_steps::{advance, begin, chain_in, counted, end_all};
 use crate::event::{Answer, Event, Stepped};
-use crate::giveback::{chain_in, end_all};
 use crate::laws::{each_world_is_sound, every_run_obeys};
 use crate::preset::preset_queue;
 use std::alloc::Global;
@@ -23,7 +22,7 @@ use sysv_keys::{GENERATION_LAST, unused_slots};
 use sysv_model::{Body, Cred, MAX_ACTORS, MAX_BLOCKS, MIN_BLOCKS, WORN};
 use sysv_objects::{Objects, legal_turns};
 use sysv_queue::Tally;
-use sysv_steps::Call;
+use sysv_steps::{Call, Ended};
 use thiserror::Error;
 
 /// The reason why a world cannot be opened.
@@ -383,13 +382,13 @@ fn settle(
             }
             Stepped::Nothing
         }
-        Led::Over(ended) => {
+        Led::Over(ended, brought) => {
             let Ended {
-                result,
-                body,
-                spare,
+                outcome: result,
+                receives,
                 delivery,
             } = ended;
+            let (body, spare) = shared_out(receives, brought);
             if spare.is_some() {
                 *kept = spare;
             }
@@ -402,6 +401,17 @@ fn settle(
                 body,
             })
         }
+    }
+}
+
+/// Returns the body that the answer returns, which is that of a receive, and the body that is spare.
+fn shared_out(receives: bool, brought: Option<Body>) -> (Option<Body>, Option<Body>)
+    ensures { result.0 ≡ returned receives brought }
+{
+    if receives {
+        (brought, None)
+    } else {
+        (None, brought)
     }
 }
 

@@ -37,6 +37,7 @@ use Rattle.sysv_engine.specs.contracts.spinning.Spinning as spinning
 use Rattle.sysv_engine.specs.contracts.times.Times as times
 use Rattle.sysv_engine.specs.contracts.watch.Ready as ready
 use Rattle.sysv_engine.specs.contracts.worker.Worker as worker
+use Rattle.sysv_engine.proofs.alarm.Rest.TheSendSync as rests
 use Rattle.sysv_engine.proofs.server_state.ServerState.TheSendSync as servers
 use Rattle.sysv_engine.proofs.sums.Sums.TheSendSync as sums
 
@@ -157,24 +158,27 @@ worker_send l R T W B ghosts r t w b =
         (
           as_row_send (row_field W) w,
           (
-            search (crossing, ready_send) depth 30,
+            rests.the_send,
             (
-              agenda_send,
+              search (crossing, ready_send) depth 30,
               (
-                search crossing depth 30,
+                agenda_send,
                 (
-                  tools_send,
+                  search crossing depth 30,
                   (
-                    search crossing depth 10,
+                    tools_send,
                     (
-                      options.the_send _ moment_send,
+                      search crossing depth 10,
                       (
                         options.the_send _ moment_send,
                         (
-                          search (crossing, spinning_send) depth 30,
+                          options.the_send _ moment_send,
                           (
-                            search (crossing, moved_send) depth 30,
-                            (search crossing depth 10, (search crossing depth 10, tt)),
+                            search (crossing, spinning_send) depth 30,
+                            (
+                              search (crossing, moved_send) depth 30,
+                              (search crossing depth 10, (search crossing depth 10, tt)),
+                            ),
                           ),
                         ),
                       ),

@@ -11,6 +11,7 @@ use Rattle.sysv_session.specs.declared.served.Served.{Served}
 use Rattle.sysv_thread_laws.specs.Hiring.{all_of, first_pass, Hires, IsRemoval, EveryHiringObeys, EveryStopRemoves}
 use Rattle.sysv_thread_laws.specs.PoolWhole.{EveryHiringLeavesThePoolWhole, NoHiringLeavesAGateHeld}
 use Rattle.sysv_thread_laws.specs.AfterStop.{EveryStopEmpties}
+use Rattle.sysv_thread_laws.specs.ParkedOnThreads.{EveryOrderParksRightly}
 use Rattle.sysv_service.specs.Ran.{Pass}
 use Rattle.sysv_thread_laws.specs.Working as working
 use Rattle.sysv_thread_laws.specs.Working.{Works}
@@ -154,19 +155,23 @@ module _ (law : EachSessionMakesCalls zero_moment ⊤) where
         same = refl;
       }
 
-  pub each_lifetime : EveryHiringObeys → EveryStopRemoves → EachLifetimeIsOneRun
-  each_lifetime obeys stops reads blocks gates shifts removed stopped closed counted opened fits hires turns_left =
+  pub each_lifetime : EveryHiringObeys → EveryStopRemoves → EveryOrderParksRightly → EachLifetimeIsOneRun
+  each_lifetime obeys stops parks reads blocks gates shifts removed stopped closed counted opened fits hires
+      turns_left =
       let all = in_all reads shifts (first_pass gates) stopped.before hires in
       let stop = stops _ stopped.removed stopped.worn stopped.before stopped.after stopped.stops in
+      let served : IsServed 0 blocks counted.all.order (all_of all.done.each ++ stop.0) =
+      subst (λ calls. IsServed 0 blocks counted.all.order (calls ++ stop.0)) all.same
+      (obeys 0 blocks 0 gates all.theirs all.left stopped.before stopped.after all.each stop.0 closed opened
+      all.hires all.works stop.1 fits counted turns_left) in
       record {
         each = all.done.each;
         made = all.done.made;
         removals = stop.0;
         are_removals = stop.2;
         counted = stop.3;
-        served = subst (λ calls. IsServed 0 blocks counted.all.order (calls ++ stop.0)) all.same
-            (obeys 0 blocks 0 gates all.theirs all.left stopped.before stopped.after all.each stop.0 closed opened
-            all.hires all.works stop.1 fits counted turns_left);
+        served = served;
+        parks = parks 0 blocks counted.all.order (all_of all.done.each ++ stop.0) served.run;
       }
 
   pub each_whole : EveryHiringLeavesThePoolWhole → EveryStopRemoves → EachLifetimeLeavesThePoolWhole

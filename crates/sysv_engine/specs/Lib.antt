@@ -13,3 +13,4 @@ pub mod Serving
 pub mod Headline
 pub mod Places
 pub mod Heeding
+pub mod Waking

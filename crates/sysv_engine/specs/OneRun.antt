@@ -1,9 +1,15 @@
 -- The one run that the sessions of a server make of its service (this project's profile).
-use Rattle.std.specs.Prelude.{◌≡◌, ℕ, Bool, List, ◌++◌, Result}
+use Rattle.std.specs.Prelude.{◌≡◌, ◌<◌, ℕ, Bool, List, ◌++◌, Result, Some, slice_get}
 use Rattle.std.specs.List.{AllByRecursion, sum_by}
 use Rattle.sysv_bank.specs.Banks.{Each2}
 use Rattle.sysv_model.specs.Turns.{Numbered}
 use Rattle.sysv_thread_laws.specs.Order.{Called}
+use Rattle.sysv_steps.specs.Call.{kind_of}
+use Rattle.sysv_steps.specs.Resume.{awaited, goal_of}
+use Rattle.sysv_steps.specs.State.{Wait, Waits}
+use Rattle.sysv_core.specs.World.{World, value_of}
+use Rattle.sysv_thread_laws.specs.OrderIsRun.{name_at}
+use Rattle.sysv_thread_laws.specs.ParkedOnThreads.{HasReasonOnThreads}
 use Rattle.sysv_thread_laws.specs.Team.{IsServed}
 use Rattle.sysv_service.specs.Opened.{AreOpen}
 use Rattle.sysv_service.specs.Seats.{Gates, AreOf}
@@ -20,9 +26,17 @@ use Rattle.sysv_service.specs.TurnsLeft.{EachGateHasTurnsLeft}
 use Rattle.sysv_engine.specs.Handled.{Shift, AreMadeBy}
 use Rattle.sysv_engine.specs.Looking.{HiresBy}
 
+-- Each of the calls of a world that was left at a wait, below its goal, has the reason to wait that the
+-- law of waits names.
+abbrev pub AreLeftRightly : World → List Called → Type 0
+AreLeftRightly world calls = (place : ℕ) (c : Called) (wait : Wait (kind_of c.asked)) →
+    slice_get calls place ≡ Some c → c.state ≡ Waits wait →
+    value_of world.turns (awaited wait) < goal_of wait → HasReasonOnThreads world (name_at place) c.cred c.asked wait
+
 -- The calls of the sessions, each answered as it ended or left without a reply, and the removals of
 -- the stop, which removed this number of queues, are all the calls that made the order of turns. The
--- order is a run of a world with these calls, and the run obeys the headline of threads.
+-- order is a run of a world with these calls, and the run obeys the headline of threads. Each call that
+-- was left at a wait has its reason.
 pub record IsOneRun (blocks : ℕ) (shifts : List Shift) (removed : ℕ) (order : List Numbered) : Type 0 where
   pub each : List (List Called)
   pub made : Each2 AreMadeBy shifts each
@@ -30,6 +44,7 @@ pub record IsOneRun (blocks : ℕ) (shifts : List Shift) (removed : ℕ) (order 
   pub are_removals : AllByRecursion IsRemoval removals
   pub counted : sum_by (λ (call : Called). removed_at call.state) removals ≡ removed
   pub served : IsServed 0 blocks order (all_of each ++ removals)
+  pub parks : AreLeftRightly served.run.world (all_of each ++ removals)
 
 -- A stop of these gates reported this. At each slot it read the row and tried to remove the queue
 -- that it found.

@@ -7,6 +7,7 @@ ghost use Rattle.sysv_engine.specs.Added.{IsBalanced};
 ghost use Rattle.sysv_engine.specs.Headline.{ServesConnections};
 ghost use Rattle.sysv_engine.specs.Serving.{FaultOf, HasLived, HiredFrom, LeavesConnections, WorkedFrom};
 
+use crate::alarm::Rest;
 use crate::dealing::{Dealing, shares};
 use crate::fault::ServeFault;
 use crate::laws::each_lifetime_is_one_run;
@@ -69,24 +70,27 @@ where
         (HasLived false blocks) source.old books.old.items why source.new books.new.items) }
 {
     let (count, places) = (workers as usize, books.len());
-    let Some(server) = ServerState::open(alloc, count, places, Patience::UNBOUNDED, 0) else {
+    let opened = ServerState::open(alloc, count, places, Patience::UNBOUNDED, 0);
+    let Some((server, rests)) = opened else {
         return Err(ServeFault::NoMemory);
     };
-    let Some(watches) = watches(alloc, count, places) else {
+    let Some(watches) = watches(alloc, rests, places) else {
         return Err(ServeFault::NoMemory);
     };
     serve_all(rt, alloc, source, books, blocks, watches, &server)
 }
 
-/// Creates this number of watches, each of at most `places` places. Returns `None` if memory is
-/// refused.
-fn watches(alloc: Global, count: usize, places: usize) -> Option<Vec<Rounds>>
-    ensures { IfSome result (λ watches. vec_len watches ≡ count) }
+/// Creates a watch of at most `places` places for each worker, beside what it rests with. Returns
+/// `None` if memory is refused.
+fn watches(alloc: Global, rests: Vec<Rest>, places: usize) -> Option<Vec<(Rounds, Rest)>>
+    ensures { IfSome result (λ watches. vec_len watches ≡ vec_len rests) }
 {
-    let mut watches = Vec::with_capacity(alloc, count).ok()?;
-    for _ in 0..count {
-        watches.push(Rounds::open(alloc, places)?).ok()?;
+    let mut rests = rests;
+    let mut watches = Vec::with_capacity(alloc, rests.len()).ok()?;
+    while let Some(rest) = rests.pop() {
+        watches.push((Rounds::open(alloc, places)?, rest)).ok()?;
     }
+    watches.reverse();
     Some(watches)
 }
 
@@ -102,7 +106,7 @@ pub fn serve_all<
     source: &mut S,
     books: &mut Vec<T::Book>,
     blocks: u32,
-    watches: Vec<W>,
+    watches: Vec<(W, Rest)>,
     server: &ServerState,
 ) -> Result<Ended, ServeFault>
 where
@@ -150,7 +154,7 @@ pub(crate) fn serve_with<
     pass: &mut Pass,
     source: &mut S,
     books: &mut Vec<T::Book>,
-    watches: Vec<W>,
+    watches: Vec<(W, Rest)>,
     server: &ServerState,
 ) -> Result<(Sums, u64), ServeFault>
 where

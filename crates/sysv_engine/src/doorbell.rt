@@ -1,4 +1,6 @@
 //! A doorbell: one thread rings it, and others wait for it in a `poll`.
+ghost use Rattle.std.specs.Prelude.{◌≡◌};
+
 use libc::net::{EFD_CLOEXEC, EFD_NONBLOCK, eventfd};
 use libc::{close, read, write};
 
@@ -7,6 +9,13 @@ const ONE: u64 = 1;
 
 /// The number of times that a ring is tried.
 const MOST_TRIES: u32 = 64;
+
+/// A doorbell was written. Only `Doorbell::ring` makes a value of this type.
+#[derive(Clone, Copy)]
+pub(crate) struct Ring {
+    /// The doorbell's descriptor.
+    fd: i32,
+}
 
 /// A doorbell. Its descriptor can be read from a ring until the doorbell is hushed.
 pub(crate) struct Doorbell {
@@ -26,12 +35,15 @@ impl Doorbell {
     }
 
     /// Rings the doorbell, again if the system refuses that.
-    pub(crate) fn ring(&self) {
+    pub(crate) fn ring(&self) -> Ring
+        ensures { result.fd ≡ self.now.fd }
+    {
         for _ in 0..MOST_TRIES {
             if write(self.fd, &ONE.to_ne_bytes()) > 0 {
-                return;
+                break;
             }
         }
+        Ring { fd: self.fd }
     }
 
     /// Ends the ringing.

@@ -11,9 +11,9 @@
 //! of the service, and its reply reports how that call ended.
 #![tactic(auto)]
 
+mod alarm;
 mod arrivals;
 mod awaited;
-mod changes;
 mod connections;
 mod counts;
 mod dealing;
@@ -36,6 +36,7 @@ mod times;
 mod watch;
 mod worker;
 
+pub use alarm::Rest;
 pub use arrivals::Arrivals;
 pub use connections::{serve_all, serve_connections};
 pub use counts::{Counted, SlotCounts};

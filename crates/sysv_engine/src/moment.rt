@@ -12,6 +12,9 @@ const MILLIS_PER_SECOND: u64 = 1000;
 
 const NANOS_PER_MILLI: i64 = 1_000_000;
 
+/// The number of milliseconds from one tick to the next.
+const TICK_MILLIS: u64 = 100;
+
 /// A point in time: a number of milliseconds since some start. The time in which the system is
 /// suspended does not count.
 #[derive(Clone, Copy, PartialEq, Eq, PartialOrd, Ord)]
@@ -41,6 +44,11 @@ impl Moment {
         }
         let millis = u64::from(seconds).saturating_mul(MILLIS_PER_SECOND);
         Some(Moment(Moment::now().0.saturating_add(millis)))
+    }
+
+    /// Returns the first tick that is not before this moment.
+    pub(crate) fn tick(self) -> Moment {
+        Moment(self.0.div_ceil(TICK_MILLIS).saturating_mul(TICK_MILLIS))
     }
 
     /// Returns the moment this number of milliseconds later, or the last one if there is none.

@@ -1,7 +1,7 @@
 //! The places of a server: each serves one client after another.
 ghost use Rattle.std.specs.Prelude.{◌≡◌, ◌+◌, None, Some, IfSome, is_some, true};
 ghost use Rattle.sysv_service.specs.Seats.{AreOf};
-ghost use Rattle.sysv_seats.specs.Sits.{Keeps, MayClose};
+ghost use Rattle.sysv_seats.specs.Sits.{Keeps, is_finished};
 ghost use Rattle.sysv_engine.specs.Added.{added, capped, nothing, one_session};
 ghost use Rattle.sysv_engine.specs.Handled.{one_refused};
 ghost use Rattle.sysv_engine.specs.Places.{KeepsPlace, TakesIn, taken_by};
@@ -16,7 +16,7 @@ use std::alloc::Global;
 use std::marker::Model;
 use std::sync::Wait;
 use sysv_parking::Key;
-use sysv_seats::{Client, NonBlocking, ServiceHandler, Tools, ZERO, Zero};
+use sysv_seats::{Client, Limit, NonBlocking, ServiceHandler, Tools, ZERO, Zero};
 use sysv_service::{Pass, Service};
 use sysv_session::{End, Served};
 
@@ -126,11 +126,12 @@ impl<'a, R: Wait, T: NonBlocking> Place<'a, R, T> {
         }
     }
 
-    /// Closes the client, if there is one that may be closed, and returns what its session did.
+    /// Closes the client, if there is one for which nothing else is left to do, and returns what its
+    /// session did.
     pub(crate) fn close(&mut self) -> Option<Served>
         ensures keeps { KeepsPlace T.incoming T.outgoing T.closes self.old self.new }
     {
-        if !self.may_close() {
+        if !self.is_over() {
             return None;
         }
         let client = self.client.take()?;
@@ -139,15 +140,13 @@ impl<'a, R: Wait, T: NonBlocking> Place<'a, R, T> {
         Some(served)
     }
 
-    /// Returns whether there is a client that may be closed.
-    fn may_close(&self) -> bool
-        ensures { result ≡ true → IfSome self.now.client
-            (λ client. MayClose (T.closes.breaks client.connection) client) }
+    /// Ends the client if there is a limit for an orderly end, and closes it if nothing else is left
+    /// to do.
+    pub(crate) fn end(&mut self)
+        ensures keeps { KeepsPlace T.incoming T.outgoing T.closes self.old self.new }
     {
-        match &self.client {
-            Some(client) => client.may_close(),
-            None => false,
-        }
+        self.cut(Limit::Drain);
+        self.close();
     }
 
     /// Continues the parked call, and takes up and answers a share of what has arrived.
@@ -170,8 +169,7 @@ impl<'a, R: Wait, T: NonBlocking> Place<'a, R, T> {
         self.refused = self.refused.saturating_add(refusals(served));
     }
 
-    /// Has the client's connection watched. If that is refused, the client ends, if it may be
-    /// cut off.
+    /// Has the client's connection watched. If that is refused, the client ends.
     pub(crate) fn begin<W: Watch<T>>(&mut self, watch: &mut W, place: usize)
         ensures keeps { KeepsPlace T.incoming T.outgoing T.closes self.old self.new }
     {
@@ -179,7 +177,7 @@ impl<'a, R: Wait, T: NonBlocking> Place<'a, R, T> {
             return;
         };
         if !watch.add(client.connection(), place) {
-            client.cut();
+            client.cut_off();
         }
     }
 
@@ -220,15 +218,23 @@ impl<'a, R: Wait, T: NonBlocking> Place<'a, R, T> {
         }
     }
 
-    /// Ends the client because of a limit.
-    pub(crate) fn cut(&mut self)
+    /// Ends the client because of this limit, if it may be cut off under it.
+    pub(crate) fn cut(&mut self, limit: Limit)
         ensures keeps { KeepsPlace T.incoming T.outgoing T.closes self.old self.new }
     {
         let Some(client) = &mut self.client else {
             return;
         };
         client.drain();
-        client.cut();
+        client.cut(limit);
+    }
+
+    /// Ends the client because its time is over, if it may be cut off under that limit.
+    pub(crate) fn cut_late(&mut self)
+        ensures keeps { KeepsPlace T.incoming T.outgoing T.closes self.old self.new }
+    {
+        let limit = self.times.limit();
+        self.cut(limit);
     }
 
     /// Returns what the parked call waits for, if there is one.
@@ -260,7 +266,10 @@ impl<'a, R: Wait, T: NonBlocking> Place<'a, R, T> {
     }
 
     /// Returns whether nothing is left to do but to close the client.
-    pub(crate) fn is_over(&self) -> bool {
+    pub(crate) fn is_over(&self) -> bool
+        ensures { result ≡ true
+            → IfSome self.now.client (λ client. is_finished client ≡ true) }
+    {
         match &self.client {
             Some(client) => client.is_over(),
             None => false,

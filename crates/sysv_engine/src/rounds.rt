@@ -12,7 +12,7 @@ use crate::worker::{Worker, sooner};
 use std::alloc::Global;
 use std::sync::Wait;
 use sysv_parking::{Found, Key, collect, heed_all, read_envelopes};
-use sysv_seats::NonBlocking;
+use sysv_seats::{Limit, NonBlocking};
 use sysv_service::Service;
 use sysv_session::End;
 use sysv_workers::Job;
@@ -103,11 +103,11 @@ impl<'a, 'c, R: Wait> Serving<'a, 'c, R> {
         ensures { KeepsAll T.incoming T.outgoing T.closes worker.old.places.items
             worker.new.places.items }
     {
-        self.rest(worker);
+        let has_come = self.rest(worker);
         self.note_ready(worker);
         worker.begin_looks();
-        if self.server.wake_up(worker.agenda.number()) {
-            self.read(worker);
+        if has_come {
+            read_envelopes(self, worker);
         }
         self.spread(worker);
         self.serve_ready(worker);
@@ -118,12 +118,15 @@ impl<'a, 'c, R: Wait> Serving<'a, 'c, R> {
         }
     }
 
-    /// Waits until a client has an event, or something came for the worker.
-    fn rest<T: NonBlocking, W: Watch<T>>(&self, worker: &mut Worker<'a, R, T, W>)
+    /// Waits until a client has an event, or something came for the worker, and takes what the worker
+    /// was told into its agenda. Returns whether anyone has rung since it last woke up.
+    fn rest<T: NonBlocking, W: Watch<T>>(&self, worker: &mut Worker<'a, R, T, W>) -> bool
         ensures { worker.new.places ≡ worker.old.places }
     {
-        if !self.spin(worker) {
-            self.sleep(worker);
+        if self.spin(worker) {
+            worker.wake_up()
+        } else {
+            self.sleep(worker)
         }
     }
 
@@ -163,28 +166,22 @@ impl<'a, 'c, R: Wait> Serving<'a, 'c, R> {
         if !is_idle || !self.server.has_few_clients() || !worker.spinning.is_due() {
             return false;
         }
-        let found = look(
-            self.server,
-            worker.agenda.number(),
-            &mut worker.watch,
-            &mut worker.ready,
-        );
+        let found = look(&worker.rest, &mut worker.watch, &mut worker.ready);
         worker.spinning.learn(found);
         found.is_some()
     }
 
-    /// Sleeps until a client has an event, or something came for the worker. It does not sleep if
-    /// there is more to do.
-    fn sleep<T: NonBlocking, W: Watch<T>>(&self, worker: &mut Worker<'a, R, T, W>)
+    /// Sleeps until a client has an event, or something came for the worker, and wakes up. It does
+    /// not sleep if there is more to do. Returns what `Worker::sleep` does.
+    fn sleep<T: NonBlocking, W: Watch<T>>(&self, worker: &mut Worker<'a, R, T, W>) -> bool
         ensures { worker.new.places ≡ worker.old.places }
     {
-        let may_sleep = self.server.fall_asleep(worker.agenda.number());
-        let limit = if may_sleep && !worker.has_more() {
-            worker.check.map(Moment::left)
-        } else {
+        let limit = if worker.has_more() {
             Some(0)
+        } else {
+            worker.check.map(Moment::left)
         };
-        worker.wait(limit);
+        worker.sleep(limit)
     }
 
     /// Serves a client of which the watch reports an event.
@@ -365,16 +362,6 @@ impl<'a, 'c, R: Wait> Serving<'a, 'c, R> {
         self.server.close(worker.agenda.number(), &served.tally);
     }
 
-    /// Reads what came for the worker from other workers.
-    fn read<T: NonBlocking, W: Watch<T>>(&self, worker: &mut Worker<'a, R, T, W>)
-        ensures { KeepsAll T.incoming T.outgoing T.closes worker.old.places.items
-            worker.new.places.items }
-    {
-        let number = worker.agenda.number();
-        self.server.take_changes(number, &mut worker.agenda);
-        read_envelopes(self, worker);
-    }
-
     /// Heeds what has changed, here and in other workers, as far as the worker's share of looks
     /// goes. What is left is heeded in the next round.
     fn spread<T: NonBlocking, W: Watch<T>>(&self, worker: &mut Worker<'a, R, T, W>)
@@ -453,21 +440,21 @@ impl<'a, 'c, R: Wait> Serving<'a, 'c, R> {
         }
         let due = worker.due(place);
         if is_over(due) {
-            worker.cut(place);
+            worker.cut_late(place);
             self.settle(worker, place);
         } else {
             worker.check = sooner(worker.check, due);
         }
     }
 
-    /// Closes all clients.
+    /// Closes all clients, since the time for an orderly end is over.
     fn cut_all<T: NonBlocking, W: Watch<T>>(&self, worker: &mut Worker<'a, R, T, W>)
         ensures { KeepsAll T.incoming T.outgoing T.closes worker.old.places.items
             worker.new.places.items }
     {
         for place in 0..worker.places.len() {
             if worker.is_taken(place) {
-                worker.cut(place);
+                worker.cut(place, Limit::Drain);
                 self.settle(worker, place);
             }
         }

@@ -8,6 +8,7 @@ ghost use Rattle.sysv_engine.specs.Headline.{ServesConnections};
 ghost use Rattle.sysv_engine.specs.Looks.{Looks};
 ghost use Rattle.sysv_engine.specs.Serving.{HasLived, HiredFrom, LeavesConnections, WorkedFrom};
 
+use crate::alarm::Rest;
 use crate::arrivals::Arrivals;
 use crate::connections::{given_back, serve_with};
 use crate::fault::ServeFault;
@@ -37,7 +38,7 @@ pub fn serve_arrivals<
     source: &mut S,
     books: &mut Vec<T::Book>,
     blocks: u32,
-    watches: Vec<W>,
+    watches: Vec<(W, Rest)>,
     server: &ServerState,
     reads: bool,
 ) -> Result<Ended, ServeFault>
@@ -87,7 +88,7 @@ fn serve_seeing<
     pass: &mut Pass,
     source: &mut S,
     books: &mut Vec<T::Book>,
-    watches: Vec<W>,
+    watches: Vec<(W, Rest)>,
     server: &ServerState,
     reads: bool,
 ) -> Result<(Sums, u64), ServeFault>

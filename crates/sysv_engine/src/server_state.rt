@@ -3,9 +3,8 @@
 ghost use Rattle.std.specs.Prelude.{◌≡◌, ◌≤◌, IfSome, vec_len};
 ghost use Rattle.sysv_keys.specs.declared.identifier.TheConstants.{SLOTS as slot_count};
 ghost use Rattle.sysv_engine.specs.Counting.{IsNothing};
-ghost use Rattle.sysv_parking.specs.Agenda.{KeepsWork};
 
-use crate::changes::ToldChanges;
+use crate::alarm::{Alarm, Rest};
 use crate::counts::{Counted, Counts, Moved, SlotCounts, zeros};
 use crate::doorbell::Doorbell;
 use crate::moment::{Moment, NO_DESCRIPTOR, await_doorbell};
@@ -15,7 +14,7 @@ use std::alloc::Global;
 use std::sync::Wait;
 use std::sync::atomic::{AtomicBool, AtomicU64, Ordering};
 use sysv_keys::SLOTS;
-use sysv_parking::{Agenda, Change, Envelope, WORDS};
+use sysv_parking::{Change, Envelope, WORDS};
 use sysv_queue::Tally;
 
 /// The number of bits in a word, and so of workers that a word can name.
@@ -31,14 +30,8 @@ const FEW_CLIENTS: u64 = 2;
 /// How a worker is reached.
 #[derive(Drop)]
 struct Post {
-    doorbell: Doorbell,
-    /// Whether the worker may be asleep.
-    asleep: AtomicBool,
-    /// Whether something came for the worker since it looked.
-    rung: AtomicBool,
+    alarm: Alarm,
     envelopes: ArrayQueue<Envelope>,
-    /// What else has changed for the worker's parked calls.
-    changes: ToldChanges,
     /// The number of connections that the worker was told to take.
     coming: AtomicU64,
     /// The number of clients of the worker that were closed.
@@ -48,8 +41,7 @@ struct Post {
 
 /// What the workers share.
 ///
-/// A worker that is not there has no doorbell and no envelopes. Nothing comes for it, and it may
-/// not sleep.
+/// A worker that is not there has no doorbell and no envelopes, and nothing comes for it.
 #[derive(Drop)]
 pub struct ServerState {
     posts: Vec<Post>,
@@ -80,8 +72,8 @@ pub struct ServerState {
 }
 
 impl ServerState {
-    /// Returns what `workers` workers, at most 64, share before the first connection. Returns
-    /// `None` if memory or a descriptor is refused.
+    /// Returns what `workers` workers, at most 64, share before the first connection, and what each
+    /// of them rests with. Returns `None` if memory or a descriptor is refused.
     ///
     /// At most `at_once` clients are served at once. After `drain` seconds an orderly end cuts
     /// sessions off, or never for 0.
@@ -91,14 +83,15 @@ impl ServerState {
         at_once: usize,
         patience: Patience,
         drain: u32,
-    ) -> Option<ServerState>
-        ensures workers { IfSome result (λ server. vec_len server.posts ≡ workers) }
-        ensures at_once { IfSome result (λ server. server.at_once ≡ at_once) }
+    ) -> Option<(ServerState, Vec<Rest>)>
+        ensures workers { IfSome result (λ both. vec_len both.0.posts ≡ workers) }
+        ensures rests { IfSome result (λ both. vec_len both.1 ≡ workers) }
+        ensures at_once { IfSome result (λ both. both.0.at_once ≡ at_once) }
     {
         let turn = Doorbell::open()?;
-        let posts = open_posts(alloc, workers)?;
+        let (posts, rests) = open_posts(alloc, workers)?;
         let words = zeros(alloc, WORDS)?;
-        Some(ServerState {
+        let server = ServerState {
             posts,
             words,
             at_once: at_once as u64,
@@ -112,7 +105,8 @@ impl ServerState {
             starved: AtomicBool::new(false),
             is_awaited: AtomicBool::new(false),
             turn,
-        })
+        };
+        Some((server, rests))
     }
 
     /// Returns the number of workers.
@@ -130,7 +124,7 @@ impl ServerState {
     /// Returns the descriptor of a worker's doorbell, or a negative number.
     pub fn doorbell_of(&self, worker: usize) -> i32 {
         match self.posts.get(worker) {
-            Some(post) => post.doorbell.fd(),
+            Some(post) => post.alarm.doorbell(),
             None => NO_DESCRIPTOR,
         }
     }
@@ -149,35 +143,9 @@ impl ServerState {
         }
     }
 
-    /// Says that a worker is about to sleep. Returns whether it may: nothing came for it.
-    pub(crate) fn fall_asleep(&self, worker: usize) -> bool {
-        match self.posts.get(worker) {
-            Some(post) => post.fall_asleep(),
-            None => false,
-        }
-    }
-
-    /// Says that a worker is awake. Returns whether something came for it.
-    pub(crate) fn wake_up(&self, worker: usize) -> bool {
-        match self.posts.get(worker) {
-            Some(post) => post.wake_up(),
-            None => false,
-        }
-    }
-
-    /// Returns whether something came for a worker since it was last awake.
-    pub(crate) fn has_come(&self, worker: usize) -> bool {
-        match self.posts.get(worker) {
-            Some(post) => post.rung.load(Ordering::SeqCst),
-            None => false,
-        }
-    }
-
     /// Says that a worker may have more to look at.
     pub(crate) fn stay_awake(&self, worker: usize) {
-        if let Some(post) = self.posts.get(worker) {
-            post.rung.store(true, Ordering::SeqCst);
-        }
+        self.ring(worker);
     }
 
     /// Returns all workers, a bit for each.
@@ -188,16 +156,6 @@ impl ServerState {
     /// Returns the next envelope of a worker.
     pub(crate) fn envelope(&self, rt: &impl Wait, worker: usize) -> Option<Envelope> {
         self.posts.get(worker)?.envelopes.pop(rt)
-    }
-
-    /// Moves what else has changed for a worker's parked calls to the changes that it has to heed.
-    pub(crate) fn take_changes(&self, worker: usize, agenda: &mut Agenda)
-        ensures work { KeepsWork agenda.old agenda.new }
-        ensures parking { agenda.new.parking ≡ agenda.old.parking }
-    {
-        if let Some(post) = self.posts.get(worker) {
-            post.changes.move_to(agenda);
-        }
     }
 
     /// Gives a worker an envelope. If its mailbox is full, it looks at all its parked calls, and
@@ -213,14 +171,14 @@ impl ServerState {
     /// Tells all workers that anything may have happened.
     pub(crate) fn tell_everyone(&self) {
         for post in &self.posts {
-            post.tell(Change::Anything);
+            post.alarm.tell(Change::Anything);
         }
     }
 
     /// Tells a worker of a change.
     pub(crate) fn tell(&self, worker: usize, change: Change) {
         if let Some(post) = self.posts.get(worker) {
-            post.tell(change);
+            post.alarm.tell(change);
         }
     }
 
@@ -309,8 +267,7 @@ impl ServerState {
     /// Tells a worker to take one more connection.
     pub(crate) fn call(&self, worker: usize) {
         if let Some(post) = self.posts.get(worker) {
-            post.coming.fetch_add(1, Ordering::SeqCst);
-            post.ring();
+            post.call();
         }
     }
 
@@ -336,10 +293,11 @@ impl ServerState {
             return;
         };
         for _ in rt.forever() {
-            if post.coming.load(Ordering::SeqCst) > 0 || self.is_finished() {
+            if post.is_called() || self.is_finished() {
                 return;
             }
-            post.sleep();
+            await_doorbell(post.alarm.doorbell(), None);
+            post.alarm.hush();
         }
     }
 
@@ -453,77 +411,71 @@ impl ServerState {
 }
 
 impl Post {
-    /// Opens the post of a worker. Returns `None` if memory or a descriptor is refused.
-    fn open(alloc: Global) -> Option<Post> {
-        let doorbell = Doorbell::open()?;
-        Some(Post {
-            doorbell,
-            asleep: AtomicBool::new(false),
-            rung: AtomicBool::new(false),
+    /// Opens the post of a worker, and what it rests with. Returns `None` if memory or a descriptor
+    /// is refused.
+    fn open(alloc: Global) -> Option<(Post, Rest)> {
+        let (alarm, rest) = Alarm::open(alloc)?;
+        let post = Post {
+            alarm,
             envelopes: ArrayQueue::new(alloc, ENVELOPES).ok()?,
-            changes: ToldChanges::open(alloc)?,
             coming: AtomicU64::new(0),
             closed: AtomicU64::new(0),
             counts: Counts::open(alloc)?,
-        })
+        };
+        Some((post, rest))
+    }
+
+    /// Returns whether the worker was told to take a connection. Before that, it waits for its
+    /// doorbell alone.
+    fn is_called(&self) -> bool {
+        self.coming.load(Ordering::SeqCst) > 0
     }
 
     /// Has the worker look for what came for it.
     fn ring(&self) {
-        self.rung.store(true, Ordering::SeqCst);
-        if self.asleep.swap(false, Ordering::SeqCst) {
-            self.doorbell.ring();
+        if self.is_called() {
+            self.alarm.ring();
+        } else {
+            self.alarm.call();
         }
     }
 
-    /// Says that the worker is about to sleep. Returns whether it may: nothing came for it.
-    fn fall_asleep(&self) -> bool {
-        self.asleep.store(true, Ordering::SeqCst);
-        !self.rung.load(Ordering::SeqCst)
-    }
-
-    /// Says that the worker is awake. Returns whether something came for it.
-    fn wake_up(&self) -> bool {
-        self.asleep.store(false, Ordering::SeqCst);
-        self.rung.swap(false, Ordering::SeqCst)
-    }
-
-    /// Waits until something comes for the worker, unless something has come since it looked.
-    fn sleep(&self) {
-        if self.fall_asleep() {
-            await_doorbell(self.doorbell.fd(), None);
-            self.doorbell.hush();
+    /// Tells the worker to take one more connection.
+    fn call(&self) {
+        if self.coming.fetch_add(1, Ordering::SeqCst) == 0 {
+            self.alarm.call();
+        } else {
+            self.alarm.ring();
         }
-        self.wake_up();
     }
 
     /// Gives the worker an envelope. Returns whether there was room for it. If there was none, the
     /// worker looks at all its parked calls.
     fn send(&self, rt: &impl Wait, envelope: Envelope) -> bool {
         let kept = self.envelopes.push(rt, envelope).is_ok();
-        if !kept {
-            self.changes.add(Change::Anything);
+        if kept {
+            self.alarm.ring();
+        } else {
+            self.alarm.tell(Change::Anything);
         }
-        self.ring();
         kept
-    }
-
-    /// Tells the worker of a change.
-    fn tell(&self, change: Change) {
-        self.changes.add(change);
-        self.ring();
     }
 }
 
-/// Opens the posts of this number of workers. Returns `None` if memory or a descriptor is refused.
-fn open_posts(alloc: Global, workers: usize) -> Option<Vec<Post>>
-    ensures { IfSome result (λ posts. vec_len posts ≡ workers) }
+/// Opens the posts of this number of workers, and what each of them rests with. Returns `None` if
+/// memory or a descriptor is refused.
+fn open_posts(alloc: Global, workers: usize) -> Option<(Vec<Post>, Vec<Rest>)>
+    ensures posts { IfSome result (λ both. vec_len both.0 ≡ workers) }
+    ensures rests { IfSome result (λ both. vec_len both.1 ≡ workers) }
 {
     let mut posts = Vec::with_capacity(alloc, workers).ok()?;
+    let mut rests = Vec::with_capacity(alloc, workers).ok()?;
     for _ in 0..workers {
-        posts.push(Post::open(alloc)?).ok()?;
+        let (post, rest) = Post::open(alloc)?;
+        posts.push(post).ok()?;
+        rests.push(rest).ok()?;
     }
-    Some(posts)
+    Some((posts, rests))
 }
 
 /// Returns the bit of a worker.

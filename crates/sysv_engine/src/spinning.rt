@@ -2,9 +2,10 @@
 ghost use Rattle.std.specs.Prelude.{◌≡◌, ◌-◌, ◌↔◌, IsTrue};
 ghost use Rattle.sysv_engine.specs.Spinning.{learned};
 
-use crate::server_state::ServerState;
+use crate::alarm::Rest;
 use crate::watch::{Ready, Watch};
 use std::hint::spin_loop;
+use sysv_seats::NonBlocking;
 
 /// The number of looks before a sleep.
 const LOOKS: u32 = 16;
@@ -65,15 +66,14 @@ impl Spinning {
 
 /// Looks for events of a worker's clients until there is one, or something has come for the worker,
 /// for some microseconds. Returns which look found it, from 0 on, if one did.
-pub(crate) fn look<T, W: Watch<T>>(
-    server: &ServerState,
-    worker: usize,
+pub(crate) fn look<T: NonBlocking, W: Watch<T>>(
+    rest: &Rest,
     watch: &mut W,
     ready: &mut Vec<Ready>,
 ) -> Option<u32> {
     for look in 0..LOOKS {
         watch.look(ready);
-        if !ready.is_empty() || server.has_come(worker) {
+        if !ready.is_empty() || rest.has_come() {
             return Some(look);
         }
         for _ in 0..PAUSES {

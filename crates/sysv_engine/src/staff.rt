@@ -6,6 +6,7 @@ ghost use Rattle.sysv_service.specs.Seats.{AreOf};
 ghost use Rattle.sysv_thread_laws.specs.Hiring.{Gives};
 ghost use Rattle.sysv_engine.specs.Places.{IsOpened, KeepsAll};
 
+use crate::alarm::Rest;
 use crate::place::Place;
 use crate::team::{hire, vacate};
 use crate::watch::Watch;
@@ -19,7 +20,7 @@ use sysv_service::{Pass, Service};
 /// each for at least one and all for about the same number. Returns `None` if memory is refused.
 pub(crate) fn kits<'a, R: Wait, T: NonBlocking, W: Drop>(
     alloc: Global,
-    watches: Vec<W>,
+    watches: Vec<(W, Rest)>,
     places: usize,
 ) -> Option<Vec<Kit<'a, R, T, W>>>
     requires { (1 ≤ vec_len watches) × (vec_len watches ≤ places) }
@@ -31,10 +32,10 @@ pub(crate) fn kits<'a, R: Wait, T: NonBlocking, W: Drop>(
     let mut watches = watches;
     let mut kits = Vec::with_capacity(alloc, watches.len()).ok()?;
     let mut left = places;
-    while let Some(watch) = watches.pop() {
+    while let Some((watch, rest)) = watches.pop() {
         let count = share(left, watches.len());
         left -= count;
-        let Some(kit) = Kit::open(alloc, watches.len(), count, watch) else {
+        let Some(kit) = Kit::open(alloc, watches.len(), count, watch, rest) else {
             discard(kits);
             return None;
         };
@@ -105,7 +106,7 @@ pub(crate) fn staff<'a, R: Wait, T: NonBlocking, W: Watch<T>>(
 }
 
 /// Takes the places of all workers, and closes the clients that are left in them. They are served
-/// until each may be closed, with the tools of a worker.
+/// until nothing is left to do for each, with the tools of a worker.
 pub(crate) fn gather<'a, R: Wait, T: NonBlocking, W: Watch<T> + Drop>(
     rt: &R,
     workers: Vec<Worker<'a, R, T, W>>,

@@ -12,7 +12,7 @@ use crate::sums::Sums;
 use crate::watch::ROUND_MILLIS;
 use std::alloc::Global;
 use std::sync::Wait;
-use sysv_seats::{NonBlocking, Tools};
+use sysv_seats::{Limit, NonBlocking, Tools};
 use sysv_service::{Pass, Service};
 
 /// Fills `places` with a place for each of the last books, as many as it has room for, in the order
@@ -48,9 +48,9 @@ pub(crate) fn hire<'a, R: Wait, T: NonBlocking>(
     places.reverse();
 }
 
-/// Serves the clients that are left in the places until each may be closed, and closes them. After
-/// a run of the workers there are none, unless the run was refused. There are tools if there are
-/// places.
+/// Serves the clients that are left in the places until nothing is left to do for each, and closes
+/// them. After a run of the workers there are none, unless the run was refused: then a client is cut
+/// off if there is a limit for an orderly end. There are tools if there are places.
 pub(crate) fn vacate<R: Wait, T: NonBlocking>(
     rt: &R,
     places: &mut Vec<Place<'_, R, T>>,
@@ -70,13 +70,14 @@ pub(crate) fn vacate<R: Wait, T: NonBlocking>(
     }
 }
 
-/// Closes each client that may be closed.
+/// Cuts off each client for whose orderly end there is a limit, and closes each for which nothing is
+/// left to do.
 fn close_all<R: Wait, T: NonBlocking>(places: &mut Vec<Place<'_, R, T>>)
     ensures keeps { KeepsAll T.incoming T.outgoing T.closes places.old.items places.new.items }
     ensures count { vec_len places.new ≡ vec_len places.old }
 {
     for at in 0..places.len() {
-        places[at].close();
+        places[at].end();
     }
 }
 

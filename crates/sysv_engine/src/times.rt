@@ -2,7 +2,7 @@
 
 use crate::moment::Moment;
 use crate::terms::Patience;
-use sysv_seats::{Client, NonBlocking};
+use sysv_seats::{Client, Limit, NonBlocking};
 
 /// What the time of a client runs for.
 #[derive(Clone, Copy, PartialEq, Eq)]
@@ -38,6 +38,14 @@ impl Times {
         self.due
     }
 
+    /// Returns the limit that the client's time is of.
+    pub(crate) fn limit(&self) -> Limit {
+        match self.awaits {
+            Awaits::Begin(_) => Limit::Idle,
+            Awaits::Rest(_) | Awaits::Room(_) | Awaits::Call => Limit::Stall,
+        }
+    }
+
     /// Takes note of what the client awaits after an event, and returns when its time is over.
     pub(crate) fn note<T: NonBlocking>(
         &mut self,
@@ -48,8 +56,8 @@ impl Times {
         if awaits != self.awaits {
             self.awaits = awaits;
             self.due = match awaits {
-                Awaits::Begin(_) => Moment::after(patience.idle),
-                Awaits::Rest(_) | Awaits::Room(_) => Moment::after(patience.stall),
+                Awaits::Begin(_) => end_of(patience.idle),
+                Awaits::Rest(_) | Awaits::Room(_) => end_of(patience.stall),
                 Awaits::Call => None,
             };
         }
@@ -76,4 +84,10 @@ impl Times {
         }
         Awaits::Begin(client.requests())
     }
+}
+
+/// Returns when a limit of this number of seconds from now ends, or `None` (never) for 0. Limits end
+/// only at ticks, so a worker looks at its clients once for all that end between two ticks.
+fn end_of(seconds: u32) -> Option<Moment> {
+    Moment::after(seconds).map(Moment::tick)
 }

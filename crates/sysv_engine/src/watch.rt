@@ -1,6 +1,8 @@
 //! What reports which clients have events.
-ghost use Rattle.std.specs.Prelude.{◌≡◌, IfSome, vec_len};
+ghost use Rattle.std.specs.Prelude.{◌≡◌, IfSome, false, vec_len};
+ghost use Rattle.sysv_seats.specs.Breaking.{MayBreak};
 
+use crate::alarm::Rest;
 use crate::moment::pause;
 use crate::server_state::ServerState;
 use mio::unix::SourceFd;
@@ -9,6 +11,7 @@ use std::alloc::Global;
 use std::net::Net;
 use std::os::fd::AsRawFd;
 use std::time::Duration;
+use sysv_seats::{NonBlocking, SocketStream};
 
 /// The token of a worker's doorbell.
 const DOORBELL: usize = usize::MAX;
@@ -46,10 +49,11 @@ impl Ready {
 
 /// Reports which places have events. What it reports may be anything: a client that has no event
 /// only looks in vain.
-pub trait Watch<T> {
+pub trait Watch<T: NonBlocking> {
     /// Has the place reported, whose client is on this connection, from now on. Returns whether
-    /// that succeeded.
-    fn add(&mut self, connection: &T, place: usize) -> bool;
+    /// that succeeded. It fails only for a connection on which reading and writing may break off.
+    fn add(&mut self, connection: &T, place: usize) -> bool
+        ensures { result ≡ false → MayBreak (T.closes.breaks connection.now) };
 
     /// Has the place reported also when the connection may take bytes, or not any more.
     fn await_room(&mut self, connection: &T, place: usize, awaits: bool);
@@ -86,8 +90,8 @@ impl Polled {
     }
 }
 
-impl<T: AsRawFd> Watch<T> for Polled {
-    fn add(&mut self, connection: &T, place: usize) -> bool {
+impl Watch<SocketStream> for Polled {
+    fn add(&mut self, connection: &SocketStream, place: usize) -> bool {
         let fd = connection.as_raw_fd();
         let interest = Interest::READABLE;
         self.poll
@@ -96,7 +100,7 @@ impl<T: AsRawFd> Watch<T> for Polled {
             .is_ok()
     }
 
-    fn await_room(&mut self, connection: &T, place: usize, awaits: bool) {
+    fn await_room(&mut self, connection: &SocketStream, place: usize, awaits: bool) {
         let fd = connection.as_raw_fd();
         let interest = if awaits {
             Interest::READABLE | Interest::WRITABLE
@@ -110,7 +114,7 @@ impl<T: AsRawFd> Watch<T> for Polled {
     }
 
     fn look(&mut self, ready: &mut Vec<Ready>) {
-        Watch::<T>::wait(self, Some(0), ready);
+        Watch::<SocketStream>::wait(self, Some(0), ready);
     }
 
     fn wait(&mut self, limit: Option<u64>, ready: &mut Vec<Ready>) {
@@ -136,15 +140,23 @@ impl<T: AsRawFd> Watch<T> for Polled {
     }
 }
 
-/// Opens a watch for each worker. Returns `None` if memory or a descriptor is refused.
-pub fn watches(net: &impl Net, alloc: Global, server: &ServerState) -> Option<Vec<Polled>>
-    ensures { IfSome result (λ watches. vec_len watches ≡ vec_len server.now.posts) }
+/// Opens a watch for each worker, beside what it rests with. Returns `None` if memory or a
+/// descriptor is refused.
+pub fn watches(
+    net: &impl Net,
+    alloc: Global,
+    server: &ServerState,
+    rests: Vec<Rest>,
+) -> Option<Vec<(Polled, Rest)>>
+    ensures { IfSome result (λ watches. vec_len watches ≡ vec_len rests) }
 {
-    let mut watches = Vec::with_capacity(alloc, server.workers()).ok()?;
-    for worker in 0..server.workers() {
-        let watch = Polled::open(net, alloc, server.doorbell_of(worker))?;
-        watches.push(watch).ok()?;
+    let mut rests = rests;
+    let mut watches = Vec::with_capacity(alloc, rests.len()).ok()?;
+    while let Some(rest) = rests.pop() {
+        let watch = Polled::open(net, alloc, server.doorbell_of(rests.len()))?;
+        watches.push((watch, rest)).ok()?;
     }
+    watches.reverse();
     Some(watches)
 }
 
@@ -163,7 +175,7 @@ impl Rounds {
     }
 }
 
-impl<T> Watch<T> for Rounds {
+impl<T: NonBlocking> Watch<T> for Rounds {
     fn add(&mut self, _connection: &T, place: usize) -> bool {
         if !self.places.contains(&place) && self.places.len() < self.places.capacity() {
             self.places.push_reserved(place);

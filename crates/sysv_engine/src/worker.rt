@@ -1,8 +1,10 @@
 //! The workers of a server: their places, and what happens at each.
 ghost use Rattle.std.specs.Prelude.{◌≡◌, ◌≤◌, ◌⊎◌, vec_len, vec_capacity, [], false, IfSome, Some};
 ghost use Rattle.sysv_parking.specs.Agenda.{IsAtRest};
+ghost use Rattle.sysv_engine.specs.Waking.{WakesUp};
 ghost use Rattle.sysv_engine.specs.Places.{AdoptsOne, IsVacantAt, KeepsAll};
 
+use crate::alarm::Rest;
 use crate::counts::Moved;
 use crate::moment::Moment;
 use crate::place::Place;
@@ -13,7 +15,7 @@ use std::alloc::Global;
 use std::collections::VecDeque;
 use std::sync::Wait;
 use sysv_parking::{Agenda, Key};
-use sysv_seats::{NonBlocking, Tools};
+use sysv_seats::{Limit, NonBlocking, Tools};
 use sysv_session::Served;
 
 /// Of this number of messages that have arrived, one goes to another worker first.
@@ -38,6 +40,7 @@ pub(crate) struct Worker<'a, R: Wait, T: NonBlocking, W> {
     /// The places without a client.
     pub(crate) free: Vec<usize>,
     pub(crate) watch: W,
+    pub(crate) rest: Rest,
     pub(crate) ready: Vec<Ready>,
     /// What is still to do for the parked calls.
     pub(crate) agenda: Agenda,
@@ -69,6 +72,7 @@ pub(crate) struct Kit<'a, R: Wait, T: NonBlocking, W> {
     turns: VecDeque<usize>,
     tools: Tools,
     watch: W,
+    rest: Rest,
 }
 
 impl<'a, R: Wait, T: NonBlocking, W: Drop> Kit<'a, R, T, W> {
@@ -79,6 +83,7 @@ impl<'a, R: Wait, T: NonBlocking, W: Drop> Kit<'a, R, T, W> {
         number: usize,
         count: usize,
         watch: W,
+        rest: Rest,
     ) -> Option<Kit<'a, R, T, W>>
         ensures { IfSome result (λ kit. (kit.places.items ≡ [])
             × (vec_capacity kit.places ≡ count)) }
@@ -97,6 +102,7 @@ impl<'a, R: Wait, T: NonBlocking, W: Drop> Kit<'a, R, T, W> {
             turns,
             tools,
             watch,
+            rest,
         })
     }
 }
@@ -114,6 +120,7 @@ impl<R: Wait, T: NonBlocking, W: Drop> Kit<'_, R, T, W> {
             turns: _,
             tools: _,
             watch: _,
+            rest: _,
         } = self;
         places.destroy_empty();
     }
@@ -132,11 +139,13 @@ impl<'a, R: Wait, T: NonBlocking, W: Watch<T>> Worker<'a, R, T, W> {
             turns,
             tools,
             watch,
+            rest,
         } = kit;
         Worker {
             places,
             free,
             watch,
+            rest,
             ready,
             agenda,
             turns,
@@ -161,6 +170,7 @@ impl<'a, R: Wait, T: NonBlocking, W: Watch<T>> Worker<'a, R, T, W> {
             places,
             free: _,
             watch: _,
+            rest: _,
             ready: _,
             agenda: _,
             turns: _,
@@ -216,17 +226,31 @@ impl<'a, R: Wait, T: NonBlocking, W: Watch<T>> Worker<'a, R, T, W> {
         !self.turns.is_empty() || self.agenda.has_more()
     }
 
-    /// Sleeps until a client has an event, something came for the worker, or the limit is over.
+    /// Sleeps until a client has an event, something came for the worker, or the limit is over, and
+    /// takes what the worker was told into its agenda. Returns whether anyone has rung since it last
+    /// woke up.
     ///
     /// # Conditions
     ///
     /// - There is nothing to do for parked calls, or the limit is 0.
-    pub(crate) fn wait(&mut self, limit: Option<u64>)
+    pub(crate) fn sleep(&mut self, limit: Option<u64>) -> bool
         requires { (limit ≡ Some 0) ⊎ IsAtRest self.old.agenda }
         ensures places { self.new.places ≡ self.old.places }
-        ensures agenda { self.new.agenda ≡ self.old.agenda }
+        ensures wakes { WakesUp result self.old.rest.seat self.new.rest.seat self.old.agenda
+            self.new.agenda }
     {
-        self.watch.wait(limit, &mut self.ready);
+        let (agenda, watch) = (&mut self.agenda, &mut self.watch);
+        self.rest.sleep(limit, agenda, watch, &mut self.ready)
+    }
+
+    /// Takes what the worker was told into its agenda. Returns whether anyone has rung since it last
+    /// woke up.
+    pub(crate) fn wake_up(&mut self) -> bool
+        ensures places { self.new.places ≡ self.old.places }
+        ensures wakes { WakesUp result self.old.rest.seat self.new.rest.seat self.old.agenda
+            self.new.agenda }
+    {
+        self.rest.wake_up(&mut self.agenda)
     }
 
     /// Returns whether there are no clients.
@@ -340,15 +364,27 @@ impl<'a, R: Wait, T: NonBlocking, W: Watch<T>> Worker<'a, R, T, W> {
         }
     }
 
-    /// Ends the client because of a limit.
+    /// Ends the client because of this limit, if it may be cut off under it.
     #[tactic(auto, using(crate::proofs::PlaceLists::keeps_at))]
-    pub(crate) fn cut(&mut self, place: usize)
+    pub(crate) fn cut(&mut self, place: usize, limit: Limit)
         ensures keeps { KeepsAll T.incoming T.outgoing T.closes self.old.places.items
             self.new.places.items }
         ensures agenda { self.new.agenda ≡ self.old.agenda }
     {
         if let Some(there) = self.places.get_mut(place) {
-            there.cut();
+            there.cut(limit);
+        }
+    }
+
+    /// Ends the client because its time is over, if it may be cut off under that limit.
+    #[tactic(auto, using(crate::proofs::PlaceLists::keeps_at))]
+    pub(crate) fn cut_late(&mut self, place: usize)
+        ensures keeps { KeepsAll T.incoming T.outgoing T.closes self.old.places.items
+            self.new.places.items }
+        ensures agenda { self.new.agenda ≡ self.old.agenda }
+    {
+        if let Some(there) = self.places.get_mut(place) {
+            there.cut_late();
         }
     }
 

@@ -131,7 +131,7 @@ const COUNT: &str = "a number of messages or bytes is 0 to 4294967295";
 const TIME: &str =
     "a time is 0 to 4294967295 seconds, with or without a point and one to three more digits";
 
-const AHEAD: &str = "the number of receives ahead is 1 to 64";
+const AHEAD: &str = "the number of receives ahead is 1 to 256";
 
 const OWNER: &str = "a user, group or process ID is 0 to 4294967295";
 

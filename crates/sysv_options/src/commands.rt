@@ -16,8 +16,8 @@ Exit status: 0 if all is done, 1 after an error, 2 if the command line is not
 understood, 3 if the time of --wait is over.
 
 Example:
-  $ sysvmsg serve ./q &
-  sysvmsg: serving ./q, up to 1011 sessions at once, 1024 messages of 64 bytes
+  $ sysvmsg serve ./q --blocks 65536 &
+  sysvmsg: serving ./q, up to 1011 sessions at once, 65536 messages of 64 bytes
   $ sysvmsg snd ./q 7 hello --type 5
   $ sysvmsg ipcs ./q
   key             msqid      owner perms  bytes messages
@@ -118,11 +118,11 @@ const SERVE: Known = Known {
     name: "serve",
     about: "Serves message queues on a Unix socket",
     example: "\
-As many clients are served at once as there are descriptors, up to 16384; more wait.
+Serves as many clients at once as descriptors allow, up to 16384; others wait.
 
 Example:
-  $ sysvmsg serve ./q --mode 660 &
-  sysvmsg: serving ./q, up to 1011 sessions at once, 1024 messages of 64 bytes",
+  $ sysvmsg serve ./q --mode 660 --blocks 65536 &
+  sysvmsg: serving ./q, up to 1011 sessions at once, 65536 messages of 64 bytes",
     arguments: &[
         (
             "path",
@@ -278,7 +278,7 @@ Example:
             Form::ValueWith("A", "count"),
             "Requests up to A messages ahead, 1 to 64 [default: 1]",
         ),
-        ("follow", Form::Flag, "Receives messages until it is ended"),
+        ("follow", Form::Flag, "Receives messages until interrupted"),
         (
             "show-type",
             Form::Flag,

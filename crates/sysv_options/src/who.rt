@@ -31,6 +31,8 @@ pub struct Surroundings {
     pub is_terminal: bool,
     /// The effective user and group of the process, and its ID.
     pub own: Cred,
+    /// The maximum number of open files of the process, if it is known.
+    pub open_files: Option<u64>,
 }
 
 /// What a client states without options.

@@ -5,5 +5,6 @@ pub mod Crossing
 pub mod Shown
 pub mod Marks
 pub mod Places
+pub mod Told
 pub mod Walking
 pub mod Working

@@ -1,6 +1,8 @@
 -- What has changed for parked calls, apart from messages that have arrived (this project's profile).
 use Rattle.std.specs.Prelude.{◌≡◌, ◌<◌, ◌+◌, ◌*◌, ◌/◌, ◌%◌, ⊤, ℕ, true, List, slice_index}
 use Rattle.std.specs.Int.{bit_at}
+use Rattle.std.specs.List.{Contains}
+use Rattle.sysv_bells.specs.declared.view.Taking.{Taking}
 use Rattle.sysv_keys.specs.declared.identifier.TheConstants.{SLOTS}
 use Rattle.sysv_parking.specs.declared.changes.Change.{Change}
 use Rattle.sysv_parking.specs.declared.changes.Change.TheVariants.{Queue, Room, Blocks, Settled, Anything}
@@ -29,6 +31,12 @@ IsThere change = ⊤
 -- The change is one of those of which these words have a bit each.
 abbrev pub Holds : List ℕ → Change → Type 0
 Holds words change = bit_at (slice_index words (number_of change / 64)) (number_of change % 64) ≡ 1
+
+-- Each change whose bit was taken is one of these.
+abbrev pub AreHeld : List Taking → List ℕ → Type 0
+AreHeld takings words =
+    (change : Change) → IsThere change → (taking : Taking) → Contains takings taking
+    → taking.word ≡ number_of change / 64 + 2 → bit_at taking.bits (number_of change % 64) ≡ 1 → Holds words change
 
 -- Each change of the old words is one of the new words.
 abbrev pub HoldsOn : (old new : List ℕ) → Type 0

@@ -1,8 +1,11 @@
 //! What a worker has still to do for its parked calls.
-ghost use Rattle.std.specs.Prelude.{◌≡◌, true, false, IfSome, MatchOption};
+ghost use Rattle.std.specs.Prelude.{◌≡◌, true, false, List, IfSome, MatchOption};
 ghost use Rattle.std.specs.List.{Contains};
+ghost use Rattle.sysv_bells.specs.declared.view.Stage.TheVariants.{Awake};
+ghost use Rattle.sysv_bells.specs.declared.view.Taking.{Taking};
+ghost use Rattle.sysv_bells.specs.Seats.{read_to};
 ghost use Rattle.sysv_parking.specs.Agenda.{HeedsChange, IsAtRest, IsHeedful, KeepsWork, TakesFirst};
-ghost use Rattle.sysv_parking.specs.Changes.{Holds, IsThere};
+ghost use Rattle.sysv_parking.specs.Changes.{AreHeld, Holds, IsThere};
 ghost use Rattle.sysv_parking.specs.Lines.{AreEmpty, Takes};
 ghost use Rattle.sysv_parking.specs.Parking.{MovesOnly};
 
@@ -14,6 +17,7 @@ use crate::lines::Lines;
 use std::alloc::Global;
 use std::collections::VecDeque;
 use std::marker::Model;
+use sysv_bells::{Bells, Sleeper};
 
 /// The number of envelopes of which a worker reads no more.
 const MOST_ENVELOPES: usize = 256;
@@ -123,12 +127,22 @@ impl Agenda {
         self.changes.add(change);
     }
 
-    /// Adds the changes with these bits in this word.
-    pub fn add_changes(&mut self, at: usize, bits: u64)
+    /// Takes the changes that the worker is told by these words, and adds them to those that are to
+    /// be heeded.
+    ///
+    /// # Conditions
+    ///
+    /// - They are those of `Bells::take_changes`.
+    pub fn take_told(&mut self, bells: &Bells, seat: &mut Sleeper)
+        requires table { seat.old.table ≡ bells.now }
+        requires awake { seat.old.stage ≡ Awake }
+        requires unread { seat.old.from ≡ 2 }
+        ensures taken { (more : List Taking) × (seat.new ≡ read_to bells.now.words more seat.old)
+            × AreHeld more self.new.changes }
         ensures work { KeepsWork self.old self.new }
         ensures parking { self.new.parking ≡ self.old.parking }
     {
-        self.changes.add_bits(at, bits);
+        self.changes.take_told(bells, seat);
     }
 
     /// Takes the first of the envelopes.

@@ -1,9 +1,13 @@
 //! What has changed for parked calls, apart from messages that have arrived. Equal changes are one.
-ghost use Rattle.std.specs.Prelude.{◌≡◌, ◌⊎◌, ◌^◌, ◌%◌, ◌<◌, None, Some, true, slice_index, bit_or};
+ghost use Rattle.std.specs.Prelude.{◌≡◌, ◌⊎◌, ◌^◌, ◌%◌, ◌<◌, None, Some, true, List, slice_index, bit_or};
+ghost use Rattle.sysv_bells.specs.declared.view.Stage.TheVariants.{Awake};
+ghost use Rattle.sysv_bells.specs.declared.view.Taking.{Taking};
+ghost use Rattle.sysv_bells.specs.Seats.{joined, read_to};
 ghost use Rattle.sysv_parking.specs.declared.changes.TheConstants.{CHANGE_WORDS};
-ghost use Rattle.sysv_parking.specs.Changes.{Holds, HoldsOn, IsThere, number_of};
+ghost use Rattle.sysv_parking.specs.Changes.{AreHeld, Holds, HoldsOn, IsThere, number_of};
 
 use std::marker::Model;
+use sysv_bells::{Bells, Sleeper};
 use sysv_keys::SLOTS;
 
 /// The number of changes that there are: two for each slot, and three others.
@@ -103,7 +107,7 @@ impl Changes {
     }
 
     /// Adds the changes with these bits in this word.
-    pub fn add_bits(&mut self, at: usize, bits: u64)
+    fn add_bits(&mut self, at: usize, bits: u64)
         ensures added { at < CHANGE_WORDS
             → slice_index self.new at ≡ bit_or (slice_index self.old at) bits }
         ensures kept { HoldsOn self.old self.new }
@@ -111,6 +115,22 @@ impl Changes {
         if at < CHANGE_WORDS {
             self.words[at] |= bits;
         }
+    }
+
+    /// Takes what is told by these words, and adds it.
+    ///
+    /// # Conditions
+    ///
+    /// - They are those of `Bells::take_changes`.
+    pub fn take_told(&mut self, bells: &Bells, seat: &mut Sleeper)
+        requires table { seat.old.table ≡ bells.now }
+        requires awake { seat.old.stage ≡ Awake }
+        requires unread { seat.old.from ≡ 2 }
+        ensures taken { (more : List Taking) × (seat.new ≡ read_to bells.now.words more seat.old)
+            × (self.new ≡ joined more self.old) × AreHeld more self.new }
+        ensures kept { HoldsOn self.old self.new }
+    {
+        bells.take_changes(seat, &mut self.words);
     }
 
     /// Removes a change, if there is one, and returns it.

@@ -2,14 +2,16 @@
 use Rattle.std.proofs.Common.{◌≡◌, ℕ, zero, suc, List, [], ◌∷◌, ◌++◌, Option, Some, None, option_map, map, slice_get}
 use Rattle.std.proofs.Common.{refl, sym, ap, subst, ◌∙◌}
 use Rattle.std.proofs.lemmas.Option.{slice_get-map}
-use Rattle.sysv_core.specs.declared.doing.Doing.{Doing as DoingKept}
-use Rattle.sysv_core.specs.declared.doing.Doing.TheVariants as doing
+use Rattle.sysv_core.specs.declared.actor.Doing.{Doing as DoingKept}
 use Rattle.sysv_core.specs.World.{World, Doing, actor_at}
 use Rattle.sysv_core.specs.Seen.{Seen, IsSeenAs, state_in}
 use Rattle.sysv_core.specs.Kept.{state_kept, states_kept}
-use Rattle.sysv_core.specs.Standing.{Pending, state_at, of_state, doing_state, StandsThere, StandsNowhere}
+use Rattle.sysv_steps.specs.Pending.{Pending, pending_kind, pending_state}
+use Rattle.sysv_steps.specs.declared.pending.Pending.{Pending as PendingKept}
+use Rattle.sysv_steps.specs.declared.pending.Pending.TheVariants as kept
+use Rattle.sysv_core.specs.Standing.{state_at, of_state, doing_state, StandsThere, StandsNowhere}
 use Rattle.sysv_script.specs.Heads.{head_text}
-use Rattle.sysv_script.specs.Names.{operation_as, standing_text}
+use Rattle.sysv_script.specs.Names.{operation_as, standing_text, step_now}
 use Rattle.sysv_script.specs.declared.head.Head.{Head}
 use Rattle.sysv_script.specs.declared.head.Head.TheVariants as head
 use Rattle.sysv_script.specs.declared.names.Operation.{Operation}
@@ -37,14 +39,12 @@ idle_line actor None stands = refl
 idle_line actor (Some None) stands = refl
 idle_line actor (Some (Some d)) stands = absurd stands
 
-text_told : (actor : ℕ) (told : DoingKept) →
-    of_state (λ kind state. standing_text actor state) told ≡ standing_text actor (doing_state told).state
-text_told actor (doing.Get at) = refl
-text_told actor (doing.Send sent) = refl
-text_told actor (doing.Receive at body) = refl
-text_told actor (doing.Stat step) = refl
-text_told actor (doing.Set step) = refl
-text_told actor (doing.Remove step) = refl
+-- The line of a call that waits.
+pub waits_text : (p : PendingKept) (text : List ℕ) (actor : ℕ) (operation : Operation) →
+    None ≡ step_now (pending_state p text) → operation_as (pending_kind p) ≡ operation →
+    head_text (head.Waits actor operation) ≡ standing_text actor (pending_state p text)
+waits_text (kept.At s) text actor operation none is = absurd cc
+waits_text (kept.Waits w) text actor operation none is = ap (λ o. head_text (head.Waits actor o)) (sym is)
 
 pub going_line : (actor : ℕ) (o : Option (Option Doing)) (told : DoingKept) (line : Head) →
     StandsThere (option_map state_in o) told →
@@ -54,7 +54,7 @@ going_line actor None told line stands says = absurd stands
 going_line actor (Some None) told line stands says = absurd stands
 going_line actor (Some (Some d)) told line stands says =
     ap (λ t. t ++ 10 ∷ [])
-    (says ∙ (text_told actor told ∙ sym (ap (λ (p : Pending). standing_text actor p.state) stands)))
+    (says ∙ sym (ap (λ (p : Pending). standing_text actor p.state) stands))
 
 pub going_way : (o : Option (Option Doing)) (told : DoingKept) (operation : Operation) →
     StandsThere (option_map state_in o) told →

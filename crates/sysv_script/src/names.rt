@@ -1,6 +1,7 @@
 //! The names of calls and their steps in a script.
 ghost use Rattle.std.specs.Prelude.{◌≡◌, ℕ, List, Some, option_map};
-ghost use Rattle.sysv_steps.specs.Seen.{get_phase, send_phase};
+ghost use Rattle.sysv_steps.specs.Seen.{get_phase, send_phase, receive_phase, set_phase, remove_phase};
+ghost use Rattle.sysv_steps.specs.Pending.{kind_at, kind_waiting, phase_of};
 ghost use Rattle.sysv_core.specs.Standing.{of_state, doing_state};
 ghost use Rattle.sysv_script.specs.Names.{operation_as, operation_of, step_in, step_now};
 ghost use Rattle.sysv_script.specs.SaidBy.{call_asked};
@@ -8,8 +9,8 @@ ghost use Rattle.sysv_script.specs.Heads.{operation_name, step_name};
 
 use crate::call::Text;
 use std::fmt;
-use sysv_core::{Doing, Sent, Standing};
-use sysv_steps::{Call, GetStep, ReceiveStep, RemoveStep, SendStep, SetStep};
+use sysv_core::Doing;
+use sysv_steps::{Call, GetStep, Pending, ReceiveStep, RemoveStep, SendStep, SetStep, Waiting};
 
 /// The kind of a call.
 #[derive(Clone, Copy)]
@@ -47,13 +48,34 @@ impl Operation {
     pub fn of_doing(doing: &Doing) -> Operation
         ensures { operation_as (doing_state doing.now).kind ≡ result }
     {
-        match doing {
-            Doing::Get(_) => Operation::Get,
-            Doing::Send(_) => Operation::Send,
-            Doing::Receive { .. } => Operation::Receive,
-            Doing::Stat(_) => Operation::Stat,
-            Doing::Set(_) => Operation::Set,
-            Doing::Remove(_) => Operation::Remove,
+        match &doing.pending {
+            Pending::At(step) => Operation::of_step(step),
+            Pending::Waits(wait) => Operation::of_wait(wait),
+        }
+    }
+
+    /// Returns the kind of the call that is before this step.
+    fn of_step(step: &sysv_steps::Step) -> Operation
+        ensures { operation_as (kind_at step.now) ≡ result }
+    {
+        match step {
+            sysv_steps::Step::Get(_) => Operation::Get,
+            sysv_steps::Step::Send(_) => Operation::Send,
+            sysv_steps::Step::Receive(_) => Operation::Receive,
+            sysv_steps::Step::Stat(_) => Operation::Stat,
+            sysv_steps::Step::Set(_) => Operation::Set,
+            sysv_steps::Step::Remove(_) => Operation::Remove,
+        }
+    }
+
+    /// Returns the kind of the call that is in this wait.
+    fn of_wait(wait: &Waiting) -> Operation
+        ensures { operation_as (kind_waiting wait.now) ≡ result }
+    {
+        match wait {
+            Waiting::Get(_) => Operation::Get,
+            Waiting::Send(_) => Operation::Send,
+            Waiting::Receive(_) => Operation::Receive,
         }
     }
 }
@@ -109,24 +131,23 @@ impl Step {
     pub(crate) fn of_doing(doing: &Doing) -> Option<Step>
         ensures { option_map step_name result ≡ of_state (λ kind state. step_now state) doing.now }
     {
-        match doing {
-            Doing::Get(Standing::At(step)) => Some(Step::of_get(step)),
-            Doing::Send(Sent { at, .. }) => match at {
-                Standing::At(step) => Some(Step::of_send(step)),
-                Standing::Waits(_) => None,
-            },
-            Doing::Receive { at, .. } => match at {
-                Standing::At(ReceiveStep::Take(_)) => Some(Step::Take),
-                Standing::At(ReceiveStep::Giveback { .. }) => Some(Step::Giveback),
-                Standing::Waits(_) => None,
-            },
-            Doing::Get(Standing::Waits(_)) => None,
-            Doing::Stat(_) => Some(Step::Stat),
-            Doing::Set(SetStep::Set { .. }) => Some(Step::Set),
-            Doing::Set(SetStep::Giveback) => Some(Step::Giveback),
-            Doing::Remove(RemoveStep::Remove { .. }) => Some(Step::Remove),
-            Doing::Remove(RemoveStep::Forget { .. }) => Some(Step::Forget),
-            Doing::Remove(RemoveStep::Giveback { .. }) => Some(Step::Giveback),
+        match &doing.pending {
+            Pending::At(step) => Some(Step::of_step(step)),
+            Pending::Waits(_) => None,
+        }
+    }
+
+    /// Returns the name of a step.
+    fn of_step(step: &sysv_steps::Step) -> Step
+        ensures { (text : List ℕ) → step_name result ≡ step_in (phase_of step.now text) }
+    {
+        match step {
+            sysv_steps::Step::Get(step) => Step::of_get(step),
+            sysv_steps::Step::Send(step) => Step::of_send(step),
+            sysv_steps::Step::Receive(step) => Step::of_receive(step),
+            sysv_steps::Step::Stat(_) => Step::Stat,
+            sysv_steps::Step::Set(step) => Step::of_set(step),
+            sysv_steps::Step::Remove(step) => Step::of_remove(step),
         }
     }
 
@@ -152,6 +173,37 @@ impl Step {
             SendStep::Reserve(_) => Step::Reserve,
             SendStep::Place { .. } => Step::Place,
             SendStep::Giveback { .. } => Step::Giveback,
+        }
+    }
+
+    /// Returns the name of a step of a receive.
+    fn of_receive(step: &ReceiveStep) -> Step
+        ensures { (text : List ℕ) → step_name result ≡ step_in (receive_phase step.now text) }
+    {
+        match step {
+            ReceiveStep::Take(_) => Step::Take,
+            ReceiveStep::Giveback { .. } => Step::Giveback,
+        }
+    }
+
+    /// Returns the name of a step of an IPC_SET.
+    fn of_set(step: &SetStep) -> Step
+        ensures { step_name result ≡ step_in (set_phase step.now) }
+    {
+        match step {
+            SetStep::Set { .. } => Step::Set,
+            SetStep::Giveback => Step::Giveback,
+        }
+    }
+
+    /// Returns the name of a step of an IPC_RMID.
+    fn of_remove(step: &RemoveStep) -> Step
+        ensures { step_name result ≡ step_in (remove_phase step.now) }
+    {
+        match step {
+            RemoveStep::Remove { .. } => Step::Remove,
+            RemoveStep::Forget { .. } => Step::Forget,
+            RemoveStep::Giveback { .. } => Step::Giveback,
         }
     }
 }

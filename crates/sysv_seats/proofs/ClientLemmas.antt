@@ -29,10 +29,10 @@ use Rattle.sysv_wire.specs.declared.fault.Fault.TheVariants.{Truncated, TooLong,
 use Rattle.sysv_wire.specs.declared.frame.Version.{Version}
 use Rattle.sysv_seats.specs.declared.parked.Parked.{Parked}
 use Rattle.sysv_seats.specs.Asked.{asks_with}
-use Rattle.sysv_seats.specs.Breaking.{Breaks, HasCause, MayBreak, MayEnd}
+use Rattle.sysv_seats.specs.Breaking.{Breaks, HasCause, MayEnd}
 use Rattle.sysv_seats.specs.InPieces.{left}
 use Rattle.sysv_seats.specs.Sits.{Arrives, HasFrame, HasStopped, IsAt, IsBehind, IsCounted, IsFree, IsOver}
-use Rattle.sysv_seats.specs.Sits.{IsReady, MayClose, end_at_close, is_early}
+use Rattle.sysv_seats.specs.Sits.{IsReady, end_at_close, is_finished, is_early}
 use Rattle.sysv_seats.specs.Sits.{Keeps, KeepsWith, Sits, Sitting, broken_off, broken_off_for, stopped_for, with_input}
 use Rattle.sysv_seats.specs.Sits.{zero_moment}
 use Rattle.sysv_seats.specs.declared.non_blocking.Drained.TheVariants.{Took}
@@ -149,12 +149,6 @@ stopped_cause : (breaks : Breaks) (parked : Option Parked) (stopped : Option End
 stopped_cause breaks parked None cause some = absurd (cc some)
 stopped_cause breaks parked (Some why) cause some = cause
 
-any_cause : (breaks : Breaks) (parked : Option Parked) (stopped : Option End) → IfSome stopped (MayEnd breaks) →
-    MayBreak breaks → MayEnd breaks (end_at_close parked stopped)
-any_cause breaks None None cause may = may.0
-any_cause breaks (Some parked) None cause may = may.1
-any_cause breaks parked (Some why) cause may = cause
-
 finished_cause : (breaks : Breaks) (parked : Option Parked) (stopped : Option End) (broken : Bool) (bytes : List ℕ) →
     HasCause breaks stopped broken →
     (broken || (is_some stopped && (length bytes == 0))) ≡ true →
@@ -171,13 +165,10 @@ finished_cause breaks parked (Some why) false (byte ∷ bytes) cause done =
     absurd (cc no)
 
 pub closing_cause : {T : Type 0} (breaks : Breaks) (client : Sitting T) →
-    HasCause breaks client.stopped client.broken → MayClose breaks client →
+    HasCause breaks client.stopped client.broken → is_finished client ≡ true →
     MayEnd breaks (reported (end_at_close client.parked client.stopped) client.dialogue.unsent.bytes)
-closing_cause breaks client cause (inl done) =
+closing_cause breaks client cause done =
     finished_cause breaks client.parked client.stopped client.broken client.dialogue.unsent.bytes cause done
-closing_cause breaks client cause (inr may) =
-    reported_cause breaks (end_at_close client.parked client.stopped) client.dialogue.unsent.bytes
-    (any_cause breaks client.parked client.stopped cause.0 may) (λ some. may.1)
 
 -- ---- the input
 

@@ -6,9 +6,11 @@ pub mod HandlesKept
 pub mod Parked
 pub mod Notification
 pub mod InPieces
+pub mod Limits
 pub mod Breaking
 pub mod Untold
 pub mod Memory
 pub mod NonBlocking
+pub mod Sockets
 pub mod PacedStreams
 pub mod Sits

@@ -146,5 +146,6 @@ breaks_of stream = record {
   reading = has_failed_read stream.reads || stream.cut;
   resetting = has_reset stream.reads;
   writing = has_failing stream.writes || stream.cut;
-  cutting = stream.cut;
+  leaving = stream.cut;
+  limits = record { idle = stream.cut; stall = stream.cut; drain = stream.cut };
 }

@@ -31,7 +31,6 @@ use Rattle.sysv_seats.specs.declared.parked.Parked.{Parked}
 use Rattle.sysv_seats.specs.declared.waiting.Waiting.{Waiting}
 use Rattle.sysv_seats.specs.declared.waiting.Waiting.TheVariants.{Send, Receive, Get}
 use Rattle.sysv_seats.specs.Asked.{ServesPassTogether, asks_with}
-use Rattle.sysv_seats.specs.Breaking.{Breaks, MayBreak}
 use Rattle.sysv_seats.specs.Parked.{IsParked}
 use Rattle.sysv_seats.specs.Untold.{Closing}
 
@@ -201,10 +200,6 @@ module _ {T : Type 0} where
   -- stopped and its connection has taken all of them.
   abbrev pub is_finished : Sitting T → Bool
   is_finished client = client.broken || (is_some client.stopped && (length client.dialogue.unsent.bytes == 0))
-
-  -- Nothing is left to do but to close the client, or its session may be broken off.
-  abbrev pub MayClose : Breaks → Sitting T → Type 0
-  MayClose breaks client = (is_finished client ≡ true) ⊎ MayBreak breaks
 
   -- These bytes were appended to the input, or memory for them was refused.
   abbrev pub Arrives : List ℕ → Sitting T → Sitting T → Type 0

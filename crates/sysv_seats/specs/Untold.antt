@@ -1,7 +1,9 @@
 -- What a book keeps of connections that are closed, and connections that do not tell their bytes
 -- (this project's profile).
 use Rattle.std.specs.Prelude.{ℕ, ⊤, List, Option, None}
-use Rattle.sysv_seats.specs.Breaking.{Breaks, all_breaks}
+use Rattle.sysv_seats.specs.declared.limits.Limits.{Limits}
+use Rattle.sysv_seats.specs.declared.socket_stream.SocketStream.{SocketStream}
+use Rattle.sysv_seats.specs.Breaking.{Breaks, any_under}
 
 -- How connections end: what may break off a session on one, and how its close changes a book, by
 -- what was still to be read and what was written.
@@ -13,6 +15,14 @@ pub record Closing (T B : Type 0) : Type 1 where
 abbrev pub untold : {T : Type 0} → T → Option (List ℕ)
 untold connection = None
 
--- Connections to which everything may happen, and whose close leaves nothing.
-abbrev pub leaves_nothing : {T B : Type 0} → Closing T B
-leaves_nothing = record { breaks = λ connection. all_breaks; leaves = λ book rest more book'. ⊤ }
+-- The limits under which a server may cut off the client of a socket.
+abbrev pub limits_of : SocketStream → Limits
+limits_of socket = socket.limits
+
+-- Sockets: everything may happen to one, except for a cut under another limit than its own, and its
+-- close leaves nothing.
+abbrev pub closing_sockets : Closing SocketStream ⊤
+closing_sockets = record {
+  breaks = λ socket. any_under (limits_of socket);
+  leaves = λ book rest more book'. ⊤;
+}

@@ -6,12 +6,14 @@ ghost use Rattle.sysv_session.specs.Answers.{IsAsked};
 ghost use Rattle.sysv_session.specs.TakenUp.{TakesUp};
 ghost use Rattle.sysv_wire.specs.Requests.{op_of, request_encoding};
 ghost use Rattle.sysv_seats.specs.Breaking.{MayBreak, MayEnd};
+ghost use Rattle.sysv_seats.specs.Limits.{has_limit};
 ghost use Rattle.sysv_seats.specs.HandlesKept.{KeepsHandles};
 ghost use Rattle.sysv_seats.specs.Notification.{Keeps as KeepsNotification, notifications_of, told_of};
 ghost use Rattle.sysv_seats.specs.Parked.{HasBegun, IsReplied, MayProgress};
-ghost use Rattle.sysv_seats.specs.Sits.{Arrives, GreetsAs, HasAsked, IsFree, IsOver, IsPending, Keeps, KeepsWith, MayClose, ReadsNext, Sits, broken_off_for, end_at_close, is_early as early, is_finished, parked_bytes, parked_wait, stopped_for, zero_moment};
+ghost use Rattle.sysv_seats.specs.Sits.{Arrives, GreetsAs, HasAsked, IsFree, IsOver, IsPending, Keeps, KeepsWith, ReadsNext, Sits, broken_off_for, end_at_close, is_early as early, is_finished, parked_bytes, parked_wait, stopped_for, zero_moment};
 
 use crate::handler::ServiceHandler;
+use crate::limits::Limit;
 use crate::non_blocking::{Drained, Filled, NonBlocking, Over};
 use crate::notification::Told;
 use crate::parked::Parked;
@@ -201,19 +203,12 @@ impl<T: NonBlocking> Client<T> {
         self.is_broken || (self.stopped.is_some() && self.unsent_bytes() == 0)
     }
 
-    /// Returns whether the client may leave a call that waits, and may be cut off.
-    pub fn may_be_cut(&self) -> bool
-        ensures cutting { result ≡ (T.closes.breaks self.now.connection).cutting }
+    /// Returns whether the client may be cut off under this limit.
+    pub fn may_be_cut(&self, limit: Limit) -> bool
+        ensures limit { result ≡ has_limit (T.closes.breaks self.now.connection).limits limit }
         ensures all { result ≡ true → MayBreak (T.closes.breaks self.now.connection) }
     {
-        self.connection.may_be_cut()
-    }
-
-    /// Returns whether the client may be closed: nothing else is left to do, or it may be cut off.
-    pub fn may_close(&self) -> bool
-        ensures { result ≡ true → MayClose (T.closes.breaks self.now.connection) self.now }
-    {
-        self.is_over() || self.may_be_cut()
+        self.connection.may_be_cut(limit)
     }
 
     /// Returns whether more bytes may be there than the last read returned, although nothing reports
@@ -240,20 +235,34 @@ impl<T: NonBlocking> Client<T> {
         self.heed_leave();
     }
 
-    /// Ends the client because of a limit, if it may be cut off. A parked call is left, and the
-    /// connection takes no more replies.
-    pub fn cut(&mut self)
+    /// Ends the client because of a limit, if it may be cut off under this one. A parked call is
+    /// left, and the connection takes no more replies.
+    pub fn cut(&mut self, limit: Limit)
         ensures keeps { Keeps T.incoming T.outgoing self.old self.new }
-        ensures broken { (T.closes.breaks self.old.connection).cutting ≡ true
+        ensures broken { has_limit (T.closes.breaks self.old.connection).limits limit ≡ true
             → self.new.broken ≡ true }
-        ensures stays { (T.closes.breaks self.old.connection).cutting ≡ false
+        ensures stays { has_limit (T.closes.breaks self.old.connection).limits limit ≡ false
             → self.new ≡ self.old }
         ensures breaks { T.closes.breaks self.new.connection
             ≡ T.closes.breaks self.old.connection }
     {
-        if !self.may_be_cut() {
-            return;
+        if self.may_be_cut(limit) {
+            self.cut_off();
         }
+    }
+
+    /// Ends the client. A parked call is left, and the connection takes no more replies.
+    ///
+    /// # Conditions
+    ///
+    /// - Reading from the connection and writing to it may break off.
+    pub fn cut_off(&mut self)
+        requires { MayBreak (T.closes.breaks self.old.connection) }
+        ensures keeps { Keeps T.incoming T.outgoing self.old self.new }
+        ensures broken { self.new.broken ≡ true }
+        ensures breaks { T.closes.breaks self.new.connection
+            ≡ T.closes.breaks self.old.connection }
+    {
         self.give_up();
         self.break_off(End::Fault(Fault::Read));
     }
@@ -328,12 +337,12 @@ impl<T: NonBlocking> Client<T> {
     }
 
     /// Closes the client, and returns what its session did. Replies that the connection has not
-    /// taken are lost. Of a client that may be closed, the session ends for a reason that there is.
+    /// taken are lost. If nothing else was left to do, the session ends for a reason that there is.
     pub fn close(self, book: &mut T::Book) -> Served
         ensures over { (start now : Pass) (origin : T) →
             Sits T.incoming T.outgoing start origin self now →
             IsOver T.incoming T.outgoing T.closes start origin result now book.old book.new }
-        ensures cause { MayClose (T.closes.breaks self.connection) self
+        ensures cause { is_finished self ≡ true
             → MayEnd (T.closes.breaks self.connection) result.«end» }
     {
         let Client {
@@ -377,7 +386,7 @@ impl<T: NonBlocking> Client<T> {
         ensures breaks { T.closes.breaks self.new.connection
             ≡ T.closes.breaks self.old.connection }
     {
-        if self.has_left && self.may_be_cut() {
+        if self.has_left && self.connection.may_leave() {
             self.give_up();
         }
     }

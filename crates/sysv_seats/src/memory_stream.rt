@@ -1,9 +1,11 @@
 //! Connections in memory that never wait, and whose reads and writes go by a list of steps.
 ghost use Rattle.std.specs.Prelude.{◌≡◌, [], IfSome, false, length, true};
 ghost use Rattle.sysv_seats.specs.Breaking.{MayBreak};
+ghost use Rattle.sysv_seats.specs.Limits.{has_limit};
 ghost use Rattle.sysv_seats.specs.PacedStreams.{DrainsAt, FillsAs, breaks_of, later_steps, limit_of, next_step, over_of};
 
 use crate::book::Replies;
+use crate::limits::{Limit, Limits};
 use crate::non_blocking::{Drained, Filled, NonBlocking, Over};
 use std::alloc::Global;
 use std::marker::Model;
@@ -203,8 +205,12 @@ impl<'a> NonBlocking for MemoryStream<'a> {
         Drained::Took(count)
     }
 
-    fn may_be_cut(&self) -> bool {
+    fn may_leave(&self) -> bool {
         self.cut
+    }
+
+    fn may_be_cut(&self, limit: Limit) -> bool {
+        Limits::all_or_none(self.cut).has(limit)
     }
 
     fn close(self, book: &mut Replies) {

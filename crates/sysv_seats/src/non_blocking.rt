@@ -1,7 +1,10 @@
 //! Connections that never wait.
 ghost use Rattle.std.specs.Prelude.{◌≡◌, ◌⊎◌, ℕ, List, Option, None, Some, IfSome, true};
 ghost use Rattle.sysv_seats.specs.Breaking.{MayBreak};
+ghost use Rattle.sysv_seats.specs.Limits.{has_limit};
 ghost use Rattle.sysv_seats.specs.NonBlocking.{DrainAppends, FillConsumes};
+
+use crate::limits::Limit;
 
 /// A connection whose reads and writes return at once.
 ///
@@ -58,10 +61,14 @@ pub trait NonBlocking {
         ensures breaks { closes.breaks self.new ≡ closes.breaks self.old }
         ensures writing { result ≡ Drained.Failed → (closes.breaks self.new).writing ≡ true };
 
-    /// Returns whether the connection's client may leave a call that waits, and may be cut off by
-    /// the server.
-    fn may_be_cut(&self) -> bool
-        ensures cutting { result ≡ (closes.breaks self.now).cutting }
+    /// Returns whether the connection's client may leave a call that waits.
+    fn may_leave(&self) -> bool
+        ensures leaving { result ≡ (closes.breaks self.now).leaving }
+        ensures writing { result ≡ true → (closes.breaks self.now).writing ≡ true };
+
+    /// Returns whether the server may cut the connection's client off under this limit.
+    fn may_be_cut(&self, limit: Limit) -> bool
+        ensures limit { result ≡ has_limit (closes.breaks self.now).limits limit }
         ensures all { result ≡ true → MayBreak (closes.breaks self.now) };
 
     /// Closes the connection.

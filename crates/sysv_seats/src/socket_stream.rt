@@ -2,7 +2,9 @@
 //! they tell no bytes and leave nothing in a book.
 ghost use Rattle.std.specs.Prelude.{◌≡◌, None, false, IfOk};
 ghost use Rattle.std.specs.Io.{ReadsAtMost, WritesAtMost};
+ghost use Rattle.sysv_seats.specs.Sockets.{filled_of};
 
+use crate::limits::{Limit, Limits};
 use crate::non_blocking::{Drained, Filled, NonBlocking, Over};
 use std::io;
 use std::io::{ErrorKind, Read, Write};
@@ -18,19 +20,22 @@ pub struct SocketStream {
     stream: UnixStream,
     over: Option<Over>,
     refuses: bool,
+    limits: Limits,
 }
 
 impl SocketStream {
-    /// Creates the connection of this stream, whose calls do not wait from now on.
+    /// Creates the connection of this stream, whose calls do not wait from now on. The server may
+    /// cut its client off under these limits.
     ///
     /// # Errors
     ///
     /// - The system's error if the stream cannot be made non-blocking. The stream is closed.
-    pub fn new(stream: UnixStream) -> io::Result<SocketStream>
+    pub fn new(stream: UnixStream, limits: Limits) -> io::Result<SocketStream>
         ensures { IfOk result (λ socket. socket ≡ record {
           stream = stream;
           over = None;
           refuses = false;
+          limits = limits;
         }) }
     {
         stream.set_nonblocking(true)?;
@@ -38,6 +43,7 @@ impl SocketStream {
             stream,
             over: None,
             refuses: false,
+            limits,
         })
     }
 
@@ -72,7 +78,7 @@ impl SocketStream {
 
 impl NonBlocking for SocketStream {
     ghost use Rattle.std.specs.Prelude.{◌≡◌, true};
-    ghost use Rattle.sysv_seats.specs.Untold.{leaves_nothing, untold};
+    ghost use Rattle.sysv_seats.specs.Untold.{closing_sockets, untold};
 
     type Book = ();
 
@@ -84,7 +90,7 @@ impl NonBlocking for SocketStream {
 
     ghost refuses = { λ socket. socket.refuses ≡ true };
 
-    ghost closes = { leaves_nothing };
+    ghost closes = { closing_sockets };
 
     fn fill(&mut self, buf: &mut [u8]) -> Filled {
         if let Some(why) = self.over {
@@ -93,17 +99,12 @@ impl NonBlocking for SocketStream {
         if buf.is_empty() {
             return Filled::NothingNow;
         }
-        let why = match self.read_now(buf) {
-            Ok(0) => Over::End,
-            Ok(count) => return Filled::Bytes(count),
-            Err(why) => match why.kind() {
-                ErrorKind::WouldBlock => return Filled::NothingNow,
-                ErrorKind::ConnectionReset => Over::Reset,
-                _ => Over::Failed,
-            },
-        };
-        self.over = Some(why);
-        Filled::Over(why)
+        let outcome = self.read_now(buf);
+        let filled = filled_by(&outcome);
+        if let Filled::Over(why) = filled {
+            self.over = Some(why);
+        }
+        filled
     }
 
     fn drain(&mut self, bytes: &[u8]) -> Drained {
@@ -122,8 +123,12 @@ impl NonBlocking for SocketStream {
         Drained::Failed
     }
 
-    fn may_be_cut(&self) -> bool {
+    fn may_leave(&self) -> bool {
         true
+    }
+
+    fn may_be_cut(&self, limit: Limit) -> bool {
+        self.limits.has(limit)
     }
 
     fn close(self, _book: &mut ()) {}
@@ -138,5 +143,20 @@ impl AsRawFd for SocketStream {
     /// Returns the number of the socket's descriptor, by which an event loop watches it.
     fn as_raw_fd(&self) -> RawFd {
         self.stream.as_raw_fd()
+    }
+}
+
+/// Returns what a read of a stream into a buffer that is not empty means, which returned this.
+fn filled_by(outcome: &io::Result<usize>) -> Filled
+    ensures { result ≡ filled_of outcome.now }
+{
+    match outcome {
+        Ok(0) => Filled::Over(Over::End),
+        Ok(count) => Filled::Bytes(*count),
+        Err(why) => match why.kind() {
+            ErrorKind::WouldBlock => Filled::NothingNow,
+            ErrorKind::ConnectionReset => Filled::Over(Over::Reset),
+            _ => Filled::Over(Over::Failed),
+        },
     }
 }

@@ -4,7 +4,8 @@ use mathlib.Core.Bool.{true≢false}
 use Rattle.std.proofs.Common.{◌≡◌, ◌≢◌, inl, inr, Bool, ℕ, ◌+◌, ◌≤◌, ◌<◌, List, [], ◌∷◌, length, map, Option, Some}
 use Rattle.std.proofs.Common.{None, refl, arith, sym, ap, subst, ◌∙◌, append_assoc}
 use Rattle.std.specs.Prelude.{Result, Ok, Err, IfErr, IfOk, IsSomeAnd, ◌^◌, ◌-◌, true, false, is_some, min}
-use Rattle.std.specs.List.{FoldsTo, sum_by}
+use Rattle.std.specs.List.{AllByRecursion, FoldsTo, sum_by}
+use Rattle.sysv_seats.specs.declared.limits.Limits.{Limits}
 use Rattle.std.specs.declared.io.Error.{Error}
 use Rattle.std.proofs.lemmas.List.{append-nil}
 use Rattle.std.proofs.lemmas.List.Sums.{sum_by-cons}
@@ -29,7 +30,7 @@ use Rattle.sysv_engine.specs.Serving.{HasLived, LeavesConnections}
 use Rattle.sysv_server.specs.Serving.{EndsFrom, FailsFrom, HasCause, HasReason}
 use Rattle.sysv_server.specs.Serving.{ServesOn}
 use Rattle.sysv_engine.specs.Converses.{tally_of}
-use Rattle.sysv_seats.specs.Untold.{leaves_nothing, untold}
+use Rattle.sysv_seats.specs.Untold.{closing_sockets, limits_of, untold}
 use Rattle.sysv_engine.proofs.SessionsPerConnection.{as_books, one_each}
 
 room : (m a a' n : ℕ) → m ≤ 2 ^ 64 - 1 → a < m → a' ≡ min (a + 1) (2 ^ 64 - 1) → (a' ≤ m → a' + n ≤ m) → a + (n + 1) ≤ m
@@ -117,6 +118,13 @@ module _ {L I H : Type 0} (told : L → Option (List SocketStream)) (listens : L
   none_given [] s s' h unopened = refl
   none_given (x ∷ items) s s' h unopened = absurd (true≢false (sym (is_opened x items s s' h) ∙ unopened))
 
+  -- the clients of the connections that were given are cut off only under the limits of the source
+  limited : (limits : Limits) (items : List SocketStream) (s s' : Accepting L I H) → s.limits ≡ limits →
+      Given items s s' → AllByRecursion (λ (x : SocketStream). limits_of x ≡ limits) items
+  limited limits [] s s' held h = tt
+  limited limits (x ∷ items) s s' held h =
+      (h.1.8 ∙ held, limited limits items h.0 s' (h.1.9 ∙ held) h.2)
+
   -- the listener has accepted the connections that were given
   tells : (items : List SocketStream) (s s' : Accepting L I H) → Given items s s' →
       told s'.listener.now ≡ added (told s.listener.now) items
@@ -186,7 +194,7 @@ module _ {L I H : Type 0} (told : L → Option (List SocketStream)) (listens : L
   has_cause m sessions s last s' items input (Some (Accept why)) none same small of_input gave all count failed = tt
 
   abbrev pub Serves : Bool → ℕ → Accepting L I H → List ⊤ → Ended → Accepting L I H → List ⊤ → Type 0
-  Serves = ServesConnections untold untold leaves_nothing Gives
+  Serves = ServesConnections untold untold closing_sockets Gives
 
   -- the source holds the listener that it was lent, after a run too
   pub served_hold : (shows : Bool) (blocks : ℕ) (s s' : Accepting L I H) (books books' : List ⊤) (ended : Ended) →
@@ -195,7 +203,7 @@ module _ {L I H : Type 0} (told : L → Option (List SocketStream)) (listens : L
 
   pub failed_hold : (Ran : Gates → List Shift → Type 0) (s s' : Accepting L I H) (books books' : List ⊤)
       (why : ServeFault)
-      → LeavesConnections untold untold leaves_nothing Gives Ran s books why s' books'
+      → LeavesConnections untold untold closing_sockets Gives Ran s books why s' books'
       → s'.listener.ghost_name ≡ s.listener.ghost_name
   failed_hold Ran s s' books books' faults.NoMemory left = ap (λ (t : Accepting L I H). t.listener.ghost_name) left.0
   failed_hold Ran s s' books books' faults.Thread left = ap (λ (t : Accepting L I H). t.listener.ghost_name) left.0
@@ -205,13 +213,14 @@ module _ {L I H : Type 0} (told : L → Option (List SocketStream)) (listens : L
   serves_on : (shows : Bool) (blocks workers m : ℕ) (s s' : Accepting L I H) (books books' : List ⊤) (ended : Ended)
       → s.accepted ≡ 0 → s.most ≡ m → m ≤ 2 ^ 64 - 1 → length books ≡ workers
       → Serves shows blocks s books ended s' books'
-      → ServesOn shows blocks workers m ended.sums
+      → ServesOn shows blocks workers m s.limits ended.sums
   serves_on shows blocks workers m s s' books books' ended none same small counted served = record {
     gates = served.gates;
     opened = served.opened;
     shifts = served.shifts;
     worked = record {
-      places = as_books untold untold leaves_nothing served.gates books served.desks served.shifts books' served.in_team
+      places =
+          as_books untold untold closing_sockets served.gates books served.desks served.shifts books' served.in_team
           ∙ counted;
       passes = served.in_team.passes;
       sums = served.sums;
@@ -220,10 +229,11 @@ module _ {L I H : Type 0} (told : L → Option (List SocketStream)) (listens : L
     bounded = λ some.
         let fits : s.most ≤ 2 ^ 64 - 1 = omega arith in
         let all = bounded served.given s s' served.gave none fits (λ z. some (sym same ∙ z)) in
-        let each = one_each untold untold leaves_nothing served.desks served.shifts served.given served.in_team.sat
+        let each = one_each untold untold closing_sockets served.desks served.shifts served.given served.in_team.sat
         served.dealt in
         omega arith;
     accepted = served.given;
+    limited = limited s.limits served.given s served.gave.last refl served.gave.gave;
     desks = served.desks;
     dealt = served.dealt;
     ordered = served.ordered;
@@ -236,7 +246,7 @@ module _ {L I H : Type 0} (told : L → Option (List SocketStream)) (listens : L
   pub ends_from : (shows : Bool) (blocks workers m : ℕ) (s s' : Accepting L I H) (books books' : List ⊤) (ended : Ended)
       → s.accepted ≡ 0 → s.most ≡ m → m ≤ 2 ^ 64 - 1 → length books ≡ workers
       → Serves shows blocks s books ended s' books'
-      → EndsFrom told listens shows blocks workers m s.listener.now ended s'.listener.now
+      → EndsFrom told listens shows blocks workers m s.limits s.listener.now ended s'.listener.now
   unfolding serves_on
   ends_from shows blocks workers m s s' books books' ended none same small counted all = record {
     ends = record {
@@ -257,7 +267,7 @@ module _ {L I H : Type 0} (told : L → Option (List SocketStream)) (listens : L
       → HasCause reads input m ended.sums.sessions reason
   ends_for shows blocks m s s' books books' ended input reason none same small unended of_input of_reason served =
       let gave = served.gave in
-      let each = one_each untold untold leaves_nothing served.desks served.shifts served.given served.in_team.sat
+      let each = one_each untold untold closing_sockets served.desks served.shifts served.given served.in_team.sat
       served.dealt in
       let sums : ended.sums.sessions
       ≡ capped (sum_by (λ (s : Sums). s.sessions) (map (λ t. one_session (tally_of t)) (told_in served.shifts))) =
@@ -276,7 +286,7 @@ module _ {L I H : Type 0} (told : L → Option (List SocketStream)) (listens : L
   pub fails_from : (shows : Bool) (blocks workers m : ℕ) (s s' : Accepting L I H) (books books' : List ⊤)
       (why : ServeFault)
       → s.accepted ≡ 0 → s.most ≡ m → m ≤ 2 ^ 64 - 1 → length books ≡ workers
-      → LeavesConnections untold untold leaves_nothing Gives (HasLived shows blocks) s books why s' books'
+      → LeavesConnections untold untold closing_sockets Gives (HasLived shows blocks) s books why s' books'
       → FailsFrom told shows blocks workers m s.listener.now why s'.listener.now
   fails_from shows blocks workers m s s' books books' faults.NoMemory none same small counted left =
       (tt, ap (λ (t : Accepting L I H). told t.listener.now) left.0)
@@ -306,29 +316,31 @@ module _ {L I H : Type 0} (told : L → Option (List SocketStream)) (listens : L
       (none : s.accepted ≡ 0) (same : s.most ≡ m) (small : m ≤ 2 ^ 64 - 1)
       (ok : IfOk result (λ ended. Serves shows blocks s books ended s' books'))
       (err : IfErr result
-      (λ why. LeavesConnections untold untold leaves_nothing Gives (HasLived shows blocks) s books why s'
+      (λ why. LeavesConnections untold untold closing_sockets Gives (HasLived shows blocks) s books why s'
       books')) where
     pub still_holds : s'.listener.ghost_name ≡ s.listener.ghost_name
     still_holds = of result ok err
       where
         of : (r : Result Ended ServeFault) → IfOk r (λ ended. Serves shows blocks s books ended s' books')
             → IfErr r
-            (λ why. LeavesConnections untold untold leaves_nothing Gives (HasLived shows blocks) s books why s'
+            (λ why. LeavesConnections untold untold closing_sockets Gives (HasLived shows blocks) s books why s'
             books') → s'.listener.ghost_name ≡ s.listener.ghost_name
         of (Ok ended) all left = served_hold shows blocks s s' books books' ended all
         of (Err why) all left = failed_hold (HasLived shows blocks) s s' books books' why left
 
     module _ (l l' : L) (counted : length books ≡ workers) (before : s.listener.now ≡ l)
         (after : s'.listener.now ≡ l') where
-      pub all_end : IfOk result (λ ended. EndsFrom told listens shows blocks workers m l ended l')
-      all_end = of result ok
+      pub all_end : (limits : Limits) → s.limits ≡ limits →
+          IfOk result (λ ended. EndsFrom told listens shows blocks workers m limits l ended l')
+      all_end limits held = of result ok
         where
           of : (r : Result Ended ServeFault) → IfOk r (λ ended. Serves shows blocks s books ended s' books')
-              → IfOk r (λ ended. EndsFrom told listens shows blocks workers m l ended l')
+              → IfOk r (λ ended. EndsFrom told listens shows blocks workers m limits l ended l')
           of (Ok ended) all =
-              subst (λ k. EndsFrom told listens shows blocks workers m k ended l') before
-              (subst (λ k. EndsFrom told listens shows blocks workers m s.listener.now ended k) after
-              (ends_from shows blocks workers m s s' books books' ended none same small counted all))
+              subst (λ k. EndsFrom told listens shows blocks workers m limits k ended l') before
+              (subst (λ k. EndsFrom told listens shows blocks workers m limits s.listener.now ended k) after
+              (subst (λ k. EndsFrom told listens shows blocks workers m k s.listener.now ended s'.listener.now) held
+              (ends_from shows blocks workers m s s' books books' ended none same small counted all)))
           of (Err why) all = tt
 
       pub all_fail : IfErr result (λ why. FailsFrom told shows blocks workers m l why l')
@@ -336,7 +348,7 @@ module _ {L I H : Type 0} (told : L → Option (List SocketStream)) (listens : L
         where
           of : (r : Result Ended ServeFault)
               → IfErr r
-              (λ why. LeavesConnections untold untold leaves_nothing Gives (HasLived shows blocks) s books why s'
+              (λ why. LeavesConnections untold untold closing_sockets Gives (HasLived shows blocks) s books why s'
               books') → IfErr r (λ why. FailsFrom told shows blocks workers m l why l')
           of (Ok ended) left = tt
           of (Err why) left =

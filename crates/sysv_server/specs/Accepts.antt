@@ -3,6 +3,7 @@ use Rattle.std.specs.Prelude.{◌≡◌, ◌≢◌, ◌+◌, ◌<◌, ◌≤◌,
 use Rattle.std.specs.Prelude.{IsSomeAnd, Result, is_some}
 use Rattle.std.specs.declared.io.Error.{Error}
 use Rattle.sysv_seats.specs.declared.socket_stream.SocketStream.{SocketStream}
+use Rattle.sysv_seats.specs.Untold.{limits_of}
 use Rattle.sysv_server.specs.declared.accepting.Accepting.{Accepting}
 use Rattle.sysv_server.specs.declared.host.Reason.{Reason}
 use Rattle.sysv_server.specs.declared.host.Reason.TheVariants.{Full, InputOver, NoSocket, Accept}
@@ -35,7 +36,8 @@ module _ {L I H : Type 0} (told : L → Option (List SocketStream)) (listens : L
   -- The source returned a connection or none, and its counts changed accordingly. A connection that it
   -- returned is the one that its listener accepted, which accepted no other. It returns a connection
   -- only below the limit, if there is one, and has an open listener then. It returns none only if it
-  -- has ended, or for a reason, which is kept; then its listener has accepted none, and is closed.
+  -- has ended, or for a reason, which is kept; then its listener has accepted none, and is closed. The
+  -- client of a connection is cut off only under the limits of the source.
   abbrev pub Accepts : Accepting L I H → Option SocketStream → Accepting L I H → Type 0
   Accepts old None new =
       (new.most ≡ old.most) × (new.accepted ≡ old.accepted)
@@ -48,3 +50,4 @@ module _ {L I H : Type 0} (told : L → Option (List SocketStream)) (listens : L
       × (is_some new.input ≡ is_some old.input)
       × (told new.listener.now ≡ added (told old.listener.now) (stream ∷ []))
       × (new.listener.ghost_name ≡ old.listener.ghost_name)
+      × (limits_of stream ≡ old.limits) × (new.limits ≡ old.limits)

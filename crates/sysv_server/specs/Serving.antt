@@ -10,8 +10,10 @@ use Rattle.sysv_bank.specs.Banks.{Each2}
 use Rattle.sysv_service.specs.Opened.{AreOpen}
 use Rattle.sysv_service.specs.Seats.{AreOf, Gates}
 use Rattle.sysv_model.specs.declared.errno.Errno.{Errno}
+use Rattle.sysv_seats.specs.declared.limits.Limits.{Limits}
+use Rattle.sysv_seats.specs.Limits.{limits_for}
 use Rattle.sysv_seats.specs.declared.socket_stream.SocketStream.{SocketStream}
-use Rattle.sysv_seats.specs.Untold.{untold, leaves_nothing}
+use Rattle.sysv_seats.specs.Untold.{closing_sockets, limits_of, untold}
 use Rattle.sysv_engine.specs.declared.fault.ServeFault.{ServeFault}
 use Rattle.sysv_engine.specs.declared.fault.ServeFault.TheVariants.{NoMemory, Thread, Worn, Missed}
 use Rattle.sysv_engine.specs.declared.sums.Sums.{Sums}
@@ -23,6 +25,7 @@ use Rattle.sysv_engine.specs.Serving.{HasLived, LeavesBooks}
 use Rattle.sysv_workers.specs.declared.workers.TheConstants.{MAX_WORKERS}
 use Rattle.sysv_server.specs.Listening.{IsOver, added}
 use Rattle.sysv_server.specs.declared.host.Reason.{Reason}
+use Rattle.sysv_server.specs.declared.terms.Terms.{Terms}
 use Rattle.sysv_server.specs.declared.host.Reason.TheVariants.{Full, InputOver, NoSocket, Accept}
 
 -- This number of places had these shifts at the gates. Each began with a pass of the gates that holds
@@ -37,18 +40,24 @@ pub record Worked (gates : Gates) (count : ℕ) (shifts : List Shift) (all : Sum
 -- The place of this desk had one session on each of its sockets. A socket tells no bytes, and a closed
 -- one leaves nothing.
 abbrev pub SatOnSockets : Desk SocketStream ⊤ → Shift → Type 0
-SatOnSockets = Sat untold untold leaves_nothing
+SatOnSockets = Sat untold untold closing_sockets
+
+-- The limits under which a server on these terms may cut off its clients: those that the terms have.
+abbrev pub limits_in : Terms → Limits
+limits_in terms = limits_for terms.patience.idle terms.patience.stall terms.drain
 
 -- A server on a listener, with this number of places. It ran no more sessions than the maximum, if the
 -- maximum is not 0. Each session was on a connection of its own. Each place had its connections in the
--- order in which they were accepted, and a place that was alone had all of them, in that order.
-pub record ServesOn (shows : Bool) (blocks places most : ℕ) (sums : Sums) : Type 0 where
+-- order in which they were accepted, and a place that was alone had all of them, in that order. The
+-- server cut off a client only under these limits.
+pub record ServesOn (shows : Bool) (blocks places most : ℕ) (limits : Limits) (sums : Sums) : Type 0 where
   pub gates : Gates
   pub opened : AreOpen 0 blocks 0 gates
   pub shifts : List Shift
   pub worked : Worked gates places shifts sums
   pub bounded : most ≢ 0 → length (told_in shifts) ≤ most
   pub accepted : List SocketStream
+  pub limited : AllByRecursion (λ (socket : SocketStream). limits_of socket ≡ limits) accepted
   pub desks : List (Desk SocketStream ⊤)
   pub dealt : IsPermutation (all_connections desks) accepted
   pub ordered : AreServedInOrder accepted desks
@@ -59,8 +68,8 @@ pub record ServesOn (shows : Bool) (blocks places most : ℕ) (sums : Sums) : Ty
 
 -- A server served the connections of a listener, and then removed the queues that were left. It
 -- returns what its stop and its close told.
-pub record EndsOn (shows : Bool) (blocks places most : ℕ) (ended : Ended) : Type 0 where
-  pub served : ServesOn shows blocks places most ended.sums
+pub record EndsOn (shows : Bool) (blocks places most : ℕ) (limits : Limits) (ended : Ended) : Type 0 where
+  pub served : ServesOn shows blocks places most limits ended.sums
   pub refused : ended.refused ≡ refused_of (told_in served.shifts)
   pub removed : ended.removed ≡ served.removed
   pub closed : ended.closed ≡ served.lived.closed
@@ -71,7 +80,7 @@ pub record LeavesSockets (places : ℕ) (Ran : Gates → List Shift → Type 0) 
   pub before : List ⊤
   pub after : List ⊤
   pub count : length before ≡ places
-  pub left : LeavesBooks {T = SocketStream} untold untold leaves_nothing Ran before after
+  pub left : LeavesBooks {T = SocketStream} untold untold closing_sockets Ran before after
 
 -- A server on a listener ended by this fault, with this number of blocks and of places, and this maximum
 -- number of sessions, 0 for no limit. After `NoMemory` nothing is stated, since memory may be refused
@@ -105,9 +114,10 @@ module _ {L : Type 0} (told : L → Option (List SocketStream)) where
   -- A server served the connections of a listener, which went from the one state to the other and is
   -- closed. The listener has accepted the connections on which the sessions were, each once, and no
   -- others. `told` are the connections that the listener has accepted, if it tells them.
-  pub record EndsFrom (listens : L → Bool) (shows : Bool) (blocks places most : ℕ) (before : L) (ended : Ended)
+  pub record EndsFrom (listens : L → Bool) (shows : Bool) (blocks places most : ℕ) (limits : Limits) (before : L)
+      (ended : Ended)
       (after : L) : Type 0 where
-    pub ends : EndsOn shows blocks places most ended
+    pub ends : EndsOn shows blocks places most limits ended
     pub accepted : told after ≡ added (told before) ends.served.accepted
     pub closed : listens after ≡ false
 

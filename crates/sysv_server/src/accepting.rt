@@ -1,6 +1,7 @@
 //! A source of accepted connections.
 ghost use Rattle.std.specs.Prelude.{◌≡◌, ◌≢◌, ◌<◌, ◌≤◌, ◌-◌, ◌^◌, ◌∷◌, [], true, false, is_some, None, IfErr, IfOk, OnErr, OnOk};
 ghost use Rattle.sysv_engine.specs.Looks.{Looks};
+ghost use Rattle.sysv_seats.specs.Untold.{limits_of};
 ghost use Rattle.sysv_server.specs.Accepts.{EndsInput, HasEnded};
 ghost use Rattle.sysv_server.specs.Listening.{added, IsOver};
 
@@ -17,7 +18,7 @@ use std::io;
 use std::io::ErrorKind;
 use std::sync::Wait;
 use sysv_engine::{Arrivals, Rows, ServerState};
-use sysv_seats::SocketStream;
+use sysv_seats::{Limits, SocketStream};
 
 /// The maximum number of bytes of the input that are read at once and dropped.
 const INPUT_BYTES: usize = 512;
@@ -51,6 +52,8 @@ const PASSING: [i32; 8] = [
 pub(crate) struct Accepting<'a, L, I: Drop, H> {
     /// What the connections are accepted from. It is closed when no more are to be accepted.
     listener: &'a mut L,
+    /// The limits under which the clients may be cut off.
+    limits: Limits,
     /// Whether an accept is tried again that failed for want of something.
     retries: bool,
     /// The input whose end ends the source.
@@ -79,6 +82,7 @@ impl<'a, L: Listens, I: Input + Drop, H: Host> Accepting<'a, L, I, H> {
     pub(crate) fn new(
         alloc: Global,
         listener: &'a mut L,
+        limits: Limits,
         retries: bool,
         input: Option<I>,
         most: u64,
@@ -90,11 +94,13 @@ impl<'a, L: Listens, I: Input + Drop, H: Host> Accepting<'a, L, I, H> {
         ensures begun { (result.most ≡ most) × (result.accepted ≡ 0) × (result.reason ≡ None) }
         ensures range { result.most ≤ 2 ^ 64 - 1 }
         ensures input { result.input ≡ input }
+        ensures limits { result.limits ≡ limits }
         ensures listener { result.listener.now ≡ listener.old }
         ensures same_reference { result.listener.ghost_name ≡ listener.entry.ghost_name }
     {
         Accepting {
             listener,
+            limits,
             retries,
             input,
             most,
@@ -118,6 +124,7 @@ impl<'a, L: Listens, I: Input + Drop, H: Host> Accepting<'a, L, I, H> {
     {
         let Accepting {
             listener,
+            limits: _,
             retries: _,
             input: _,
             most: _,
@@ -138,7 +145,7 @@ impl<'a, L: Listens, I: Input + Drop, H: Host> Accepting<'a, L, I, H> {
     /// opens the listener.
     fn open(&mut self) -> io::Result<()>
         ensures same { (self.new.most ≡ self.old.most) × (self.new.accepted ≡ self.old.accepted)
-            × (self.new.reason ≡ self.old.reason) }
+            × (self.new.reason ≡ self.old.reason) × (self.new.limits ≡ self.old.limits) }
         ensures input { is_some self.new.input ≡ is_some self.old.input }
         ensures ok { OnOk result (L.listens self.new.listener.now ≡ true) }
         ensures err { OnErr result
@@ -156,7 +163,7 @@ impl<'a, L: Listens, I: Input + Drop, H: Host> Accepting<'a, L, I, H> {
     #[tactic(auto, using(sysv_engine::proofs::Looking::looks_stay))]
     fn accept<R: Wait>(&mut self, rows: &mut Rows<'_, R>) -> Result<SocketStream, Reason>
         ensures same { (self.new.most ≡ self.old.most) × (self.new.accepted ≡ self.old.accepted)
-            × (self.new.reason ≡ self.old.reason) }
+            × (self.new.reason ≡ self.old.reason) × (self.new.limits ≡ self.old.limits) }
         ensures input { is_some self.new.input ≡ is_some self.old.input }
         ensures bounded { IfOk result (λ _. self.old.most ≢ 0 →
             self.old.accepted < self.old.most) }
@@ -164,6 +171,7 @@ impl<'a, L: Listens, I: Input + Drop, H: Host> Accepting<'a, L, I, H> {
         ensures ended { IfErr result (λ why. HasEnded L.listens I.reads self.old why) }
         ensures ok { IfOk result (λ stream. L.accepted self.new.listener.now
             ≡ added (L.accepted self.old.listener.now) (stream ∷ [])) }
+        ensures limits { IfOk result (λ stream. limits_of stream ≡ self.old.limits) }
         ensures err { OnErr result
             (L.accepted self.new.listener.now ≡ L.accepted self.old.listener.now) }
         ensures same_reference { self.new.listener.ghost_name ≡ self.old.listener.ghost_name }
@@ -187,6 +195,7 @@ impl<'a, L: Listens, I: Input + Drop, H: Host> Accepting<'a, L, I, H> {
         };
         let acceptor = Acceptor {
             view,
+            limits: self.limits,
             host: self.host,
         };
         let (told, input, desk) = (&mut self.told, &mut self.input, &mut self.desk);
@@ -227,6 +236,8 @@ impl<L: Listens, I: Input + Drop, H: Host> Arrivals<SocketStream> for Accepting<
 #[derive(Drop)]
 struct Acceptor<'v, 'h, H> {
     view: View<'v>,
+    /// The limits under which the clients may be cut off.
+    limits: Limits,
     host: &'h H,
 }
 
@@ -259,6 +270,7 @@ impl<H: Host> Acceptor<'_, '_, H> {
         ensures ended { IfErr result (EndsInput I.reads (is_some input.old)) }
         ensures ok { IfOk result (λ stream.
             L.accepted listener.new ≡ added (L.accepted listener.old) (stream ∷ [])) }
+        ensures limits { IfOk result (λ stream. limits_of stream ≡ self.now.limits) }
         ensures err { OnErr result (L.accepted listener.new ≡ L.accepted listener.old) }
         ensures same { L.listens listener.new ≡ L.listens listener.old }
         ensures looks { Looks rows.old rows.new }
@@ -273,7 +285,7 @@ impl<H: Host> Acceptor<'_, '_, H> {
             if !arrived.connection {
                 continue;
             }
-            match listener.accept() {
+            match listener.accept(self.limits) {
                 Ok(stream) => {
                     if held {
                         self.host.note(Notice::Resumed);

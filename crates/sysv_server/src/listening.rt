@@ -2,6 +2,7 @@
 ghost use Rattle.std.specs.Prelude.{◌≡◌, ℕ, Bool, true, false, is_some, List, ◌∷◌, [], Option, IfOk, OnOk, OnErr, Result, length};
 ghost use Rattle.std.specs.declared.io.Error.{Error};
 ghost use Rattle.sysv_seats.specs.declared.socket_stream.SocketStream.{SocketStream};
+ghost use Rattle.sysv_seats.specs.Untold.{limits_of};
 ghost use Rattle.sysv_server.specs.Listening.{added};
 
 use crate::host::Host;
@@ -10,7 +11,7 @@ use std::io;
 use std::io::{ErrorKind, Read};
 use std::os::fd::AsRawFd;
 use std::os::unix::net::UnixListener;
-use sysv_seats::SocketStream;
+use sysv_seats::{Limits, SocketStream};
 
 /// A socket that connections are accepted from.
 pub trait Listens {
@@ -38,14 +39,15 @@ pub trait Listens {
     /// Returns the descriptor that can be read when a client waits to be accepted.
     fn descriptor(&self) -> i32;
 
-    /// Accepts the next connection.
+    /// Accepts the next connection, whose client may be cut off under these limits.
     ///
     /// # Errors
     ///
     /// - The system's error if the accept fails. No connection was accepted.
-    fn accept(&mut self) -> io::Result<SocketStream>
+    fn accept(&mut self, limits: Limits) -> io::Result<SocketStream>
         ensures ok { IfOk result (λ stream.
             accepted self.new ≡ added (accepted self.old) (stream ∷ [])) }
+        ensures limits { IfOk result (λ stream. limits_of stream ≡ limits) }
         ensures err { OnErr result (accepted self.new ≡ accepted self.old) }
         ensures same { listens self.new ≡ listens self.old };
 
@@ -112,8 +114,8 @@ impl Listens for Lent<'_> {
         self.listener.as_raw_fd()
     }
 
-    fn accept(&mut self) -> io::Result<SocketStream> {
-        accept_from(self.listener)
+    fn accept(&mut self, limits: Limits) -> io::Result<SocketStream> {
+        accept_from(self.listener, limits)
     }
 
     fn close(&mut self) {
@@ -161,9 +163,9 @@ impl<H: Host> Listens for Hosted<'_, H> {
         }
     }
 
-    fn accept(&mut self) -> io::Result<SocketStream> {
+    fn accept(&mut self, limits: Limits) -> io::Result<SocketStream> {
         match &self.listener {
-            Some(listener) => accept_from(listener),
+            Some(listener) => accept_from(listener, limits),
             None => Err(io::Error::from(ErrorKind::NotConnected)),
         }
     }
@@ -174,9 +176,11 @@ impl<H: Host> Listens for Hosted<'_, H> {
 }
 
 /// Accepts a connection from a Unix socket. It is closed if it cannot be made non-blocking.
-fn accept_from(listener: &UnixListener) -> io::Result<SocketStream> {
+fn accept_from(listener: &UnixListener, limits: Limits) -> io::Result<SocketStream>
+    ensures { IfOk result (λ stream. limits_of stream ≡ limits) }
+{
     let (stream, _address) = listener.accept()?;
-    SocketStream::new(stream)
+    SocketStream::new(stream, limits)
 }
 
 /// An input of the standard library.

@@ -3,7 +3,8 @@ ghost use Rattle.std.specs.Prelude.{◌≡◌, ◌≤◌, false, IfErr, IfOk, If
 ghost use Rattle.sysv_model.specs.declared.limits.TheConstants.{MIN_BLOCKS, MAX_BLOCKS};
 ghost use Rattle.sysv_workers.specs.declared.workers.TheConstants.{MAX_WORKERS};
 ghost use Rattle.sysv_engine.specs.Added.{IsBalanced};
-ghost use Rattle.sysv_server.specs.Serving.{EndsFrom, EndsOn, FailsFrom, FailsOn, HasCause, HasReason, ServesOn};
+ghost use Rattle.sysv_server.specs.Serving.{EndsFrom, EndsOn, FailsFrom, FailsOn, HasCause, HasReason, ServesOn, limits_in};
+ghost use Rattle.sysv_seats.specs.Limits.{limits_for};
 ghost use Rattle.sysv_server.specs.declared.serving.TheConstants.{MAX_CLIENTS};
 
 use crate::accepting::Accepting;
@@ -18,6 +19,7 @@ use std::os::unix::net::{UnixListener, UnixStream};
 use std::sync::Wait;
 use std::thread::Threads;
 use sysv_engine::{Ended, Patience, ServeFault, ServerState, Sums, serve_arrivals, watches};
+use sysv_seats::Limits;
 
 /// The largest number of clients at once.
 pub const MAX_CLIENTS: u32 = 16_384;
@@ -58,7 +60,8 @@ pub fn serve_on<R: Threads + Wait + Net + Sync>(
 ) -> Result<Sums, ServeFault>
     requires blocks { (MIN_BLOCKS ≤ blocks) × (blocks ≤ MAX_BLOCKS) }
     requires workers { (1 ≤ workers) × (workers ≤ MAX_WORKERS) }
-    ensures ok { IfOk result (λ sums. ServesOn false blocks workers sessions sums) }
+    ensures ok { IfOk result (λ sums. ServesOn false blocks workers sessions
+        (limits_for 0 0 0) sums) }
     ensures balance { IfOk result IsBalanced }
     ensures err { IfErr result (FailsOn false blocks workers sessions) }
 {
@@ -125,7 +128,7 @@ pub fn serve_listener<I: Read + AsRawFd + Drop, H: Host + Drop, R: Threads + Wai
     requires workers { (1 ≤ terms.workers) × (terms.workers ≤ MAX_WORKERS) }
     requires at_once { (1 ≤ terms.at_once) × (terms.at_once ≤ MAX_CLIENTS) }
     ensures ok { IfOk result (λ ended. EndsOn terms.stats terms.blocks terms.at_once terms.sessions
-        ended) }
+        (limits_in terms) ended) }
     ensures exact { IfOk result (λ ended.
         HasReason (is_some input) terms.sessions ended.sums.sessions reason.new) }
     ensures balance { IfOk result (λ ended. IsBalanced ended.sums) }
@@ -164,7 +167,7 @@ pub fn serve_from<L: Listens, I: Input + Drop, H: Host, R: Threads + Wait + Net 
     requires workers { (1 ≤ terms.workers) × (terms.workers ≤ MAX_WORKERS) }
     requires at_once { (1 ≤ terms.at_once) × (terms.at_once ≤ MAX_CLIENTS) }
     ensures ok { IfOk result (λ ended. EndsFrom L.accepted L.listens terms.stats terms.blocks
-        terms.at_once terms.sessions listener.old ended listener.new) }
+        terms.at_once terms.sessions (limits_in terms) listener.old ended listener.new) }
     ensures exact { IfOk result (λ ended. HasCause I.reads (is_some input) terms.sessions
         ended.sums.sessions reason.new) }
     ensures balance { IfOk result (λ ended. IsBalanced ended.sums) }
@@ -190,7 +193,7 @@ fn run<L: Listens, I: Input + Drop, H: Host, R: Threads + Wait + Net + Sync>(
     requires workers { (1 ≤ terms.workers) × (terms.workers ≤ MAX_WORKERS) }
     requires at_once { (1 ≤ terms.at_once) × (terms.at_once ≤ MAX_CLIENTS) }
     ensures ok { IfOk result (λ ended. EndsFrom L.accepted L.listens terms.stats terms.blocks
-        terms.at_once terms.sessions listener.old ended listener.new) }
+        terms.at_once terms.sessions (limits_in terms) listener.old ended listener.new) }
     ensures exact { IfOk result (λ ended. HasCause I.reads (is_some input) terms.sessions
         ended.sums.sessions reason.new) }
     ensures balance { IfOk result (λ ended. IsBalanced ended.sums) }
@@ -208,18 +211,19 @@ fn run<L: Listens, I: Input + Drop, H: Host, R: Threads + Wait + Net + Sync>(
     } = terms;
     *reason = None;
     let workers = workers.min(at_once);
-    let Some(server) = ServerState::open(alloc, workers as usize, at_once as usize, patience, drain)
-    else {
+    let opened = ServerState::open(alloc, workers as usize, at_once as usize, patience, drain);
+    let Some((server, rests)) = opened else {
         return Err(ServeFault::NoMemory);
     };
     let Some(mut books) = empty_books(alloc, at_once) else {
         return Err(ServeFault::NoMemory);
     };
-    let Some(watches) = watches(rt, alloc, &server) else {
+    let Some(watches) = watches(rt, alloc, &server, rests) else {
         return Err(ServeFault::NoMemory);
     };
+    let limits = Limits::of_seconds(patience.idle, patience.stall, drain);
     let mut source = Accepting::new(
-        alloc, listener, retries, input, sessions, blocks, stats, &server, host,
+        alloc, listener, limits, retries, input, sessions, blocks, stats, &server, host,
     );
     let outcome = serve_arrivals(
         rt,

@@ -15,3 +15,4 @@ pub mod HeldAfterOp
 pub mod SendKeepsRead
 pub mod StepFromReply
 pub mod ReceiveGivesTaken
+pub mod HoldsNone

@@ -75,3 +75,9 @@ module _ {P : Type 0} (takes : P → Op → P → Type 0) (misses : P → Ask �
       StepsGiving takes misses may there text before kept stands out after keeps
   gives_still given had gives =
       gives_on (λ ops more has. gives (ops ++ more) (has_more given ops more (had ops has)))
+
+  -- Such a step is a step.
+  pub steps_giving : StepsGiving takes misses may there text before kept stands out after keeps →
+      StepsOn takes misses may (receive_phase there text) before kept (receive_state stands out) after keeps
+  steps_giving (inl step) = inl step.0
+  steps_giving (inr step) = inr step.0

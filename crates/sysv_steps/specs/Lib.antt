@@ -29,8 +29,11 @@ pub mod Tended
 pub mod WorkedPlays
 pub mod HeldBlocks
 pub mod ReadLast
+pub mod Kinds
+pub mod Answered
 pub mod Seen
 pub mod Bodies
+pub mod Pending
 pub mod Stepping
 pub mod Giving
 pub mod Telling

@@ -10,7 +10,10 @@ mod call;
 mod clock;
 mod get;
 mod laws;
+mod leading;
 mod outcome;
+mod pending;
+mod progress;
 mod receive;
 mod remove;
 mod send;
@@ -28,6 +31,8 @@ pub use laws::{
     waits_above_what_it_read, waits_for_its_refusal, waits_where_it_may, worked_plays,
 };
 pub use outcome::Outcome;
+pub use pending::{Awaited, Pending, Step, Waiting};
+pub use progress::{Ended, Progress};
 pub use receive::{ReceiveState, ReceiveStep, ReceiveWait, Receiving, receive_step};
 pub use remove::{RemoveState, RemoveStep, remove_step};
 pub use send::{Afterwards, SendState, SendStep, SendWait, Sending, send_step};

@@ -1,6 +1,6 @@
 //! The steps of `msgsnd`.
 
-ghost use Rattle.std.specs.Prelude.{◌≡◌, ◌≤◌, ◌↔◌, ℕ, List, length, Some, IfSome, Result, ⊤, IsTrue};
+ghost use Rattle.std.specs.Prelude.{◌≡◌, ◌+◌, ◌≤◌, ◌↔◌, ℕ, List, length, Some, IfSome, Result, ⊤, IsTrue};
 ghost use Rattle.sysv_model.specs.History.{Accepted};
 ghost use Rattle.sysv_pool.specs.Chain.{Chained};
 ghost use Rattle.sysv_pool.specs.Replies.{reserve_reply, release_reply};
@@ -8,7 +8,8 @@ ghost use Rattle.sysv_queue.specs.Replies.{look_reply, unplaced_reply};
 ghost use Rattle.sysv_steps.specs.Begin.{begin as begins};
 ghost use Rattle.sysv_steps.specs.Call.{Msgsnd};
 ghost use Rattle.sysv_steps.specs.Next.{after_look as follows_look, after_reserve as follows_reserve, after_place as follows_place, after_giveback as follows_giveback, is_full as finds_full, goes_on as continues};
-ghost use Rattle.sysv_steps.specs.Resume.{goal_of, resume as resumes};
+ghost use Rattle.sysv_steps.specs.Pending.{count_meant};
+ghost use Rattle.sysv_steps.specs.Resume.{awaited, goal_of, resume as resumes};
 ghost use Rattle.sysv_steps.specs.Seen.{sending, afterwards_of, send_phase, send_wait, send_state};
 ghost use Rattle.sysv_steps.specs.State.{Sending as Send, AtLook, AtReserve, AtPlace, Goes};
 ghost use Rattle.sysv_steps.specs.HeldBlocks.{held};
@@ -18,6 +19,7 @@ ghost use Rattle.sysv_steps.specs.Bodies.{CanSend, StillCanSend};
 ghost use Rattle.sysv_steps.specs.Stepping.{StepsOn, no_moment};
 
 use crate::clock::Clock;
+use crate::pending::Awaited;
 use crate::state::{State, gone};
 use crate::worn::{give_back, overflow};
 use bitflags::Flags as _;
@@ -107,6 +109,18 @@ impl SendWait {
     {
         let (SendWait::Room { above, .. } | SendWait::Blocks { above, .. }) = *self;
         value > above
+    }
+
+    /// Returns the count for which the send waits, and the value above which it must rise.
+    pub(crate) fn awaits(&self) -> (Awaited, u64)
+        ensures count { (text : List ℕ) → count_meant result.0
+            ≡ awaited (send_wait self.now text) }
+        ensures above { (text : List ℕ) → goal_of (send_wait self.now text) ≡ result.1 + 1 }
+    {
+        match *self {
+            SendWait::Room { above, send } => (Awaited::Freed { id: send.id }, above),
+            SendWait::Blocks { above, .. } => (Awaited::Released, above),
+        }
     }
 
     /// Returns the step at which the send continues after the value `value` of its count ended the

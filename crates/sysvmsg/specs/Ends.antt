@@ -2,7 +2,7 @@
 use Rattle.std.specs.Prelude.{◌≡◌, ⊤, ℕ, Bool, List, [], ◌∷◌, ◌++◌, codes, Option, None, Some}
 use Rattle.std.specs.Fmt.{decimal}
 use Rattle.std.specs.Io.KnownBytes.{Appends}
-use Rattle.sysv_server.specs.Serving.{EndsOn, HasReason}
+use Rattle.sysv_server.specs.Serving.{EndsOn, HasReason, limits_in}
 use Rattle.sysv_engine.specs.declared.terms.Ended.{Ended}
 use Rattle.sysv_server.specs.declared.host.Reason.{Reason}
 use Rattle.sysv_server.specs.declared.host.Reason.TheVariants.{Full, InputOver, NoSocket, Accept}
@@ -32,16 +32,18 @@ HasServed ended reason shown after =
     IsMeantToEnd reason × (ended.refused ≡ 0) × Appends shown after (sums_line ended.sums)
 
 -- A server on these terms ended so, under this limit of open files. It had as many places as the terms
--- have sessions at once, or as many as there are descriptors for.
+-- have sessions at once, or as many as there are descriptors for. It cut off clients only under the
+-- limits that the terms have.
 abbrev pub EndsWithin : Option ℕ → Terms → Ended → Type 0
 EndsWithin limit terms ended =
-    EndsOn terms.stats terms.blocks (places_within limit terms.stats terms.workers terms.at_once) terms.sessions ended
+    EndsOn terms.stats terms.blocks (places_within limit terms.stats terms.workers terms.at_once) terms.sessions
+    (limits_in terms) ended
 
 -- A server that may have an input served on these terms until the input was over or the maximum
--- number of sessions was reached, and the sums of its sessions were printed. The limit of open files is
--- the one that it read before.
-pub record HasServedAll (has_input : Bool) (terms : Terms) (shown after : Option (List ℕ)) : Type 0 where
-  pub limit : Option ℕ
+-- number of sessions was reached, and the sums of its sessions were printed. It did so under this limit of
+-- open files.
+pub record HasServedAll (limit : Option ℕ) (has_input : Bool) (terms : Terms) (shown after : Option (List ℕ)) :
+    Type 0 where
   pub ended : Ended
   pub reason : Option Reason
   pub ends : EndsWithin limit terms ended

@@ -58,7 +58,7 @@ module _ {P R W : Type 0} (remaining : R → Option (List ℕ)) (contents : W �
   Answers Script exit fed shown after contact = (contact ≡ Unused place)
       × ((text : List ℕ) → fed ≡ Some text → (left : Option (List ℕ)) × AnswersScript exit text shown after left)
   Answers (Serve serving) exit fed shown after contact = (contact ≡ Unused place)
-      × SucceedsOnlyIf (HasServedAll serving.until_eof serving.terms shown after) exit
+      × SucceedsOnlyIf (HasServedAll around.open_files serving.until_eof serving.terms shown after) exit
   Answers (Look looking) exit fed shown after contact =
       ShowsState looking.path.now looking.json exit shown after contact
   Answers (Client path who task how) exit fed shown after contact =

@@ -7,6 +7,7 @@ mod scripts;
 mod serving;
 mod socket;
 
+use room::open_files;
 use running::{NoWords, exit_of};
 use std::fs::File;
 use std::io::IsTerminal;
@@ -51,6 +52,7 @@ fn surroundings(rt: &HostRuntime) -> Surroundings {
         wants_stderr: wants_stderr(rt),
         is_terminal: rt.stdout().is_terminal(),
         own: own(),
+        open_files: open_files(),
     }
 }
 

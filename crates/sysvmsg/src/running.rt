@@ -132,7 +132,13 @@ fn answer<
             let mut script = input;
             unused(answer_script(rt, &mut script, &mut screen.writer), place)
         }
-        Asked::Serve(serving) => unused(serve_at(rt, input, &serving, &mut screen.writer), place),
+        Asked::Serve(serving) => {
+            let limit = around.open_files;
+            unused(
+                serve_at(rt, input, &serving, limit, &mut screen.writer),
+                place,
+            )
+        }
         Asked::Look(looking) => {
             let looking = Looking {
                 telling: telling(looking.telling, around),

@@ -1,12 +1,12 @@
 //! The server.
 ghost use Rattle.std.specs.Prelude.{IfOk};
 ghost use Rattle.std.specs.Io.KnownBytes.{Appends};
-ghost use Rattle.sysv_connect.specs.Ends.{SucceedsOnlyIf};
+ghost use Rattle.sysv_connect.specs.Ends.{Fails, SucceedsOnlyIf};
 ghost use Rattle.sysv_options.specs.Asked.{HasLimits};
 ghost use Rattle.sysv_server.specs.Serving.{HasReason};
 ghost use Rattle.sysvmsg.specs.Ends.{EndsWithin, HasServed, HasServedAll, sums_line};
 
-use crate::room::{open_files, room};
+use crate::room::room;
 use crate::socket::listen_at;
 use libc::net::{POLLOUT, poll};
 use libc::types::pollfd;
@@ -19,7 +19,7 @@ use std::rt::Files;
 use std::sync::Wait;
 use std::thread::Threads;
 use std::{fs, io};
-use sysv_connect::{FAULT, complain, say};
+use sysv_connect::{FAULT, complain};
 use sysv_model::BLOCK_BYTES;
 use sysv_options::Serving;
 use sysv_server::{
@@ -129,23 +129,24 @@ fn takes_line() -> bool {
     poll(&mut asked, 0) > 0
 }
 
-/// Serves at a path, reports on standard error that it listens, and prints the sums of the
-/// sessions. The input is read only if the server is to end after it has ended.
+/// Serves at a path under this limit of open files, reports on standard error that it listens, and
+/// prints the sums of the sessions. The input is read only if the server is to end after it has
+/// ended. Standard output is the screen, and nothing else prints on it.
 pub(crate) fn serve_at<
     I: Read + AsRawFd + Drop,
-    R: Files + Net + Threads + Wait + Sync + Print + Eprint + AllocGlobal + Clone + Drop,
+    R: Files + Net + Threads + Wait + Sync + Eprint + AllocGlobal + Clone + Drop,
     S: Write,
->(rt: &R, input: I, serving: &Serving<'_>, screen: &mut S) -> ExitCode
+>(rt: &R, input: I, serving: &Serving<'_>, limit: Option<u64>, screen: &mut S) -> ExitCode
     requires { HasLimits serving.now }
-    ensures { SucceedsOnlyIf (HasServedAll serving.now.until_eof serving.now.terms
+    ensures { SucceedsOnlyIf (HasServedAll limit serving.now.until_eof serving.now.terms
         (S.contents screen.old) (S.contents screen.new)) result }
 {
     let mut reason = None;
-    match run_server(rt, input, serving, open_files(), &mut reason) {
+    match run_server(rt, input, serving, limit, &mut reason) {
         Ok(ended) => end(rt, &ended, reason, screen),
         Err(fault) => {
             explain(rt, fault, &serving.terms);
-            say(rt, "no memory")
+            fail(screen, "no memory")
         }
     }
 }
@@ -181,7 +182,7 @@ fn run_server<
 /// Prints how a server ended that accepted no more connections for this reason. If an accept
 /// failed, that is reported on standard error. The server fails also if memory was refused for a
 /// session.
-fn end<R: Print + Eprint + AllocGlobal, S: Write>(
+fn end<R: Eprint + AllocGlobal, S: Write>(
     rt: &R,
     ended: &Ended,
     reason: Option<Reason>,
@@ -193,9 +194,9 @@ fn end<R: Print + Eprint + AllocGlobal, S: Write>(
     let sums = &ended.sums;
     match reason {
         Some(Reason::NoSocket(why)) if why.kind() == ErrorKind::OutOfMemory => {
-            say(rt, "no memory")
+            fail(screen, "no memory")
         }
-        Some(Reason::NoSocket(_)) => say(rt, "cannot bind"),
+        Some(Reason::NoSocket(_)) => fail(screen, "cannot bind"),
         Some(Reason::Accept(why)) => {
             if takes_line() {
                 complain(rt, "cannot accept", &why, "");
@@ -231,6 +232,14 @@ fn explain(rt: &impl Eprint, fault: ServeFault, terms: &Terms) {
         }
         ServeFault::Worn | ServeFault::Missed => eprintln!(rt; "sysvmsg: {fault}"),
     };
+}
+
+/// Prints the one line of a fault. Returns the status of a fault.
+fn fail<S: Write>(screen: &mut S, fault: &str) -> ExitCode
+    ensures { Fails result }
+{
+    let _ = writeln!(screen, "sysvmsg: {fault}");
+    ExitCode::from(FAULT)
 }
 
 /// Prints the sums.

@@ -11,10 +11,10 @@ use crate::parts::{assert_is, assert_that, open_body};
 use bitflags::Flags as _;
 use std::alloc::Global;
 use std::process::Abort;
-use sysv_core::{Answer, Call, Doing, Event, OpenRefused, Outcome, Sent, Standing, Stepped, World};
+use sysv_core::{Answer, Call, Event, OpenRefused, Outcome, Stepped, World};
 use sysv_model::{Body, Cred, Errno, Flags, NoMemory, Perm, SetTo, Stat};
 use sysv_queue::{Look, Tally};
-use sysv_steps::{GetStep, RemoveStep, SendStep};
+use sysv_steps::{GetStep, Pending, RemoveStep, SendStep, Step};
 use tests_kit::{creating, flags};
 
 /// The wanted answer: the actor, how the call ended, and the contents of the body that is handed
@@ -83,29 +83,24 @@ fn assert_makes(rt: &impl Abort, world: &mut World, actor: u32, call: Call, want
 
 /// Returns the step before which the get of an actor is, if it is before one.
 fn gets_at(world: &World, actor: u32) -> Option<&GetStep> {
-    match world.doing(actor)? {
-        Doing::Get(Standing::At(step)) => Some(step),
+    match &world.doing(actor)?.pending {
+        Pending::At(Step::Get(step)) => Some(step),
         _ => None,
     }
 }
 
 /// Returns the step before which the send of an actor is, if it is before one.
 fn sends_at(world: &World, actor: u32) -> Option<&SendStep> {
-    match world.doing(actor)? {
-        Doing::Send(
-            Sent {
-                at: Standing::At(step),
-                ..
-            },
-        ) => Some(step),
+    match &world.doing(actor)?.pending {
+        Pending::At(Step::Send(step)) => Some(step),
         _ => None,
     }
 }
 
 /// Returns the step before which the removal of an actor is, if it is before one.
 fn removes_at(world: &World, actor: u32) -> Option<&RemoveStep> {
-    match world.doing(actor)? {
-        Doing::Remove(step) => Some(step),
+    match &world.doing(actor)?.pending {
+        Pending::At(Step::Remove(step)) => Some(step),
         _ => None,
     }
 }
@@ -120,16 +115,10 @@ fn send_step(world: &World, actor: u32) -> Option<&'static str> {
     }
 }
 
-fn is_wait<S, W>(at: &Standing<S, W>) -> bool {
-    matches!(at, Standing::Waits(_))
-}
-
 fn is_waiting(world: &World, actor: u32) -> bool {
     match world.doing(actor) {
-        Some(Doing::Get(at)) => is_wait(at),
-        Some(Doing::Send(sent)) => is_wait(&sent.at),
-        Some(Doing::Receive { at, .. }) => is_wait(at),
-        _ => false,
+        Some(doing) => matches!(doing.pending, Pending::Waits(_)),
+        None => false,
     }
 }
 

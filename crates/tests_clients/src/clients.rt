@@ -4,6 +4,7 @@ mod connecting;
 mod growths;
 mod options;
 mod several;
+mod together;
 
 use crate::parts::{assert_at, assert_is};
 use std::alloc::Global;
@@ -12,7 +13,7 @@ use std::io;
 use std::io::{ErrorKind, Read, Write};
 use std::process::Abort;
 use sysv_clients::{
-    Command, Form, Format, Receipt, Target, Task, id_of, key_of, run_client, type_of,
+    Command, Form, Format, ReadAhead, Receipt, Target, Task, id_of, key_of, run_client, type_of,
 };
 use sysv_model::{BODY_ROOM, Cred};
 
@@ -78,6 +79,17 @@ impl Read for Tape {
         buf[..count].copy_from_slice(&self.bytes[from..from + count]);
         self.read = from + count;
         Ok(count)
+    }
+}
+
+/// It reads nothing ahead, so each message is shown as it comes.
+impl ReadAhead for Tape {
+    ghost use Rattle.std.specs.Prelude.{[]};
+
+    ghost ahead = { λ _. [] };
+
+    fn has_frame(&self) -> bool {
+        false
     }
 }
 

@@ -22,6 +22,7 @@ const NOWHERE: Surroundings = Surroundings {
         gid: 0,
         pid: 0,
     },
+    open_files: None,
 };
 
 /// No credentials.
@@ -251,9 +252,9 @@ const REFUSED: [(&[&str], &str); 16] = [
     ),
     (
         &[
-            "sysvmsg", "rcv", "./q", "7", "--count", "2", "--ahead", "65",
+            "sysvmsg", "rcv", "./q", "7", "--count", "2", "--ahead", "257",
         ],
-        "receives ahead is 1 to 64",
+        "receives ahead is 1 to 256",
     ),
     (
         &["sysvmsg", "snd", "./q", "7", "hello", "--uid", "x"],

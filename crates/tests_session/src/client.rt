@@ -10,7 +10,7 @@ use std::process::Abort;
 use std::sync::Wait;
 use std::thread::{Threads, join_mut};
 use sysv_seats::{
-    Client, MemoryStream, Notification, Replies, ServiceHandler, Step, Tools, ZERO, Zero,
+    Client, Limit, MemoryStream, Notification, Replies, ServiceHandler, Step, Tools, ZERO, Zero,
 };
 use sysv_service::{Pass, Service};
 use sysv_session::{End, Served};
@@ -506,15 +506,14 @@ fn a_client_that_stays(rt: HostRuntime) {
     let mut tools = tools(&rt, alloc);
     let mut stays = client(&rt, alloc, WAITING, &[]);
     turn(&mut handler, &mut tools, &mut stays);
-    assert_that(&rt, !stays.may_be_cut());
-    assert_that(&rt, !stays.may_close());
+    assert_that(&rt, !stays.may_be_cut(Limit::Idle));
     stays.leave();
-    stays.cut();
+    stays.cut(Limit::Stall);
+    stays.cut(Limit::Drain);
     assert_that(&rt, stays.waiting().is_some());
     assert_that(&rt, !stays.is_over());
     let loose = loose(&rt, alloc, WAITING, &[]);
-    assert_that(&rt, loose.may_be_cut());
-    assert_that(&rt, loose.may_close());
+    assert_that(&rt, loose.may_be_cut(Limit::Stall));
     assert_closed(&rt, alloc, stays, End::Left, (3, 0, 0), GREETED);
     assert_closed(
         &rt,
@@ -543,7 +542,7 @@ fn a_client_that_is_cut(rt: HostRuntime) {
     assert_that(&rt, client.has_unsent());
     assert_that(&rt, !client.is_over());
     assert_is(&rt, client.sent_bytes(), 20);
-    client.cut();
+    client.cut(Limit::Idle);
     assert_that(&rt, client.is_over());
     assert_closed(&rt, alloc, client, End::Write, (5, 0, 1), &ANSWERS[..20]);
     let pass = handler.into_pass();

@@ -6,7 +6,9 @@ use std::net::Net;
 use std::os::fd::AsRawFd;
 use std::os::unix::net::UnixStream;
 use std::process::Abort;
-use sysv_seats::{Drained, Filled, MemoryStream, NonBlocking, Over, Replies, SocketStream, Step};
+use sysv_seats::{
+    Drained, Filled, Limits, MemoryStream, NonBlocking, Over, Replies, SocketStream, Step,
+};
 
 /// Returns whether a read with room for 4 bytes gives these.
 fn gives<T: NonBlocking>(stream: &mut T, bytes: &[u8]) -> bool {
@@ -34,7 +36,10 @@ fn memory<'a>(
 /// Returns a connection on a socket, and its client.
 fn socket<R: Net + Abort>(rt: &R) -> (SocketStream, UnixStream) {
     let (ours, client) = UnixStream::pair(rt).expect(rt, "a pair of sockets");
-    let stream = SocketStream::new(ours).expect(rt, "a socket that does not wait");
+    let stream = SocketStream::new(ours, Limits::all_or_none(true)).expect(
+        rt,
+        "a socket that does not wait",
+    );
     (stream, client)
 }
 

@@ -46,13 +46,13 @@ pub(crate) const TO: SetTo = SetTo {
 };
 
 /// Objects, and how far a count of theirs was raised at most.
-struct Counted {
-    objects: Objects,
-    raised: u64,
+pub(crate) struct Counted {
+    pub(crate) objects: Objects,
+    pub(crate) raised: u64,
 }
 
 /// Makes turns at objects, and counts them.
-struct AtObjects;
+pub(crate) struct AtObjects;
 
 impl Turns for AtObjects {
     ghost use Rattle.std.specs.Prelude.{◌<◌};
@@ -188,14 +188,21 @@ fn remove_on(rt: &impl Abort, at: &mut Counted, state: RemoveState) -> RemoveSta
     state
 }
 
-/// Returns objects in which the key has queue 0.
-fn with_queue(rt: &impl Abort, alloc: Global) -> Counted
+/// Returns objects without a queue.
+pub(crate) fn without_queue(rt: &impl Abort, alloc: Global) -> Counted
     ensures { CountsUpTo result.raised result.objects }
 {
-    let mut at = Counted {
+    Counted {
         objects: objects_at(rt, alloc, 0),
         raised: 0,
-    };
+    }
+}
+
+/// Returns objects in which the key has queue 0.
+pub(crate) fn with_queue(rt: &impl Abort, alloc: Global) -> Counted
+    ensures { CountsUpTo result.raised result.objects }
+{
+    let mut at = without_queue(rt, alloc);
     let begun = get_on(rt, &mut at, getting());
     let installed = get_on(rt, &mut at, begun);
     let settled = get_on(rt, &mut at, installed);
@@ -204,7 +211,7 @@ fn with_queue(rt: &impl Abort, alloc: Global) -> Counted
 }
 
 /// Ends the objects, and asserts that all blocks are free.
-fn end_all(rt: &impl Abort, at: Counted)
+pub(crate) fn end_all(rt: &impl Abort, at: Counted)
     requires { CountsUpTo at.raised at.objects }
 {
     let Counted { objects, raised } = at;

@@ -13,14 +13,14 @@ use sysv_steps::{
 };
 use tests_kit::USER;
 
-const GET: Getting = Getting {
+pub(crate) const GET: Getting = Getting {
     cred: USER,
     key: 7,
     flags: Flags::IPC_CREAT,
 };
 
 /// Gates that are worn out. They count the calls that they hand back.
-struct WornGates;
+pub(crate) struct WornGates;
 
 impl Turns for WornGates {
     type At = u32;

@@ -1,6 +1,6 @@
 //! Receives that are on their way together.
 use super::*;
-use sysv_clients::{ClientFault, MAX_AHEAD, Receiving, Stop, receive_all};
+use sysv_clients::{ClientFault, MAX_AHEAD, Receiving, Stop, Unshown, receive_all};
 use sysv_model::Errno;
 
 /// The reply that a receive is refused with E2BIG. `UNTAKEN` is the one with ENOMSG.
@@ -82,13 +82,15 @@ fn assert_received(
 #[test]
 fn receives_are_requested_in_a_window(rt: HostRuntime) {
     // (the receives that are flushed together: all, or a window and then half of one each time)
-    let table: [(u64, u32, usize); 9] = [
+    let table: [(u64, u32, usize); 11] = [
         (0, 64, 0),
         (1, 64, 1),
         (3, 64, 1),
         (64, 64, 1),
         (65, 64, 2),
         (200, 64, 6),
+        (256, 256, 1),
+        (400, 256, 3),
         (5, 2, 4),
         (5, 1, 5),
         (5, 0, 5),
@@ -107,11 +109,11 @@ fn receives_are_requested_in_a_window(rt: HostRuntime) {
 fn no_more_than_a_window_is_requested(rt: HostRuntime) {
     let table: [(u64, u32, u64); 6] = [
         (99, 64, 64),
-        (99, 65, 64),
-        (99, u32::MAX, 64),
+        (300, 257, 256),
+        (300, u32::MAX, 256),
         (7, 64, 7),
         (99, 3, 3),
-        (u64::MAX, MAX_AHEAD, 64),
+        (u64::MAX, MAX_AHEAD, 256),
     ];
     for (count, ahead, requests) in table {
         // (there is no reply to a receive)
@@ -242,7 +244,9 @@ fn a_screen_that_fails_ends_the_receives_on_their_way(rt: HostRuntime) {
         dialogue.screen.good = room;
         let outcome = receive(&mut dialogue, rt.alloc(), 9, 4);
         if outcome != NO_MEMORY {
-            assert_at(&rt, outcome, Err(Stop::Screen), room);
+            // (the first message is shown, and the second one is not)
+            let unshown = Unshown { taken: 2, shown: 1 };
+            assert_at(&rt, outcome, Err(Stop::Screen(unshown)), room);
             dialogue.assert_requested(&rt, requested(&rt, rt.alloc(), 4).text(), room);
             dialogue.assert_shown(&rt, &b"abc\nabc\n"[..room], room);
         }
@@ -255,6 +259,7 @@ fn assert_screen_fails_after_a_refusal(rt: &impl Abort, alloc: Global) {
     let mut dialogue = Dialogue::new(rt, alloc, &[WELCOME, GOT, TOO_BIG, MESSAGE, MESSAGE]);
     dialogue.screen.good = 6;
     let outcome = receive(&mut dialogue, alloc, 9, 4);
-    assert!(rt; outcome == NO_MEMORY || outcome == Err(Stop::Screen));
+    let unshown = Unshown { taken: 2, shown: 1 };
+    assert!(rt; outcome == NO_MEMORY || outcome == Err(Stop::Screen(unshown)));
     assert!(rt; outcome == NO_MEMORY || dialogue.screen.text() == b"abc\nab".as_slice());
 }

@@ -1,7 +1,9 @@
 //! What the options and the further commands of clients request and show.
 use super::ahead::{requested, shown};
 use super::*;
-use sysv_clients::{ClientFault, Making, Receiving, Stop, receive_all, receive_instrumented};
+use sysv_clients::{
+    ClientFault, Making, Receiving, Stop, Unshown, receive_all, receive_instrumented,
+};
 use sysv_model::{Errno, Instrumented, MESSAGE_BYTES};
 
 /// The reply with a message of type -3 and of these four bytes: `a`, LF, NUL, `b`.
@@ -288,7 +290,8 @@ fn only_the_messages_before_a_fault_are_shown(rt: HostRuntime) {
             assert_is(&rt, Stop::Fault(fault).line(), fault.line());
         }
     }
-    assert!(rt; Stop::Screen.line().is_empty());
+    let unshown = Unshown { taken: 3, shown: 2 };
+    assert!(rt; Stop::Screen(unshown).line().is_empty());
 }
 
 #[test]
@@ -334,7 +337,7 @@ fn a_instrumented_screen_has_failed_if_it_ended_the_receives(rt: HostRuntime) {
         let outcome = receive_instrumented(
             rt.alloc(),
             &receiving,
-            &mut Instrumented::new(&mut dialogue.replies),
+            &mut dialogue.replies,
             &mut Instrumented::new(&mut dialogue.requests),
             &mut screen,
         );

@@ -2,7 +2,8 @@
 use super::*;
 use std::fmt::Display;
 use sysv_clients::{
-    ClientFault, Cut, Feed, Refusal, Sending, Stop, Unsent, remove_all, send_feed, send_lines,
+    ClientFault, Cut, Feed, Refusal, Sending, Stop, Unsent, Unshown, remove_all, send_feed,
+    send_lines,
 };
 use sysv_model::Errno;
 
@@ -337,7 +338,8 @@ fn ends_of_sessions_have_texts(rt: HostRuntime) {
     let alloc = rt.alloc();
     let refused = ClientFault::Refused(Errno::EPERM);
     assert_text(&rt, alloc, &Stop::Fault(refused), "EPERM");
-    assert_text(&rt, alloc, &Stop::Screen, "cannot write");
+    let unshown = Unshown { taken: 3, shown: 2 };
+    assert_text(&rt, alloc, &Stop::Screen(unshown), "cannot write");
     assert_text(&rt, alloc, &Unsent::Fault(refused), "EPERM");
     assert_text(&rt, alloc, &Unsent::Cut(LOST), "no reply");
     let long = Unsent::Long { before: 2 };

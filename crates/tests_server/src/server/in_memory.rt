@@ -5,7 +5,7 @@ use super::*;
 use std::net::Shutdown;
 use std::os::fd::AsRawFd;
 use std::snapshot::Snapshot;
-use sysv_seats::SocketStream;
+use sysv_seats::{Limits, SocketStream};
 use sysv_server::{Input, Listens, serve_from};
 
 /// A listener to which some clients have connected. It is open until it is closed.
@@ -39,11 +39,11 @@ impl Listens for Connected {
         self.readable.as_raw_fd()
     }
 
-    fn accept(&mut self) -> io::Result<SocketStream> {
+    fn accept(&mut self, limits: Limits) -> io::Result<SocketStream> {
         let Some(stream) = self.waiting.pop() else {
             return Err(io::Error::from(ErrorKind::NotConnected));
         };
-        let socket = SocketStream::new(stream)?;
+        let socket = SocketStream::new(stream, limits)?;
         match self.accepted.push(Snapshot::of(&socket)) {
             Ok(()) => Ok(socket),
             Err(_) => Err(io::Error::from(ErrorKind::OutOfMemory)),

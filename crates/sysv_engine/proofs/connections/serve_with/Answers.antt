@@ -2,7 +2,7 @@
 use mir.Syntax.{named as lifetime}
 use denote.Param.Send.{arg_send, param_send, param_sync}
 use Rattle.std.proofs.Common.{◌≡◌, ◌≤◌, ◌∙◌, ℕ, List, ◌++◌, map, reverse, length, ap, arith, inl, inr}
-use Rattle.std.proofs.Common.{subst, vec_len}
+use Rattle.std.proofs.Common.{subst, sym, vec_len}
 use Rattle.std.specs.Prelude.{false}
 use Rattle.sysv_workers.specs.declared.workers.TheConstants.{MAX_WORKERS}
 use Rattle.sysv_engine.specs.declared.dealing.Dealing.{Dealing}
@@ -145,7 +145,7 @@ source_is g c =
     c.in-Ok-outcome.ensures.ok in
     let name_is = c.into_source.ensures.same_reference ∙ (same ∙ c.new-dealing.ensures.same_reference) in
     let back = c.given_back.ensures ∙ c.into_source.ensures.source in
-    grind arith
+    sym (c.source-1.given.1 (sym name_is) ∙ back)
 
 pub returns-in-Ok-outcome-clause-ok : goal.returns-in-Ok-outcome-clause-ok
 returns-in-Ok-outcome-clause-ok g c =

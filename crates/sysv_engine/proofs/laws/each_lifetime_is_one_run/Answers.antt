@@ -4,7 +4,7 @@ use Rattle.sysv_engine.proofs.laws.each_lifetime_is_one_run.Goals as goal
 pub returns-clause-run : goal.returns-clause-run
 returns-clause-run c =
     each_lifetime c.each_session_makes_calls.ensures c.every_hiring_obeys.ensures.obeys
-    c.every_hiring_obeys.ensures.stops
+    c.every_hiring_obeys.ensures.stops c.every_order_parks_rightly.ensures
 
 pub returns-clause-whole : goal.returns-clause-whole
 returns-clause-whole c =

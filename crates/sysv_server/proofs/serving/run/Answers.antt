@@ -3,6 +3,7 @@
 use Rattle.std.proofs.Common.{◌≡◌, ◌∙◌, length, ap, sym, arith}
 use Rattle.std.specs.Prelude.{is_some}
 use Rattle.sysv_server.proofs.Accepted.{all_end, all_fail, all_for, still_holds}
+use Rattle.sysv_server.specs.Serving.{limits_in}
 use Rattle.sysv_server.proofs.serving.run.Goals as goal
 
 pub returns-clause-ok : goal.returns-clause-ok
@@ -24,7 +25,7 @@ returns-clause-ok g c =
     c.new-source.ensures.begun.1 c.new-source.ensures.begun.0
     (let same = c.new-source.ensures.begun.0 in let fits = c.new-source.ensures.range in omega arith)
     c.serve_arrivals-outcome.ensures.ok c.serve_arrivals-outcome.ensures.err _ _ counted c.new-source.ensures.listener
-    (grind arith)
+    (grind arith) (limits_in c.args.terms) (c.new-source.ensures.limits ∙ c.of_seconds-limits.ensures)
 
 pub returns-clause-exact : goal.returns-clause-exact
 returns-clause-exact g c =

@@ -8,15 +8,15 @@ pub returns-in_err-welcome-clause-finds : goal.returns-in_err-welcome-clause-fin
 returns-in_err-welcome-clause-finds g c =
     let p = err_from_is_err_and c.from_residual.result c.from_residual.ensures.1 in
     rw (p.1, p.2)
-    (no_hello c.args.receiving.now c.in_err-welcome.field-0.0 c.exchange.new.given c.args.self.now.text _ _ _ _
+    (no_hello c.args.receiving.now c.in_err-welcome.field-0.0 c.exchange_plain.new.given c.args.self.now.text _ _ _ _
     c.requires c.in_err-welcome.ensures.exchanges)
 
 pub returns-in_err-got-clause-finds : goal.returns-in_err-got-clause-finds
 returns-in_err-got-clause-finds g c =
     let p = err_from_is_err_and c.from_residual-in_err-got.result c.from_residual-in_err-got.ensures.1 in
     rw (p.1, p.2)
-    (not_found c.args.receiving.now c.in_ok-welcome.welcome c.in_err-got.field-0.0 c.exchange.new.given
-    c.exchange-2.new.given c.args.self.now.text _ _ _ _ _ _ c.find-find.result c.requires
+    (not_found c.args.receiving.now c.in_ok-welcome.welcome c.in_err-got.field-0.0 c.exchange_plain.new.given
+    c.exchange_plain-2.new.given c.args.self.now.text _ _ _ _ _ _ c.find-find.result c.requires
     c.in_ok-welcome.ensures.exchanges c.find-find.ensures c.in_err-got.ensures.exchanges)
 
 pub returns-clause-finds : goal.returns-clause-finds
@@ -28,7 +28,8 @@ returns-clause-finds g c =
       to_z-of_z w32 c.found.result (record { sfits = c.found.type_inv }),
       c.found.ensures,
     )
-    (finds c.args.receiving.now c.in_ok-welcome.welcome c.in_ok-got.got c.exchange.new.given c.exchange-2.new.given
+    (finds c.args.receiving.now c.in_ok-welcome.welcome c.in_ok-got.got c.exchange_plain.new.given
+    c.exchange_plain-2.new.given
     c.args.self.now.text _ _ _ _ _ _ c.find-find.result c.messages.result c.in_ok-welcome.ensures.exchanges
     c.find-find.ensures
     c.in_ok-got.ensures.exchanges c.messages.ensures)

@@ -1,7 +1,7 @@
 use Rattle.std.proofs.Common.{◌≡◌, ◌+◌, ℕ, suc, ◌<◌, List, Option, Some, None, length, get_or, option_map, sym, refl}
 use Rattle.std.proofs.Common.{ap, subst}
 use Rattle.std.proofs.Common.{◌∙◌, arith}
-use Rattle.sysv_core.specs.declared.doing.Doing.{Doing}
+use Rattle.sysv_core.specs.declared.actor.Doing.{Doing}
 use Rattle.sysv_core.specs.Standing.{doing_state, state_at, StandsNowhere, StandsThere}
 use Rattle.sysv_core.specs.Seen.{Seen}
 use Rattle.sysv_core.proofs.world.World.doing.Goals as goal

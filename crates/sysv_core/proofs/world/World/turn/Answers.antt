@@ -7,7 +7,7 @@ use Rattle.sysv_core.specs.Seen.{Seen, IsSeenAs}
 use Rattle.sysv_core.specs.Kept.{counted_led}
 use Rattle.sysv_core.specs.Led.{DoingLeads}
 use Rattle.sysv_core.specs.Tallying.{messages_given}
-use Rattle.sysv_core.proofs.SeenSteps.{moves_as, tallied, step_absent, step_idle, step_busy, state_leads}
+use Rattle.sysv_core.proofs.SeenSteps.{moves_as, tallied, step_absent, step_idle, step_busy}
 use Rattle.sysv_core.proofs.KeptActors.{seen_at, seen_same, seen_resettled, taken_there, same_seen, given_counted}
 use Rattle.sysv_core.proofs.KeptActors.{counts_on}
 use Rattle.sysv_core.proofs.world.World.turn.Goals as goal
@@ -66,8 +66,7 @@ invariant_of-self-2 c =
     let steps = ap (λ (v : Seen). v.steps) c.self.view_is in
     let up = counts_on c.self.inside.objects (doing_state d).state c.args.now c.advance-led.result
     c.advance-led.new.objects c.self.inside.steps
-    (state_leads c.self.inside.objects d c.args.now c.advance-led.result c.advance-led.new.objects
-    c.advance-led.ensures) c.self.invariant.1 in
+    c.advance-led.ensures c.self.invariant.1 in
     let least = c.counted.ensures.least in
     let responses = subst (λ r. messages_given r ≤ counted_led c.advance-led.result) (sym c.settle.ensures.told)
     (given_counted c.args.actor c.advance-led.result) in (

@@ -1,10 +1,10 @@
 -- A client that is closed has left its call.
-use Rattle.std.proofs.Common.{◌∙◌, ap, drop, subst, sym}
+use Rattle.std.proofs.Common.{◌≡◌, ◌∙◌, ap, drop, subst, sym, true}
 use Rattle.sysv_session.specs.declared.served.End.{End}
 use Rattle.sysv_session.specs.declared.served.Served.{Served}
 use Rattle.sysv_session.specs.Conversation.{report, reported}
 use Rattle.sysv_seats.specs.Breaking.{MayEnd}
-use Rattle.sysv_seats.specs.Sits.{MayClose, Sitting, end_at_close}
+use Rattle.sysv_seats.specs.Sits.{Sitting, end_at_close, is_finished}
 use Rattle.sysv_seats.proofs.ClientLemmas.{closed_over, closing_cause, counted_of, has_room}
 use Rattle.sysv_seats.proofs.client.Client.close.Goals as goal
 
@@ -31,7 +31,7 @@ returns-clause-cause g c = λ may.
       stopped = c.self.inside.stopped;
       broken = c.self.inside.is_broken;
     } in
-    let here = subst (λ (s : S). MayClose (t.closes.breaks s.connection) s) (sym c.self.view_is) may in
+    let here = subst (λ (s : S). is_finished s ≡ true) (sym c.self.view_is) may in
     let cause = closing_cause (t.closes.breaks c.self.inside.connection) last c.self.invariant.3 here in
     let told = c.end.ensures ∙ ap (λ (w : End). report w c.self.inside.conversation) c.closing_end.ensures in
     subst (λ (e : End). MayEnd (t.closes.breaks c.args.self.connection) e) (sym (ap (λ (s : Served). s.«end») told))
