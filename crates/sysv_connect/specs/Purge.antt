@@ -49,10 +49,8 @@ abbrev pub EndsPurge : ExitCode → Result ⊤ Stop → ℕ → (shown after : O
 EndsPurge exit ended count shown after =
     (IsEmptied ended × ShowsCount exit count shown after) ⊎ (Fails exit × (after ≡ shown))
 
--- A client emptied a queue, and the program ended like this.
-pub record Purges (receiving : Receiving) (exit : ExitCode) (left rest taken more shown after : Option (List ℕ)) :
-    Type 0 where
-  pub ended : Result ⊤ Stop
-  pub marks : List ℕ  -- an LF for each message that was taken
-  pub takes : TakesAll receiving ended left rest taken more (Some []) (Some marks)
-  pub ends : EndsPurge exit ended (length marks) shown after
+-- A client emptied a queue, and the program ended like this. There is an LF for each message that it took.
+abbrev pub Purges : Receiving → ExitCode → (left rest taken more shown after : Option (List ℕ)) → Type 0
+Purges receiving exit left rest taken more shown after =
+    (ended : Result ⊤ Stop) × (marks : List ℕ) × TakesAll receiving ended left rest taken more (Some []) (Some marks)
+    × EndsPurge exit ended (length marks) shown after
