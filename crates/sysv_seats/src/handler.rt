@@ -6,6 +6,7 @@ ghost use Rattle.sysv_service.specs.Seats.{AreOf};
 ghost use Rattle.sysv_session.specs.Answers.{MayAnswer};
 ghost use Rattle.sysv_session.specs.Parse.{Parse, Follows, Takes};
 ghost use Rattle.sysv_session.specs.Failing.{is_failed_read, is_failed_write};
+ghost use Rattle.sysv_wire.specs.Requests.{op_of};
 ghost use Rattle.sysv_seats.specs.Asked.{Gets, Sends, Receives, Stats, Sets, Removes, ServesPass, Shows};
 ghost use Rattle.sysv_seats.specs.Replies.{reply as the_reply, shown_stat as stat_shown, shown_row as row_shown};
 
@@ -13,7 +14,7 @@ use std::alloc::Global;
 use std::io::{Read, Write};
 use std::sync::Wait;
 use sysv_keys::SLOTS;
-use sysv_model::{Body, Cred, Flags, Instrumented, Row, SetTo, Stat};
+use sysv_model::{Body, Cred, Errno, Flags, Instrumented, Row, SetTo, Stat};
 use sysv_service::{Clock, Pass, Service};
 use sysv_session::{End, Handler, RequestOutcome, Served, Texts, serve_instrumented};
 use sysv_wire::{Ask, MAX_MODE, Op, Reply, ReplyContent, Request, Version};
@@ -76,7 +77,7 @@ impl<'a, C: Clock, R: Wait> ServiceHandler<'a, C, R> {
             (O.contents (stream_of writer.old)) (O.contents (stream_of writer.new)) }
         // The session ends as its input determines, unless it is cut short.
         ensures only { (input : List ℕ) (parse : Parse) →
-            I.remaining (stream_of reader.old) ≡ Some input → Takes input parse →
+            I.remaining (stream_of reader.old) ≡ Some input → Takes Version.Two input parse →
             Follows parse result }
         ensures memory { result.«end» ≢ End.NoMemory }
         // The streams stay the same, and each fails in this call if and only if the end says so.
@@ -268,8 +269,19 @@ impl<C: Clock, R: Wait> Handler for ServiceHandler<'_, C, R> {
             Ask::Set { id, to } => self.set(version, cred, id, to),
             Ask::Rm { id } => self.remove(version, cred, id),
             Ask::Row { slot } => self.row(version, slot),
+            Ask::Hold { .. } | Ask::Done | Ask::Back => refuse_hold(request),
         }
     }
+}
+
+/// Refuses an operation that holds a message, for which a handler has no memory.
+fn refuse_hold(request: &Request) -> RequestOutcome
+    ensures reply { result ≡ the_reply request.now.version (op_of request.now.ask)
+        (ReplyContent.Refused Errno.EINVAL) }
+    ensures answer { MayAnswer request.now.version request.now.ask result [] }
+{
+    let content = ReplyContent::Refused(Errno::EINVAL);
+    reply(request.version, request.ask.op(), content)
 }
 
 /// Returns the reply of an operation, in the version of its request.
