@@ -1,7 +1,6 @@
 -- The calls of a service that a session makes: one for each request, except for a request for a
--- row and for one that would hold a message, which is refused. Each request is answered as its call ended, or its call
--- was left at a wait and has no reply
--- (this project's profile).
+-- row and for one that would hold a message, which is refused. Each request is answered as its call
+-- ended, or its call was left at a wait and has no reply (this project's profile).
 use Rattle.std.specs.Prelude.{◌≡◌, ℕ, List, [], ◌∷◌, ◌++◌, Option, Result}
 use Rattle.sysv_keys.specs.declared.identifier.TheConstants.{SLOTS}
 use Rattle.sysv_model.specs.declared.attributes.Row.{Row}

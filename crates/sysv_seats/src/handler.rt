@@ -6,7 +6,6 @@ ghost use Rattle.sysv_service.specs.Seats.{AreOf};
 ghost use Rattle.sysv_session.specs.Answers.{MayAnswer};
 ghost use Rattle.sysv_session.specs.Parse.{Parse, Follows, Takes};
 ghost use Rattle.sysv_session.specs.Failing.{is_failed_read, is_failed_write};
-ghost use Rattle.sysv_wire.specs.Requests.{op_of};
 ghost use Rattle.sysv_seats.specs.Asked.{Gets, Sends, Receives, Stats, Sets, Removes, ServesPass, Shows};
 ghost use Rattle.sysv_seats.specs.Replies.{reply as the_reply, shown_stat as stat_shown, shown_row as row_shown};
 
@@ -269,19 +268,18 @@ impl<C: Clock, R: Wait> Handler for ServiceHandler<'_, C, R> {
             Ask::Set { id, to } => self.set(version, cred, id, to),
             Ask::Rm { id } => self.remove(version, cred, id),
             Ask::Row { slot } => self.row(version, slot),
-            Ask::Hold { .. } | Ask::Done | Ask::Back => refuse_hold(request),
+            Ask::Hold { .. } => refuse_hold(version, Op::Hold),
+            Ask::Done => refuse_hold(version, Op::Done),
+            Ask::Back => refuse_hold(version, Op::Back),
         }
     }
 }
 
-/// Refuses an operation that holds a message, for which a handler has no memory.
-fn refuse_hold(request: &Request) -> RequestOutcome
-    ensures reply { result ≡ the_reply request.now.version (op_of request.now.ask)
-        (ReplyContent.Refused Errno.EINVAL) }
-    ensures answer { MayAnswer request.now.version request.now.ask result [] }
+/// Refuses an operation on a held message, for which a handler has no memory.
+fn refuse_hold(version: Version, op: Op) -> RequestOutcome
+    ensures { result ≡ the_reply version op (ReplyContent.Refused Errno.EINVAL) }
 {
-    let content = ReplyContent::Refused(Errno::EINVAL);
-    reply(request.version, request.ask.op(), content)
+    reply(version, op, ReplyContent::Refused(Errno::EINVAL))
 }
 
 /// Returns the reply of an operation, in the version of its request.
