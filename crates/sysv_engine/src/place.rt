@@ -19,6 +19,7 @@ use sysv_parking::Key;
 use sysv_seats::{Client, Limit, NonBlocking, ServiceHandler, Tools, ZERO, Zero};
 use sysv_service::{Pass, Service};
 use sysv_session::{End, Served};
+use sysv_wire::Version;
 
 /// A place of a server. Clients have it one after another.
 ///
@@ -35,6 +36,8 @@ pub(crate) struct Place<'a, R: Wait, T: NonBlocking> {
     in_turns: bool,
     /// Whether the watch reports when the connection may take bytes.
     awaits_room: bool,
+    /// Whether the place counts as one that gives back a message.
+    returns: bool,
 }
 
 impl<'a, R: Wait, T: NonBlocking> Model for Place<'a, R, T> {
@@ -78,6 +81,7 @@ impl<'a, R: Wait, T: NonBlocking> Place<'a, R, T> {
             times: Times::new(),
             in_turns: false,
             awaits_room: false,
+            returns: false,
         }
     }
 
@@ -98,6 +102,7 @@ impl<'a, R: Wait, T: NonBlocking> Place<'a, R, T> {
             times: _,
             in_turns: _,
             awaits_room: _,
+            returns: _,
         } = self;
         match client {
             Some(_) => unreachable!(),
@@ -106,13 +111,13 @@ impl<'a, R: Wait, T: NonBlocking> Place<'a, R, T> {
     }
 
     /// Gives a vacant place to the client of a connection.
-    pub(crate) fn adopt(&mut self, alloc: Global, connection: T)
+    pub(crate) fn adopt(&mut self, alloc: Global, connection: T, newest: Version)
         requires { self.old.client ≡ None }
         ensures { TakesIn T.incoming T.outgoing T.closes connection self.old self.new }
     {
         self.times = Times::new();
         self.awaits_room = false;
-        self.seat(Client::open(alloc, connection));
+        self.seat(Client::open_up_to(alloc, connection, newest));
     }
 
     /// Gives a vacant place to a client.
@@ -142,10 +147,13 @@ impl<'a, R: Wait, T: NonBlocking> Place<'a, R, T> {
 
     /// Ends the client if there is a limit for an orderly end, and closes it if nothing else is left
     /// to do.
-    pub(crate) fn end(&mut self)
+    pub(crate) fn end(&mut self, tools: &mut Option<Tools>)
         ensures keeps { KeepsPlace T.incoming T.outgoing T.closes self.old self.new }
     {
         self.cut(Limit::Drain);
+        if let Some(tools) = tools {
+            self.give_back_at_last(tools);
+        }
         self.close();
     }
 
@@ -197,6 +205,40 @@ impl<'a, R: Wait, T: NonBlocking> Place<'a, R, T> {
         if let Some(client) = &mut self.client {
             client.take_turn(&mut self.handler, tools);
             client.drain();
+        }
+    }
+
+    /// Gives back the message that the client holds, once its session has stopped.
+    pub(crate) fn give_back(&mut self, tools: &mut Tools) {
+        if let Some(client) = &mut self.client {
+            client.give_back(&mut self.handler, tools);
+        }
+    }
+
+    /// Returns whether the client's session has stopped, and what gives its message back waits.
+    pub(crate) fn is_returning(&self) -> bool {
+        match &self.client {
+            Some(client) => client.is_returning(),
+            None => false,
+        }
+    }
+
+    /// Takes note of whether the place counts as one that gives back a message. Returns whether that
+    /// is new.
+    pub(crate) fn set_returning(&mut self, returns: bool) -> bool {
+        let is_new = self.returns != returns;
+        self.returns = returns;
+        is_new
+    }
+
+    /// Gives back the message of the client at the end of the server, if its queue has room.
+    pub(crate) fn give_back_at_last(&mut self, tools: &mut Tools) {
+        self.give_back(tools);
+        self.go_on(tools);
+        if let Some(client) = &mut self.client {
+            if client.is_returning() {
+                client.abandon(tools);
+            }
         }
     }
 
@@ -310,6 +352,10 @@ impl<'a, R: Wait, T: NonBlocking> Place<'a, R, T> {
         ensures keeps { KeepsPlace T.incoming T.outgoing T.closes self.old self.new }
     {
         let client = self.client.as_ref()?;
+        if client.is_returning() {
+            self.times = Times::new();
+            return None;
+        }
         self.times.note(client, patience)
     }
 

@@ -50,7 +50,7 @@ impl<'a, 'c, R: Wait, T: NonBlocking + Drop, W: Watch<T>> Job<Worker<'a, R, T, W
     fn run(&self, worker: &mut Worker<'a, R, T, W>, connection: T) {
         self.server.take();
         let place = self.make_room(worker);
-        worker.adopt(place, self.alloc, connection);
+        worker.adopt(place, self.alloc, connection, self.server.newest());
         self.turn(worker, place);
         self.serve(worker);
     }
@@ -95,7 +95,10 @@ impl<'a, 'c, R: Wait> Serving<'a, 'c, R> {
             worker.answered += 1;
             return true;
         }
-        worker.is_empty() && self.server.is_finished()
+        if !self.server.is_finished() {
+            return false;
+        }
+        worker.is_empty() || (worker.only_returns() && self.server.is_all_returning())
     }
 
     /// Waits for events, and serves each client that has some.
@@ -253,7 +256,9 @@ impl<'a, 'c, R: Wait> Serving<'a, 'c, R> {
         ensures rest { worker.new.agenda
             ≡ record worker.old.agenda { parking = worker.new.agenda.parking } }
     {
+        self.give_back(worker, place);
         self.line_up(worker, place);
+        self.note_return(worker, place);
         if worker.is_over(place) {
             self.close(worker, place);
             return;
@@ -261,6 +266,28 @@ impl<'a, 'c, R: Wait> Serving<'a, 'c, R> {
         worker.await_more(place);
         worker.set_time(place, self.server.patience());
         worker.look_again(place);
+    }
+
+    /// Gives back the message that a client holds, once its session has stopped.
+    fn give_back<T: NonBlocking, W: Watch<T>>(
+        &self,
+        worker: &mut Worker<'a, R, T, W>,
+        place: usize,
+    ) {
+        let before = worker.blocks_in_use(place);
+        worker.give_back(place);
+        self.count_blocks(worker, place, before);
+    }
+
+    /// Counts a place that gives back a message.
+    fn note_return<T: NonBlocking, W: Watch<T>>(
+        &self,
+        worker: &mut Worker<'a, R, T, W>,
+        place: usize,
+    ) {
+        if let Some(returns) = worker.note_return(place) {
+            self.server.count_return(returns);
+        }
     }
 
     /// Puts a client into the line of what its parked call waits for, and out of any other line. A
@@ -458,6 +485,7 @@ impl<'a, 'c, R: Wait> Serving<'a, 'c, R> {
                 self.settle(worker, place);
             }
         }
+        self.spread(worker);
     }
 }
 

@@ -16,6 +16,7 @@ use std::sync::atomic::{AtomicBool, AtomicU64, Ordering};
 use sysv_keys::SLOTS;
 use sysv_parking::{Change, Envelope, WORDS};
 use sysv_queue::Tally;
+use sysv_wire::Version;
 
 /// The number of bits in a word, and so of workers that a word can name.
 const BITS: usize = 64;
@@ -62,6 +63,10 @@ pub struct ServerState {
     is_cut: AtomicBool,
     /// The number of sessions that are over.
     over: AtomicU64,
+    /// The number of places whose sessions are over, and that still give back a message.
+    returning: AtomicU64,
+    /// The newest version that sessions read.
+    newest: Version,
     /// Whether the memory of a session was refused.
     starved: AtomicBool,
     /// Whether the accepting thread waits for a session to be over.
@@ -102,11 +107,45 @@ impl ServerState {
             taken: AtomicU64::new(0),
             is_cut: AtomicBool::new(false),
             over: AtomicU64::new(0),
+            returning: AtomicU64::new(0),
+            newest: Version::Two,
             starved: AtomicBool::new(false),
             is_awaited: AtomicBool::new(false),
             turn,
         };
         Some((server, rests))
+    }
+
+    /// Has sessions read version 3.
+    pub fn allow_hold(&mut self) {
+        self.newest = Version::Three;
+    }
+
+    /// Returns the newest version that sessions read.
+    pub(crate) fn newest(&self) -> Version {
+        self.newest
+    }
+
+    /// Counts one more place that gives back a message, or one less.
+    pub(crate) fn count_return(&self, returns: bool) {
+        if returns {
+            self.returning.fetch_add(1, Ordering::SeqCst);
+        } else {
+            self.returning.fetch_sub(1, Ordering::SeqCst);
+        }
+        if self.finished.load(Ordering::SeqCst) {
+            self.ring_all();
+        }
+        if self.is_awaited.load(Ordering::SeqCst) {
+            self.turn.ring();
+        }
+    }
+
+    /// Returns whether each client that is left only gives back a message.
+    pub(crate) fn is_all_returning(&self) -> bool {
+        let over = self.over.load(Ordering::SeqCst);
+        let returning = self.returning.load(Ordering::SeqCst);
+        over.saturating_add(returning) >= self.dealt.load(Ordering::SeqCst)
     }
 
     /// Returns the number of workers.
@@ -340,6 +379,9 @@ impl ServerState {
             post.closed.fetch_add(1, Ordering::SeqCst);
         }
         self.over.fetch_add(1, Ordering::SeqCst);
+        if self.finished.load(Ordering::SeqCst) {
+            self.ring_all();
+        }
         if self.is_awaited.load(Ordering::SeqCst) {
             self.turn.ring();
         }
@@ -379,7 +421,8 @@ impl ServerState {
 
     /// Returns whether all sessions are over, of which this many were accepted.
     fn is_empty(&self, accepted: u64) -> bool {
-        self.over.load(Ordering::SeqCst) >= accepted
+        let returning = self.returning.load(Ordering::SeqCst);
+        self.over.load(Ordering::SeqCst).saturating_add(returning) >= accepted
     }
 
     /// Says whether the accepting thread waits from now on for a session to be over.

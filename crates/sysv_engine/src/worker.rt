@@ -17,6 +17,7 @@ use std::sync::Wait;
 use sysv_parking::{Agenda, Key};
 use sysv_seats::{Limit, NonBlocking, Tools};
 use sysv_session::Served;
+use sysv_wire::Version;
 
 /// Of this number of messages that have arrived, one goes to another worker first.
 const SHARE_OF_MESSAGES: usize = 8;
@@ -92,7 +93,8 @@ impl<'a, R: Wait, T: NonBlocking, W: Drop> Kit<'a, R, T, W> {
         let ready = Vec::with_capacity(alloc, MOST_READY).ok()?;
         let agenda = Agenda::open(alloc, number, count)?;
         let turns = VecDeque::with_capacity(alloc, count).ok()?;
-        let tools = Tools::open(alloc).ok()?;
+        let mut tools = Tools::open(alloc).ok()?;
+        tools.share_places(count);
         let places = room_for(alloc, count)?;
         Some(Kit {
             places,
@@ -272,13 +274,13 @@ impl<'a, R: Wait, T: NonBlocking, W: Watch<T>> Worker<'a, R, T, W> {
 
     /// Gives a vacant place to the client of a connection, and has its connection watched.
     #[tactic(auto, using(crate::proofs::PlaceLists::adopts_at))]
-    pub(crate) fn adopt(&mut self, place: usize, alloc: Global, connection: T)
+    pub(crate) fn adopt(&mut self, place: usize, alloc: Global, connection: T, newest: Version)
         requires { IsVacantAt place self.old.places.items }
         ensures { AdoptsOne T.incoming T.outgoing T.closes connection self.old.places.items
             self.new.places.items }
     {
         let there = &mut self.places[place];
-        there.adopt(alloc, connection);
+        there.adopt(alloc, connection, newest);
         there.begin(&mut self.watch, place);
     }
 
@@ -350,6 +352,31 @@ impl<'a, R: Wait, T: NonBlocking, W: Watch<T>> Worker<'a, R, T, W> {
         if let Some(there) = self.places.get_mut(place) {
             there.go_on(&mut self.tools);
         }
+    }
+
+    /// Gives back the message that the client holds, once its session has stopped.
+    pub(crate) fn give_back(&mut self, place: usize) {
+        if let Some(there) = self.places.get_mut(place) {
+            there.give_back(&mut self.tools);
+        }
+    }
+
+    /// Takes note of whether the place gives back a message. Returns that, if it is new.
+    pub(crate) fn note_return(&mut self, place: usize) -> Option<bool> {
+        let there = self.places.get_mut(place)?;
+        let returns = there.is_returning();
+        if there.set_returning(returns) {
+            Some(returns)
+        } else {
+            None
+        }
+    }
+
+    /// Returns whether each client that is left only gives back a message.
+    pub(crate) fn only_returns(&self) -> bool {
+        self.places
+            .iter()
+            .all(|place| !place.is_taken() || place.is_returning())
     }
 
     /// Gives the client's connection as many bytes of the replies as it takes now.

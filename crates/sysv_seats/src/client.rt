@@ -12,7 +12,8 @@ ghost use Rattle.sysv_seats.specs.Notification.{Keeps as KeepsNotification, noti
 ghost use Rattle.sysv_seats.specs.Parked.{HasBegun, IsReplied, MayProgress};
 ghost use Rattle.sysv_seats.specs.Sits.{Arrives, GreetsAs, HasAsked, IsFree, IsOver, IsPending, Keeps, KeepsWith, ReadsNext, Sits, broken_off_for, end_at_close, is_early as early, is_finished, parked_bytes, parked_wait, stopped_for, zero_moment};
 
-use crate::handler::ServiceHandler;
+use crate::handler::{ServiceHandler, reply};
+use crate::holding::HeldMessage;
 use crate::limits::Limit;
 use crate::non_blocking::{Drained, Filled, NonBlocking, Over};
 use crate::notification::Told;
@@ -21,15 +22,16 @@ use crate::send_frame::snd_text;
 use crate::tools::{SHARE, Tools};
 use crate::waiting::Waiting;
 use crate::zero::Zero;
+use bitflags::Flags as Set;
 use std::alloc::Global;
 use std::io::Read;
 use std::marker::Model;
 use std::sync::Wait;
 use sysv_keys::SLOTS;
-use sysv_model::{Body, Cred, Instrumented, MESSAGE_BYTES};
+use sysv_model::{Body, Cred, Errno, Flags, Instrumented, MESSAGE_BYTES};
 use sysv_service::Progress;
 use sysv_session::{Conversation, End, RequestOutcome, Served, TakenUp};
-use sysv_wire::{Ask, Fault, FrameIn, Op, Request, Version, frame_in};
+use sysv_wire::{Ask, Fault, FrameIn, Op, ReplyContent, Request, Version, frame_in_up_to};
 
 /// The number of bytes of replies above which nothing is read from a client.
 const MOST_UNSENT: usize = 65_536;
@@ -55,6 +57,10 @@ pub struct Client<T: NonBlocking> {
     parked: Option<Parked>,
     /// Why no more requests are taken up, if that is so.
     stopped: Option<End>,
+    /// The message that the session holds.
+    message: Option<HeldMessage>,
+    /// The newest version that the session reads.
+    newest: Version,
     /// Whether bytes may be there to be read.
     is_ready: bool,
     /// Whether the last read returned fewer bytes than it might have. Then no more bytes are there
@@ -106,6 +112,8 @@ impl<T: NonBlocking> Client<T> {
             start: 0,
             parked: None,
             stopped: None,
+            message: None,
+            newest: Version::Two,
             is_ready: true,
             is_short: false,
             has_input: false,
@@ -114,6 +122,14 @@ impl<T: NonBlocking> Client<T> {
             requests: 0,
             sent: 0,
         }
+    }
+
+    /// Creates the client of a connection like `open`, whose session reads versions up to `newest`.
+    pub fn open_up_to(alloc: Global, connection: T, newest: Version) -> Client<T> {
+        let mut client = Client::open(alloc, connection);
+        client.conversation.set_newest(newest);
+        client.newest = newest;
+        client
     }
 
     /// Returns the connection.
@@ -200,7 +216,98 @@ impl<T: NonBlocking> Client<T> {
     pub fn is_over(&self) -> bool
         ensures { result ≡ is_finished self.now }
     {
-        self.is_broken || (self.stopped.is_some() && self.unsent_bytes() == 0)
+        let is_ended = self.is_broken || (self.stopped.is_some() && self.unsent_bytes() == 0);
+        is_ended && self.message.is_none() && self.parked.is_none()
+    }
+
+    /// Returns whether the session has stopped, and what gives its message back waits.
+    pub fn is_returning(&self) -> bool {
+        self.stopped.is_some() && self.parked.is_some()
+    }
+
+    /// Gives back the message that the session holds, once it has stopped.
+    pub fn give_back<R: Wait>(
+        &mut self,
+        handler: &mut ServiceHandler<'_, Zero, R>,
+        tools: &mut Tools,
+    ) {
+        if self.stopped.is_none() || self.parked.is_some() {
+            return;
+        }
+        let Some(message) = &self.message else {
+            return;
+        };
+        message.recall(&mut tools.text);
+        tools.given.clear();
+        let (cred, request) = (message.cred(), message.send());
+        let progress = handler.begin(cred, &request, &tools.text, &mut tools.given);
+        self.settle_return(cred, request, progress, tools);
+    }
+
+    /// Drops the message whose return still waits at the end of the server.
+    pub fn abandon(&mut self, tools: &mut Tools) {
+        if self.message.is_none() {
+            return;
+        }
+        self.message = None;
+        self.parked = None;
+        tools.holding -= 1;
+        tools.counts.unsent = tools.counts.unsent.wrapping_add(1);
+    }
+
+    /// Ends the return of the message, or parks it.
+    fn settle_return(
+        &mut self,
+        cred: Cred,
+        request: Request,
+        progress: Progress<Waiting, RequestOutcome>,
+        tools: &mut Tools,
+    ) {
+        match progress {
+            Progress::Over(outcome) => {
+                tools.tell(Told::by_end(&request, &outcome));
+                self.parked = None;
+                self.message = None;
+                tools.holding -= 1;
+                tools.count_return(&outcome);
+                spent(outcome);
+            }
+            Progress::Waits(waiting) => {
+                tools.tell(Told::by_wait(&waiting));
+                let length = match &self.message {
+                    Some(message) => message.length(),
+                    None => 0,
+                };
+                self.parked = Some(Parked {
+                    cred,
+                    request,
+                    waiting,
+                    length,
+                });
+            }
+        }
+    }
+
+    /// Looks whether the return of the message may go on, and continues it if so.
+    fn return_on<R: Wait>(
+        &mut self,
+        parked: Parked,
+        handler: &mut ServiceHandler<'_, Zero, R>,
+        tools: &mut Tools,
+    ) {
+        let Some(message) = &self.message else {
+            return;
+        };
+        message.recall(&mut tools.text);
+        tools.given.clear();
+        let Parked {
+            cred,
+            request,
+            waiting,
+            length: _,
+        } = parked;
+        let progress = handler.go_on(&request, &tools.text, &mut tools.given, waiting);
+        self.settle_return(cred, request, progress, tools);
     }
 
     /// Returns whether the client may be cut off under this limit.
@@ -319,6 +426,13 @@ impl<T: NonBlocking> Client<T> {
         let Some(parked) = self.parked else {
             return;
         };
+        if self.stopped.is_some() {
+            self.return_on(parked, handler, tools);
+            return;
+        }
+        if is_hold(&parked.request) && !tools.spare.is_ready() {
+            return;
+        }
         self.recall(&parked, &mut tools.text);
         if tools.text.len() > MESSAGE_BYTES {
             // (no send waits with a body that is longer)
@@ -331,7 +445,8 @@ impl<T: NonBlocking> Client<T> {
             waiting,
             length,
         } = parked;
-        let progress = handler.go_on(&request, &tools.text, &mut tools.given, waiting);
+        let call = called(&request);
+        let progress = handler.go_on(&call, &tools.text, &mut tools.given, waiting);
         self.settle(cred, request, length, progress, tools);
         self.has_input = self.is_within_request();
     }
@@ -352,6 +467,8 @@ impl<T: NonBlocking> Client<T> {
             start: _,
             parked,
             stopped,
+            message: _,
+            newest: _,
             is_ready: _,
             is_short: _,
             has_input: _,
@@ -372,6 +489,9 @@ impl<T: NonBlocking> Client<T> {
         ensures same { (self.new.connection ≡ self.old.connection)
             × (self.new.dialogue ≡ self.old.dialogue) × (self.new.broken ≡ self.old.broken) }
     {
+        if self.stopped.is_some() {
+            return;
+        }
         let Some(parked) = self.parked else {
             return;
         };
@@ -494,7 +614,7 @@ impl<T: NonBlocking> Client<T> {
             if self.is_held() {
                 return;
             }
-            if let FrameIn::More { .. } = frame_in(&self.input[self.start..]) {
+            if let FrameIn::More { .. } = frame_in_up_to(self.newest, &self.input[self.start..]) {
                 self.has_input = false;
                 return;
             }
@@ -585,8 +705,77 @@ impl<T: NonBlocking> Client<T> {
             ≡ T.closes.breaks self.old.connection }
     {
         tools.given.clear();
-        let progress = handler.begin(cred, &request, &tools.text, &mut tools.given);
+        if let Some(content) = self.answer_held(&request, tools) {
+            self.start += size;
+            self.reply(&request, content, tools);
+            return;
+        }
+        let call = called(&request);
+        let progress = handler.begin(cred, &call, &tools.text, &mut tools.given);
         self.settle(cred, request, size, progress, tools);
+    }
+
+    /// Spends the message that is held, or refuses a hold. Returns the reply, or `None` if the
+    /// request is a call.
+    fn answer_held(&mut self, request: &Request, tools: &mut Tools) -> Option<ReplyContent> {
+        match request.ask {
+            Ask::Hold { flags, seconds, .. } => {
+                if seconds != 0 || self.message.is_some() || flags.contains(Flags::MSG_NOERROR) {
+                    return Some(ReplyContent::Refused(Errno::EINVAL));
+                }
+                if tools.may_hold() {
+                    None
+                } else {
+                    Some(ReplyContent::Refused(Errno::EAGAIN))
+                }
+            }
+            Ask::Done => {
+                if self.message.take().is_none() {
+                    return Some(ReplyContent::Refused(Errno::EINVAL));
+                }
+                tools.holding -= 1;
+                tools.counts.done = tools.counts.done.wrapping_add(1);
+                Some(ReplyContent::Done)
+            }
+            Ask::Back => Some(ReplyContent::Refused(Errno::EINVAL)),
+            _ => None,
+        }
+    }
+
+    /// Gathers the reply to a request that made no call.
+    fn reply(&mut self, request: &Request, content: ReplyContent, tools: &mut Tools) {
+        let outcome = reply(request.version, request.ask.op(), content);
+        if let Err(why) = self
+            .conversation
+            .put(request.version, outcome, &tools.given)
+        {
+            self.stop(why);
+        }
+    }
+
+    /// Gathers the outcome of a call. A message that a hold took is kept.
+    fn gather(
+        &mut self,
+        cred: Cred,
+        request: &Request,
+        outcome: RequestOutcome,
+        tools: &mut Tools,
+    ) -> Result<(), End> {
+        let version = request.version;
+        match (request.ask, outcome) {
+            (Ask::Hold { id, .. }, RequestOutcome::Got(delivery)) => {
+                let mtype = delivery.mtype();
+                self.message = Some(tools.spare.keep(cred, version, id, mtype, &tools.given));
+                tools.holding += 1;
+                tools.counts.given = tools.counts.given.wrapping_add(1);
+                self.conversation.put_held(version, delivery, &tools.given)
+            }
+            (Ask::Hold { .. }, RequestOutcome::Reply(told)) => {
+                let outcome = reply(version, Op::Hold, told.result);
+                self.conversation.put(version, outcome, &tools.given)
+            }
+            (_, outcome) => self.conversation.put(version, outcome, &tools.given),
+        }
     }
 
     /// Gathers the outcome of a request whose frame of this length is at the front of the input, or
@@ -616,13 +805,10 @@ impl<T: NonBlocking> Client<T> {
     {
         match progress {
             Progress::Over(outcome) => {
-                tools.tell(Told::by_end(&request, &outcome));
+                tools.tell(Told::by_end(&called(&request), &outcome));
                 self.parked = None;
                 self.start += size;
-                if let Err(why) = self
-                    .conversation
-                    .put(request.version, outcome, &tools.given)
-                {
+                if let Err(why) = self.gather(cred, &request, outcome, tools) {
                     self.stop(why);
                 }
             }
@@ -664,6 +850,41 @@ impl<T: NonBlocking> Client<T> {
             }
         }
         self.start = 0;
+    }
+}
+
+/// Returns the call of a request: a hold is a receive.
+fn called(request: &Request) -> Request {
+    match request.ask {
+        Ask::Hold {
+            id,
+            size,
+            mtype,
+            flags,
+            seconds: _,
+        } => Request {
+            version: request.version,
+            ask: Ask::Rcv {
+                id,
+                size,
+                mtype,
+                flags,
+            },
+        },
+        _ => *request,
+    }
+}
+
+/// Returns whether a request is a hold.
+fn is_hold(request: &Request) -> bool {
+    matches!(request.ask, Ask::Hold { .. })
+}
+
+/// Uses up the outcome of a return, which is no message.
+fn spent(outcome: RequestOutcome) {
+    match outcome {
+        RequestOutcome::Got(_delivery) => unreachable!(),
+        RequestOutcome::Reply(_) | RequestOutcome::Left => {}
     }
 }
 

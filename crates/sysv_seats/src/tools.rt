@@ -5,9 +5,12 @@ ghost use Rattle.std.specs.Option.{option_to_list};
 ghost use Rattle.sysv_seats.specs.declared.tools.TheConstants.{MOST_NOTIFICATIONS};
 ghost use Rattle.sysv_seats.specs.Notification.{Keeps, TakesLast, is_taken, notifications_in, notifications_of};
 
+use crate::holding::{HoldCounts, Spare};
 use crate::notification::{Notification, Told};
 use std::alloc::Global;
-use sysv_model::{Body, NoMemory};
+use sysv_model::{Body, Errno, NoMemory};
+use sysv_session::RequestOutcome;
+use sysv_wire::ReplyContent;
 
 /// The maximum number of bytes that are read from a connection at once.
 pub const FILL_BYTES: usize = 65_536;
@@ -20,7 +23,7 @@ const MOST_TOLD: usize = 3;
 
 /// The number of things that one event may tell: those of each request of a share, and of a call
 /// that waited before.
-const MOST_NOTIFICATIONS: usize = MOST_TOLD * (SHARE as usize + 2);
+const MOST_NOTIFICATIONS: usize = MOST_TOLD * (SHARE as usize + 4);
 
 /// The buffers that the clients of one worker use one after another, and what their calls may have
 /// changed for calls that wait.
@@ -30,6 +33,12 @@ pub struct Tools {
     pub(crate) text: Body,
     pub(crate) given: Body,
     pub(crate) notifications: Vec<Notification>,
+    pub(crate) spare: Spare,
+    /// The number of places that hold a message or give one back, and the maximum.
+    pub(crate) holding: usize,
+    pub(crate) most_holding: usize,
+    /// What became of the messages that were held.
+    pub counts: HoldCounts,
 }
 
 impl Tools {
@@ -56,7 +65,35 @@ impl Tools {
             text,
             given,
             notifications,
+            spare: Spare::new(alloc),
+            holding: 0,
+            most_holding: 0,
+            counts: HoldCounts::NONE,
         })
+    }
+
+    /// Counts how the return of a message ended.
+    pub(crate) fn count_return(&mut self, outcome: &RequestOutcome) {
+        let counts = &mut self.counts;
+        let RequestOutcome::Reply(told) = outcome else {
+            return;
+        };
+        let count = match told.result {
+            ReplyContent::Refused(Errno::EINVAL | Errno::EIDRM) => &mut counts.discarded,
+            ReplyContent::Refused(_) => &mut counts.refused,
+            _ => &mut counts.sent,
+        };
+        *count = count.wrapping_add(1);
+    }
+
+    /// Lets at most seven eighths of this many places hold messages, but at least one.
+    pub fn share_places(&mut self, places: usize) {
+        self.most_holding = (places - places / 8).max(1);
+    }
+
+    /// Returns whether one more place may hold a message, for which there is memory.
+    pub(crate) fn may_hold(&mut self) -> bool {
+        self.holding < self.most_holding && self.spare.is_ready()
     }
 
     /// Removes the last of the things that calls may have changed since the tools were opened, and

@@ -19,7 +19,8 @@ use std::alloc::{AllocFailed, Global};
 use std::io::Read;
 use std::marker::Model;
 use sysv_model::{Body, Instrumented, NoMemory};
-use sysv_wire::Version;
+use sysv_queue::Delivery;
+use sysv_wire::{Op, Reply, ReplyContent, Version};
 
 /// A pending session, and the replies that its connection has not taken yet.
 ///
@@ -75,6 +76,11 @@ impl Conversation {
         ensures write { ends_by_write result ≡ false }
     {
         self.session.take_up(reader, text)
+    }
+
+    /// Has the session read versions up to this one.
+    pub fn set_newest(&mut self, newest: Version) {
+        self.session.newest = newest;
     }
 
     /// Reserves memory for the replies to requests of `count` bytes, as `Outbox::make_room` does.
@@ -146,6 +152,32 @@ impl Conversation {
                 }
             }
             RequestOutcome::Left => Err(End::Left),
+        }
+    }
+
+    /// Gathers the reply to a hold. `given` is the body of its message, which counts as written: the
+    /// session holds it.
+    ///
+    /// # Errors
+    ///
+    /// - `NoMemory` if allocation fails. No reply was gathered.
+    pub fn put_held(
+        &mut self,
+        version: Version,
+        delivery: Delivery,
+        given: &Body,
+    ) -> Result<(), End> {
+        let reply = Reply {
+            version,
+            op: Op::Hold.number(),
+            result: ReplyContent::Hold {
+                mtype: delivery.mtype(),
+            },
+        };
+        delivery.written(&mut self.session.tally);
+        match self.outbox.put(&reply, given) {
+            Ok(()) => Ok(()),
+            Err(NoMemory) => Err(End::NoMemory),
         }
     }
 
