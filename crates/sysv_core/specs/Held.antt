@@ -8,6 +8,7 @@ use Rattle.sysv_steps.specs.declared.pending.Step.{Step}
 use Rattle.sysv_steps.specs.declared.pending.Step.TheVariants as step
 use Rattle.sysv_steps.specs.declared.pending.Waiting.{Waiting}
 use Rattle.sysv_steps.specs.declared.pending.Waiting.TheVariants as waiting
+use Rattle.sysv_steps.specs.declared.receive.ReceiveStep.TheVariants as receive
 use Rattle.sysv_steps.specs.declared.send.SendStep.TheVariants as send
 use Rattle.sysv_steps.specs.Pending.{CanStep, CanWait, CanGoOn}
 
@@ -18,7 +19,8 @@ step_in_one_way (step.Send (send.Reserve s)) (Some text) = hlevel props
 step_in_one_way (step.Send (send.Place s chain)) (Some text) = hlevel props
 step_in_one_way (step.Send (send.Giveback chain afterwards)) (Some text) = hlevel props
 step_in_one_way (step.Send s) None = hlevel props
-step_in_one_way (step.Receive s) (Some text) = hlevel props
+step_in_one_way (step.Receive (receive.Take r)) (Some text) = hlevel props
+step_in_one_way (step.Receive (receive.Giveback chain delivery)) (Some text) = hlevel props
 step_in_one_way (step.Receive s) None = hlevel props
 step_in_one_way (step.Get s) body = hlevel props
 step_in_one_way (step.Stat s) body = hlevel props

@@ -17,7 +17,7 @@ use crate::actor::{Doing, Led};
 use sysv_model::{Body, Cred};
 use sysv_objects::{Directly, Objects};
 use sysv_pool::Chain;
-use sysv_steps::{Awaited, Call, Clock, Pending, Progress, Step, Waiting};
+use sysv_steps::{Awaited, Call, CallBody, Clock, Pending, Progress, Step, Waiting};
 
 /// The time of a step, as a clock that always returns it.
 #[derive(Clone, Copy)]
@@ -65,7 +65,7 @@ fn turn(objects: &mut Objects, now: u64, step: Step, mut body: Option<Body>) -> 
 {
     let moment = Moment { at: now };
     let mut kept = Chain::empty();
-    let made = step.make(&Directly, objects, &mut kept, &moment, &mut body);
+    let made = body.make_step(&Directly, objects, &mut kept, &moment, step);
     kept.end();
     led_by(made, body)
 }

@@ -2,7 +2,7 @@
 use sysv_model::Cred;
 use sysv_parking::{Caller, Key};
 use sysv_seats::Waiting;
-use sysv_service::SendWait;
+use sysv_steps::SendWait;
 
 /// Returns what this call waits for, whose frame has this length.
 pub(crate) fn key_of(waiting: &Waiting, length: usize) -> Key {

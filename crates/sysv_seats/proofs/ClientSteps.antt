@@ -48,13 +48,13 @@ use Rattle.sysv_wire.specs.declared.request.Ask.TheVariants as kind
 use Rattle.sysv_wire.specs.declared.request.Request.{Request}
 use Rattle.sysv_wire.specs.Requests.{ask_text, op_of, request_encoding}
 use Rattle.sysv_seats.specs.declared.parked.Parked.{Parked}
-use Rattle.sysv_seats.specs.declared.waiting.Waiting.{Waiting}
-use Rattle.sysv_seats.specs.declared.waiting.Waiting.TheVariants.{Send, Receive, Get}
+use Rattle.sysv_steps.specs.declared.pending.Waiting.{Waiting}
+use Rattle.sysv_steps.specs.declared.progress.Ended.{Ended}
 use Rattle.sysv_seats.specs.Asked.{asks_with}
 use Rattle.sysv_seats.specs.InPieces.{asks_any}
 use Rattle.sysv_seats.specs.Asked.{Asks}
-use Rattle.sysv_seats.specs.Parked.{GoesOn, HasBegun, IsReplied, IsWaitOf, MayProgress, Proceeds}
-use Rattle.sysv_seats.specs.Parked.{kind_in, get_progress, receive_progress, send_progress}
+use Rattle.sysv_seats.specs.Parked.{CallGoesOn, GoesOn, HasBegun, IsReplied, IsWaitOf, MayProgress, progress_of}
+use Rattle.sysv_seats.specs.Replies.{given_or}
 use Rattle.sysv_seats.specs.Replies.{done_reply, given_reply, id_reply, row_reply, stat_reply}
 use Rattle.sysv_seats.specs.Sits.{GreetsAs, HasAsked, HasFrame, HasStopped, IsAt, IsBehind, IsFree, IsPending, IsReady}
 use Rattle.sysv_seats.specs.Sits.{IsWaiting, ReadsNext, Sits, Sitting, is_early, is_wait_of}
@@ -223,35 +223,31 @@ begun_replied may version cred ask text before (progress.Waits waiting) given af
 begun_replied may version cred ask text before (progress.Over outcome) given after begun =
     asks_replied may version cred ask text before outcome given after begun
 
-send_has : (version : Version) (came : Progress SendWait (Result ⊤ Errno)) → IsReplied (send_progress version came)
-send_has version (progress.Waits w) = tt
-send_has version (progress.Over told) = done_has version op.Snd content.Snd told
+told_has : (answer : RequestOutcome) (d : Option Given) → HasReply answer → HasReply (given_or answer d)
+told_has answer None has = has
+told_has answer (Some given) has = tt
 
-receive_has : (version : Version) (came : Progress ReceiveWait (Result Given Errno)) →
-    IsReplied (receive_progress version came)
-receive_has version (progress.Waits w) = tt
-receive_has version (progress.Over told) = given_has version told
+came_replied : (version : Version) (o : Op) (came : Progress Waiting Ended) → IsReplied (progress_of version o came)
+came_replied version o (progress.Waits w) = tt
+came_replied version o (progress.Over ended) = told_has _ ended.delivery tt
 
-get_has : (version : Version) (came : Progress GetWait (Result ℤ Errno)) → IsReplied (get_progress version came)
-get_has version (progress.Waits w) = tt
-get_has version (progress.Over told) = id_has version told
+call_replied : (may : ℕ → Type 0) (version : Version) (o : Op) (waiting : Waiting) (old : Option (List ℕ))
+    (before : Pass) (result : Progress Waiting RequestOutcome) (body : Option (List ℕ)) (after : Pass) →
+    CallGoesOn may version o waiting old before result body after → IsReplied result
+call_replied may version o waiting old before result body after (inl still) = subst IsReplied (sym still.1) tt
+call_replied may version o waiting old before result body after (inr goes) =
+    subst IsReplied (sym goes.6) (came_replied version o goes.3)
 
-proceeds_replied : (may : ℕ → Type 0) (version : Version) (waiting : Waiting) (text : List ℕ)
-    (phase : Phase (kind_in waiting)) (before : Pass) (came : Progress Waiting RequestOutcome) (given : List ℕ)
-    (after : Pass) → Proceeds may version waiting text phase before came given after → IsReplied came
-proceeds_replied may version (Send w) text phase before came given after on =
-    subst IsReplied (sym on.2) (send_has version on.0)
-proceeds_replied may version (Receive w) text phase before came given after on =
-    subst IsReplied (sym on.2) (receive_has version on.0)
-proceeds_replied may version (Get w) text phase before came given after on =
-    subst IsReplied (sym on.2) (get_has version on.0)
-
-pub goes_replied : (may : ℕ → Type 0) (version : Version) (waiting : Waiting) (text : List ℕ) (before : Pass)
-    (came : Progress Waiting RequestOutcome) (given : List ℕ) (after : Pass) →
-    GoesOn may version waiting text before came given after → IsReplied came
-goes_replied may version waiting text before came given after (inl still) = subst IsReplied (sym still.1) tt
-goes_replied may version waiting text before came given after (inr went) =
-    proceeds_replied may version waiting text went.0 went.1 came given after went.3
+pub goes_replied : (may : ℕ → Type 0) (version : Version) (ask : Ask) (waiting : Waiting) (text : List ℕ)
+    (before : Pass) (result : Progress Waiting RequestOutcome) (given : List ℕ) (after : Pass) →
+    GoesOn may version ask waiting text before result given after → IsReplied result
+goes_replied may version (kind.Snd id mtype flags) waiting text before result given after goes =
+    call_replied may version op.Snd waiting (Some text) before result (Some text) after goes.0
+goes_replied may version (kind.Rcv id size mtype flags) waiting text before result given after goes =
+    call_replied may version op.Rcv waiting (Some []) before result (Some given) after goes
+goes_replied may version (kind.Get key flags) waiting text before result given after goes =
+    call_replied may version op.Get waiting None before result goes.0.0 after goes.0.1
+goes_replied may version ask waiting text before result given after goes = absurd goes
 
 -- The outcome of a call that is over has a reply.
 pub over_has : (came : Progress Waiting RequestOutcome) (outcome : RequestOutcome) → came ≡ progress.Over outcome →

@@ -1,5 +1,5 @@
 -- What the reply to a request reports of the result of its call (this project's profile).
-use Rattle.std.specs.Prelude.{ℤ, ⊤, Option, option_map, Result, Ok, Err}
+use Rattle.std.specs.Prelude.{ℤ, ⊤, Option, Some, None, option_map, Result, Ok, Err}
 use Rattle.sysv_model.specs.declared.attributes.Row.{Row as Line}
 use Rattle.sysv_model.specs.declared.attributes.Stat.{Stat as Attributes}
 use Rattle.sysv_model.specs.declared.errno.Errno.{Errno}
@@ -7,6 +7,9 @@ use Rattle.sysv_model.specs.Live.{low_nine}
 use Rattle.sysv_queue.specs.Delivery.{Given}
 use Rattle.sysv_session.specs.declared.handler.RequestOutcome.{RequestOutcome}
 use Rattle.sysv_session.specs.declared.handler.RequestOutcome.TheVariants.{Reply, Got}
+use Rattle.sysv_steps.specs.declared.outcome.Outcome.{Outcome}
+use Rattle.sysv_steps.specs.declared.outcome.Outcome.TheVariants as outcome
+use Rattle.sysv_steps.specs.declared.progress.Ended.{Ended}
 use Rattle.sysv_wire.specs.declared.frame.Op.{Op}
 use Rattle.sysv_wire.specs.declared.frame.Op.TheVariants as op
 use Rattle.sysv_wire.specs.declared.frame.Version.{Version}
@@ -50,3 +53,28 @@ shown_row row = record row { mode = low_nine row.mode }
 abbrev pub row_reply : Version → Result (Option Line) Errno → RequestOutcome
 row_reply version (Ok row) = reply version op.Row (content.Row (option_map shown_row row))
 row_reply version (Err why) = reply version op.Row (content.Refused why)
+
+-- ---- the outcome of any call
+
+-- What the reply to a request of this operation reports if its call returns no value.
+abbrev pub content_done : Op → ReplyContent
+content_done op.Set = content.Set
+content_done op.Rm = content.Rm
+content_done o = content.Snd
+
+-- What the reply to a request of this operation reports of the outcome of its call.
+abbrev pub content_told : Op → Outcome → ReplyContent
+content_told o (outcome.Id id) = content.Get id
+content_told o outcome.Zero = content_done o
+content_told o (outcome.Got mtype len) = content.Rcv mtype
+content_told o (outcome.Stat stat) = content.Stat (shown_stat stat)
+content_told o (outcome.Refused why) = content.Refused why
+
+-- The outcome of a request: the message, if its call returns one, or this reply.
+abbrev pub given_or : RequestOutcome → Option Given → RequestOutcome
+given_or answer None = answer
+given_or answer (Some delivery) = Got delivery
+
+-- The outcome of a request whose call is over.
+abbrev pub outcome_told : Version → Op → Ended → RequestOutcome
+outcome_told version o ended = given_or (reply version o (content_told o ended.outcome)) ended.delivery

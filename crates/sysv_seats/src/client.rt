@@ -19,7 +19,6 @@ use crate::notification::Told;
 use crate::parked::Parked;
 use crate::send_frame::snd_text;
 use crate::tools::{SHARE, Tools};
-use crate::waiting::Waiting;
 use crate::zero::Zero;
 use std::alloc::Global;
 use std::io::Read;
@@ -27,7 +26,7 @@ use std::marker::Model;
 use std::sync::Wait;
 use sysv_keys::SLOTS;
 use sysv_model::{Body, Cred, Instrumented, MESSAGE_BYTES};
-use sysv_service::Progress;
+use sysv_service::{Progress, Waiting};
 use sysv_session::{Conversation, End, RequestOutcome, Served, TakenUp};
 use sysv_wire::{Ask, Fault, FrameIn, Op, Request, Version, frame_in};
 

@@ -284,7 +284,7 @@ pub(crate) fn reply(version: Version, op: Op, content: ReplyContent) -> RequestO
 }
 
 /// Returns the attributes as a reply has them, with only the low nine bits of the mode.
-fn shown_stat(mut stat: Stat) -> Stat
+pub(crate) fn shown_stat(mut stat: Stat) -> Stat
     ensures shown { result ≡ stat_shown stat }
     ensures mode { result.perm.mode ≤ MAX_MODE }
 {

@@ -1,17 +1,19 @@
 //! The calls of a handler in pieces.
 
-ghost use Rattle.std.specs.Prelude.{◌≡◌, ◌≢◌, ◌≤◌, ℕ, List, [], length};
+ghost use Rattle.std.specs.Prelude.{◌≡◌, ◌≢◌, ◌≤◌, [], length};
 ghost use Rattle.sysv_model.specs.declared.limits.TheConstants.{MESSAGE_BYTES};
 ghost use Rattle.sysv_service.specs.Ran.{Pass as Seen};
+ghost use Rattle.sysv_steps.specs.Asked.{asked_by};
+ghost use Rattle.sysv_steps.specs.Call.{kind_of};
+ghost use Rattle.sysv_steps.specs.Pending.{text_in, kind_waiting, Brings, CanWait};
 ghost use Rattle.sysv_wire.specs.Requests.{op_of};
-ghost use Rattle.sysv_seats.specs.Parked.{GoesOn, HasBegun, IsParked, IsWaitOf, MayProgress, get_progress, receive_progress, send_progress};
+ghost use Rattle.sysv_seats.specs.Parked.{CallGoesOn, CallHasBegun, GoesOn, HasBegun, IsParked, IsWaitOf, MayCome, MayProgress, progress_of};
+ghost use Rattle.sysv_seats.specs.Replies.{content_done, content_told, outcome_told};
 
-use crate::handler::{ServiceHandler, reply};
-use crate::waiting::Waiting;
+use crate::handler::{ServiceHandler, reply, shown_stat};
 use std::sync::Wait;
-use sysv_model::{Body, Cred, Errno, Flags};
-use sysv_queue::Delivery;
-use sysv_service::{Clock, GetWait, Progress, ReceiveWait, SendWait};
+use sysv_model::{Body, Cred};
+use sysv_service::{Call, CallBody, Clock, Ended, Outcome, Progress, Waiting};
 use sysv_session::{Handler, RequestOutcome};
 use sysv_wire::{Ask, Op, ReplyContent, Request, Version};
 
@@ -46,83 +48,66 @@ impl<'a, C: Clock, R: Wait> ServiceHandler<'a, C, R> {
     {
         let version = request.version;
         match request.ask {
-            Ask::Get { key, flags } => self.begin_get(version, cred, key, flags),
-            Ask::Snd { id, mtype, flags } => self.begin_send(version, cred, id, mtype, flags, text),
+            Ask::Get { key, flags } => {
+                let mut none: Option<Body> = None;
+                let call = Call::Get { key, flags };
+                self.begin_call(version, Op::Get, cred, call, &mut none)
+            }
+            Ask::Snd { id, mtype, flags } => {
+                let mut text = text;
+                let call = Call::Send {
+                    id,
+                    mtype,
+                    flags,
+                    body: (),
+                };
+                self.begin_call(version, Op::Snd, cred, call, &mut text)
+            }
             Ask::Rcv {
                 id,
                 size,
                 mtype,
                 flags,
-            } => self.begin_receive(version, cred, id, size, mtype, flags, given),
+            } => {
+                let call = Call::Receive {
+                    id,
+                    size,
+                    mtype,
+                    flags,
+                    body: (),
+                };
+                self.begin_call(version, Op::Rcv, cred, call, given)
+            }
             _whole => Progress::Over(self.call(cred, request, text, given)),
         }
     }
 
-    /// Begins a `msgget`.
-    fn begin_get(
+    /// Makes the steps of a call from its start.
+    #[inline(always)]
+    fn begin_call<B: CallBody>(
         &mut self,
         version: Version,
+        op: Op,
         cred: Cred,
-        key: i32,
-        flags: Flags,
+        call: Call<()>,
+        body: &mut B,
     ) -> Progress<Waiting, RequestOutcome>
-        ensures begun { (text : List ℕ) → HasBegun (C.may self.old.clock.now) version cred
-            (Ask.Get key flags) text self.old.pass result [] self.new.pass }
-        ensures answer { MayProgress version (Ask.Get key flags) result [] }
+        requires kind { B.serves (kind_of (asked_by (λ _. text_in (B.bytes body.old)) call)) }
+        requires brings { Brings (kind_of (asked_by (λ _. text_in (B.bytes body.old)) call))
+            (B.bytes body.old) }
+        ensures kind { MayCome (kind_of (asked_by (λ _. text_in (B.bytes body.old)) call)) version op
+            result (B.bytes body.new) }
+        ensures same { B.is_lent → B.bytes body.new ≡ B.bytes body.old }
+        ensures begun { CallHasBegun (C.may self.old.clock.now) version op cred
+            (asked_by (λ _. text_in (B.bytes body.old)) call) self.old.pass result
+            (B.bytes body.new) self.new.pass }
         ensures handles { KeepsHandles self.old self.new }
     {
         let pass = &mut self.pass;
         let came = self
             .service
-            .msgget_begin(self.rt, pass, self.clock, cred, key, flags);
-        get_came(version, came)
-    }
-
-    /// Begins a `msgsnd` of the body.
-    #[inline(always)]
-    fn begin_send(
-        &mut self,
-        version: Version,
-        cred: Cred,
-        id: i32,
-        mtype: i64,
-        flags: Flags,
-        text: &Body,
-    ) -> Progress<Waiting, RequestOutcome>
-        ensures begun { HasBegun (C.may self.old.clock.now) version cred (Ask.Snd id mtype flags)
-            text.now self.old.pass result [] self.new.pass }
-        ensures answer { MayProgress version (Ask.Snd id mtype flags) result [] }
-        ensures handles { KeepsHandles self.old self.new }
-    {
-        let pass = &mut self.pass;
-        let came = self
-            .service
-            .msgsnd_begin(self.rt, pass, self.clock, cred, id, mtype, text, flags);
-        send_came(version, came)
-    }
-
-    /// Begins a `msgrcv` into `given`.
-    #[inline(always)]
-    fn begin_receive(
-        &mut self,
-        version: Version,
-        cred: Cred,
-        id: i32,
-        size: u32,
-        mtype: i64,
-        flags: Flags,
-        given: &mut Body,
-    ) -> Progress<Waiting, RequestOutcome>
-        ensures begun { (text : List ℕ) → HasBegun (C.may self.old.clock.now) version cred
-            (Ask.Rcv id size mtype flags) text self.old.pass result given.new self.new.pass }
-        ensures answer { MayProgress version (Ask.Rcv id size mtype flags) result given.new }
-        ensures handles { KeepsHandles self.old self.new }
-    {
-        let pass = &mut self.pass;
-        let came = self.service.msgrcv_begin(
-            self.rt, pass, self.clock, cred, id, given, size, mtype, flags,
-        );
-        receive_came(version, came)
+            .begin(self.rt, pass, self.clock, cred, call, body);
+        came_to(version, op, came)
     }
 
     /// Continues a request that waits, if its wait is over. Looks once at the count for which the
@@ -152,121 +137,99 @@ impl<'a, C: Clock, R: Wait> ServiceHandler<'a, C, R> {
             HasBegun (C.may self.old.clock.now) request.now.version cred request.now.ask text.now
             start result given.new self.new.pass }
         // The count is read in each case.
-        ensures looks { GoesOn (C.may self.old.clock.now) request.now.version waiting text.now
-            self.old.pass result given.new self.new.pass }
+        ensures looks { GoesOn (C.may self.old.clock.now) request.now.version request.now.ask
+            waiting text.now self.old.pass result given.new self.new.pass }
         ensures answer { MayProgress request.now.version request.now.ask result given.new }
         ensures handles { KeepsHandles self.old self.new }
     {
+        let version = request.version;
         match waiting {
-            Waiting::Send(wait) => self.send_on(request.version, text, wait),
-            Waiting::Receive(wait) => self.receive_on(request.version, given, wait),
-            Waiting::Get(wait) => self.get_on(request.version, wait),
+            Waiting::Send(_) => {
+                let mut text = text;
+                self.continue_call(version, Op::Snd, &mut text, waiting)
+            }
+            Waiting::Receive(_) => self.continue_call(version, Op::Rcv, given, waiting),
+            Waiting::Get(_) => {
+                let mut none: Option<Body> = None;
+                self.continue_call(version, Op::Get, &mut none, waiting)
+            }
         }
     }
 
-    /// Continues a `msgget`.
-    fn get_on(&mut self, version: Version, wait: GetWait) -> Progress<Waiting, RequestOutcome>
-        ensures looks { (text : List ℕ) → GoesOn (C.may self.old.clock.now) version
-            (Waiting.Get wait) text self.old.pass result [] self.new.pass }
-        ensures handles { KeepsHandles self.old self.new }
-    {
-        let pass = &mut self.pass;
-        let Some(get) = self.service.msgget_look(pass, &wait) else {
-            return Progress::Waits(Waiting::Get(wait));
-        };
-        let came = self.service.msgget_go_on(self.rt, pass, self.clock, get);
-        get_came(version, came)
-    }
-
-    /// Continues a `msgsnd` of the body.
-    fn send_on(
+    /// Looks once at the count for which a call waits, and makes its steps if the wait is over.
+    fn continue_call<B: CallBody>(
         &mut self,
         version: Version,
-        text: &Body,
-        wait: SendWait,
+        op: Op,
+        body: &mut B,
+        waiting: Waiting,
     ) -> Progress<Waiting, RequestOutcome>
-        requires { length text.now ≤ MESSAGE_BYTES }
-        ensures looks { GoesOn (C.may self.old.clock.now) version (Waiting.Send wait) text.now
-            self.old.pass result [] self.new.pass }
+        requires kind { B.serves (kind_waiting waiting) }
+        requires can { CanWait waiting (B.bytes body.old) }
+        ensures kind { MayCome (kind_waiting waiting) version op result (B.bytes body.new) }
+        ensures same { B.is_lent → B.bytes body.new ≡ B.bytes body.old }
+        ensures looks { CallGoesOn (C.may self.old.clock.now) version op waiting
+            (B.bytes body.old) self.old.pass result (B.bytes body.new) self.new.pass }
         ensures handles { KeepsHandles self.old self.new }
     {
         let pass = &mut self.pass;
-        let Some(send) = self.service.msgsnd_look(pass, &wait) else {
-            return Progress::Waits(Waiting::Send(wait));
+        let Some(step) = self.service.look(pass, &waiting) else {
+            return Progress::Waits(waiting);
         };
-        let came = self
-            .service
-            .msgsnd_go_on(self.rt, pass, self.clock, text, send);
-        send_came(version, came)
-    }
-
-    /// Continues a `msgrcv` into `given`.
-    fn receive_on(
-        &mut self,
-        version: Version,
-        given: &mut Body,
-        wait: ReceiveWait,
-    ) -> Progress<Waiting, RequestOutcome>
-        requires { given.old ≡ [] }
-        ensures looks { (text : List ℕ) → GoesOn (C.may self.old.clock.now) version
-            (Waiting.Receive wait) text self.old.pass result given.new self.new.pass }
-        ensures handles { KeepsHandles self.old self.new }
-    {
-        let pass = &mut self.pass;
-        let Some(receive) = self.service.msgrcv_look(pass, &wait) else {
-            return Progress::Waits(Waiting::Receive(wait));
-        };
-        let came = self
-            .service
-            .msgrcv_go_on(self.rt, pass, self.clock, given, receive);
-        receive_came(version, came)
+        let came = self.service.go_on(self.rt, pass, self.clock, step, body);
+        came_to(version, op, came)
     }
 }
 
-/// Returns how far the request of a get has come.
-fn get_came(
+/// Returns how far a request has come, by how far its call has come.
+fn came_to(
     version: Version,
-    came: Progress<GetWait, Result<i32, Errno>>,
+    op: Op,
+    came: Progress<Waiting, Ended>,
 ) -> Progress<Waiting, RequestOutcome>
-    ensures { result ≡ get_progress version came }
+    ensures { result ≡ progress_of version op came }
 {
     match came {
-        Progress::Waits(wait) => Progress::Waits(Waiting::Get(wait)),
-        Progress::Over(Ok(id)) => Progress::Over(reply(version, Op::Get, ReplyContent::Get { id })),
-        Progress::Over(Err(why)) => {
-            Progress::Over(reply(version, Op::Get, ReplyContent::Refused(why)))
-        }
+        Progress::Waits(waiting) => Progress::Waits(waiting),
+        Progress::Over(ended) => Progress::Over(outcome_of(version, op, ended)),
     }
 }
 
-/// Returns how far the request of a send has come.
-fn send_came(
-    version: Version,
-    came: Progress<SendWait, Result<(), Errno>>,
-) -> Progress<Waiting, RequestOutcome>
-    ensures { result ≡ send_progress version came }
+/// Returns the outcome of a request whose call is over: the message of a receive, or a reply.
+fn outcome_of(version: Version, op: Op, ended: Ended) -> RequestOutcome
+    ensures { result ≡ outcome_told version op ended }
 {
-    match came {
-        Progress::Waits(wait) => Progress::Waits(Waiting::Send(wait)),
-        Progress::Over(Ok(())) => Progress::Over(reply(version, Op::Snd, ReplyContent::Snd)),
-        Progress::Over(Err(why)) => {
-            Progress::Over(reply(version, Op::Snd, ReplyContent::Refused(why)))
-        }
+    let Ended {
+        outcome,
+        receives: _,
+        delivery,
+    } = ended;
+    match delivery {
+        Some(delivery) => RequestOutcome::Got(delivery),
+        None => reply(version, op, content_of(op, outcome)),
     }
 }
 
-/// Returns how far the request of a receive has come.
-fn receive_came(
-    version: Version,
-    came: Progress<ReceiveWait, Result<Delivery, Errno>>,
-) -> Progress<Waiting, RequestOutcome>
-    ensures { result ≡ receive_progress version came }
+/// Returns what the reply to a request of this operation reports of the outcome of its call.
+fn content_of(op: Op, outcome: Outcome) -> ReplyContent
+    ensures { result ≡ content_told op outcome }
 {
-    match came {
-        Progress::Waits(wait) => Progress::Waits(Waiting::Receive(wait)),
-        Progress::Over(Ok(delivery)) => Progress::Over(RequestOutcome::Got(delivery)),
-        Progress::Over(Err(why)) => {
-            Progress::Over(reply(version, Op::Rcv, ReplyContent::Refused(why)))
-        }
+    match outcome {
+        Outcome::Id(id) => ReplyContent::Get { id },
+        Outcome::Zero => done_by(op),
+        Outcome::Got { mtype, len: _ } => ReplyContent::Rcv { mtype },
+        Outcome::Stat(stat) => ReplyContent::Stat(shown_stat(stat)),
+        Outcome::Refused(why) => ReplyContent::Refused(why),
+    }
+}
+
+/// Returns the report that a call of this operation was done that returns no value.
+fn done_by(op: Op) -> ReplyContent
+    ensures { result ≡ content_done op }
+{
+    match op {
+        Op::Set => ReplyContent::Set,
+        Op::Rm => ReplyContent::Rm,
+        _send => ReplyContent::Snd,
     }
 }

@@ -17,7 +17,6 @@ mod parked;
 mod send_frame;
 mod socket_stream;
 mod tools;
-mod waiting;
 mod zero;
 
 pub use book::Replies;
@@ -30,6 +29,6 @@ pub use notification::Notification;
 pub use parked::Parked;
 pub use send_frame::snd_text;
 pub use socket_stream::SocketStream;
+pub use sysv_service::Waiting;
 pub use tools::Tools;
-pub use waiting::{Awaited, Waiting};
 pub use zero::{ZERO, Zero};

@@ -35,9 +35,10 @@ use Rattle.sysv_service.specs.Counts.{pool_counts}
 use Rattle.sysv_service.specs.Gated.{IsSlot, IsRegistry, IsPool, as_slot, as_registry, as_pool, GatedMoves}
 use Rattle.sysv_service.specs.Gated.{gated_counts}
 use Rattle.sysv_service.specs.ObjectKinds.{Kind, seat_as}
-use Rattle.sysv_service.specs.declared.shared_count.SharedCount.{SharedCount}
-use Rattle.sysv_service.specs.declared.shared_count.SharedCount.TheVariants as shared
-use Rattle.sysv_service.specs.SharedCounts.{count_of, place_with, count_there}
+use Rattle.sysv_steps.specs.declared.pending.Awaited.{Awaited as SharedCount}
+use Rattle.sysv_steps.specs.declared.pending.Awaited.TheVariants as shared
+use Rattle.sysv_steps.specs.Pending.{count_meant}
+use Rattle.sysv_service.specs.SharedCounts.{place_with, count_there}
 use Rattle.sysv_service.specs.Reading.{Finds, FindsAndGivesUp, Reads, Awaits}
 use Rattle.sysv_service.specs.Order.{GatedPass}
 use Rattle.sysv_service.specs.Banked.{AreByKind, seats_seen}
@@ -200,7 +201,7 @@ module _ (before after : GatedPass) (kinds : AreByKind (gates_of before.seats))
 
   found : (count : SharedCount) (n : ℕ)
       → ChangesAt (place_with count) before.seats after.seats (ReadThere (count_there count) n)
-      → Reads (count_of count) n (seats_seen before) (seats_seen after)
+      → Reads (count_meant count) n (seats_seen before) (seats_seen after)
   found shared.Settled n c = finds as_registry IsRegistry registry_counts 0 before.seats after.seats RegistryChanges
       registry_seen registry_learn Arrived n c
   found shared.Released n c =
@@ -216,7 +217,7 @@ module _ (before after : GatedPass) (kinds : AreByKind (gates_of before.seats))
 
   ended : (count : SharedCount) (goal : ℕ) (awaited : Awaited)
       → ChangesAt (place_with count) before.seats after.seats (WaitedThere (count_there count) goal awaited)
-      → Awaits (count_of count) goal (seats_seen before) awaited (seats_seen after)
+      → Awaits (count_meant count) goal (seats_seen before) awaited (seats_seen after)
   ended shared.Settled goal awaited c = awaits_settled goal awaited c
   ended shared.Released goal awaited c = awaits_released goal awaited c
   ended (shared.Arrived id) goal awaited c = awaits_arrived (slot_of_id id) goal awaited c
@@ -225,14 +226,14 @@ module _ (before after : GatedPass) (kinds : AreByKind (gates_of before.seats))
   module _ (count : SharedCount) (place : ℕ) (there : Count) (at : place ≡ place_with count)
       (which : there ≡ count_there count) where
     pub reads : (n : ℕ) → ChangesAt place before.seats after.seats (ReadThere there n) →
-        Reads (count_of count) n (seats_seen before) (seats_seen after)
+        Reads (count_meant count) n (seats_seen before) (seats_seen after)
     reads n c =
         let one = subst (λ k. ChangesAt place before.seats after.seats (ReadThere k n)) which c in
         found count n (subst (λ p. ChangesAt p before.seats after.seats (ReadThere (count_there count) n)) at one)
 
     pub awaits : (goal : ℕ) (awaited : Awaited) →
         ChangesAt place before.seats after.seats (WaitedThere there goal awaited) →
-        Awaits (count_of count) goal (seats_seen before) awaited (seats_seen after)
+        Awaits (count_meant count) goal (seats_seen before) awaited (seats_seen after)
     awaits goal awaited c =
         let one = subst (λ k. ChangesAt place before.seats after.seats (WaitedThere k goal awaited)) which c in
         ended count goal awaited

@@ -16,8 +16,9 @@ pub mod OrderedHistories
 pub mod ClosedParts
 pub mod ReadsInOrder
 pub mod Crossing
-pub mod ProceedsByStep
-pub mod ReceiveGivesTaken
+pub mod WaitEnds
+pub mod KindsServed
+pub mod Untimed
 pub mod FirstPassFits
 pub mod SlotBySlot
 pub mod RetryAtGoal

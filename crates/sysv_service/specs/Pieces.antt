@@ -1,125 +1,171 @@
--- The pieces of a call, one after another, are the call. This project's profile.
-use Rattle.std.proofs.Common.{ℕ, ℤ, inl, inr, List, [], ◌∷◌, ◌++◌, ◌⊎◌, Result, Ok, Err, IfOk, subst}
+-- The steps and the waits of a call, one after another, are the call. This project's profile.
+use Rattle.std.proofs.Common.{◌≡◌, ◌≤◌, ℕ, inl, inr, List, [], ◌∷◌, ◌++◌, Option, Some, None, true, refl, sym, ap, subst}
 use Rattle.std.specs.Prelude.{⊤}
-use Rattle.sysv_model.specs.declared.errno.Errno.{Errno}
 use Rattle.sysv_model.specs.Turn.{Op}
-use Rattle.sysv_queue.specs.Delivery.{Given}
-use Rattle.sysv_steps.specs.Call.{Kind, Gets, Sends, Receives}
-use Rattle.sysv_steps.specs.State.{Phase, State, Wait, Goes, Waits, Over}
-use Rattle.sysv_steps.specs.Resume.{awaited}
-use Rattle.sysv_steps.specs.Giving.{HaveTaken}
-use Rattle.sysv_service.specs.declared.progress.Progress.{Progress}
-use Rattle.sysv_service.specs.declared.progress.Progress.TheVariants as progress
-use Rattle.sysv_steps.specs.declared.receive.ReceiveWait.{ReceiveWait}
-use Rattle.sysv_steps.specs.declared.send.SendWait.{SendWait}
-use Rattle.sysv_steps.specs.declared.get.GetWait.{GetWait}
-use Rattle.sysv_service.specs.Ran.{Pass, Ran, begins, steps, turns_back, reads, resumes, gives_up, Comes}
-use Rattle.sysv_service.specs.Delivered.{HasGiven}
-use Rattle.sysv_service.specs.Pending.{ReceivesOn, SendsOn, GetsOn, IsReached, StillWaits}
+use Rattle.sysv_steps.specs.Call.{Kind}
+use Rattle.sysv_steps.specs.State.{Phase, State, Wait, Ending, Goes, Waits, Over}
+use Rattle.sysv_steps.specs.Answered.{outcome_of, text_given, EndsAs}
+use Rattle.sysv_steps.specs.Giving.{AreTaken}
+use Rattle.sysv_steps.specs.Kinds.{gives_back}
+use Rattle.sysv_steps.specs.Resume.{awaited, resume}
+use Rattle.sysv_steps.specs.Stepping.{ops_made}
+use Rattle.sysv_steps.specs.Pending.{Pending, pending, phase_of, wait_of, text_in, delivery_in, ComesTo}
+use Rattle.sysv_steps.specs.declared.pending.Pending.TheVariants as pending_call
+use Rattle.sysv_steps.specs.declared.pending.Step.{Step}
+use Rattle.sysv_steps.specs.declared.pending.Waiting.{Waiting}
+use Rattle.sysv_steps.specs.declared.progress.Ended.{Ended}
+use Rattle.sysv_steps.specs.declared.progress.Progress.{Progress as Led}
+use Rattle.sysv_steps.specs.declared.progress.Progress.TheVariants as led
+use Rattle.sysv_service.specs.Seats.{MakesTurnAt, FindsWorn}
+use Rattle.sysv_service.specs.Ran.{Pass, Ran, begins, steps, turns_back, reads, resumes, gives_up, StepsOn}
+use Rattle.sysv_service.specs.Waited.{EndsWait}
+use Rattle.sysv_service.specs.Pending.{ComesOn, StepsTo, EndsTheWait, HasKind, IsReached, StillWaits}
 
--- ---- what was taken was taken on the whole way
+-- ---- the start
 
-taken_before : (given : Given) (ops more : List Op) → HaveTaken given ops → HaveTaken given (ops ++ more)
-taken_before given [] more has = absurd has
-taken_before given (d ∷ ds) more (inl takes) = inl takes
-taken_before given (d ∷ ds) more (inr has) = inr (taken_before given ds more has)
+module _ {kind : Kind} (may : ℕ → Type 0) (from : State kind) (old : Pass) where
+  pub comes_first : (begun : Led) (body : Option (List ℕ)) → ComesTo from begun body → delivery_in begun ≡ None →
+      ComesOn may from old begun body old
+  comes_first begun body to none =
+      (from, [], begins, to, subst (λ d. AreTaken d []) (sym none) tt)
 
-taken_after : (given : Given) (ops more : List Op) → HaveTaken given more → HaveTaken given (ops ++ more)
-taken_after given [] more has = has
-taken_after given (d ∷ ds) more has = inr (taken_after given ds more has)
-
-taken_in_part : (given : Given) (ops more : List Op) → HaveTaken given (ops ++ more) →
-    HaveTaken given ops ⊎ HaveTaken given more
-taken_in_part given [] more has = inr has
-taken_in_part given (d ∷ ds) more (inl takes) = inl (inl takes)
-taken_in_part given (d ∷ ds) more (inr has) = elim (taken_in_part given ds more has) [
-  | inl here ↦ inl (inr here)
-  | inr there ↦ inr there
-]
-
--- What is taken in the second list is taken in the first.
-abbrev pub Keeps : List Op → List Op → Type 0
-Keeps all ops = (given : Given) → HaveTaken given ops → HaveTaken given all
-
-keeps_on : (all ops more : List Op) → Keeps all ops → Keeps (all ++ more) (ops ++ more)
-keeps_on all ops more keeps = λ given has. elim (taken_in_part given ops more has) [
-  | inl here ↦ taken_before given all more (keeps given here)
-  | inr there ↦ taken_after given all more there
-]
+-- A call that has come so far is of its kind.
+pub has_kind : {kind : Kind} (state : State kind) (to : Led) (body : Option (List ℕ)) → ComesTo state to body →
+    HasKind kind to
+has_kind state (led.On p) body is = sym (ap (λ (q : Pending). q.kind) is)
+has_kind (Over ending) (led.Over ended) body is = (is.3, is.1)
+has_kind (Goes phase) (led.Over ended) body is = absurd is
+has_kind (Waits wait) (led.Over ended) body is = absurd is
 
 -- ---- one piece after another
 
-module _ {kind : Kind} (may : ℕ → Type 0) (from : State kind) (old : Pass) (there : State kind) (here : Pass) where
-  -- The whole way, with all turns that were made on it.
-  abbrev pub Whole : List Op → State kind → Pass → Type 0
-  Whole ops state new = (all : List Op) × Ran may from old all state new × Keeps all ops
+module _ (may : ℕ → Type 0) (old mid new : Pass) (result : Led) (body : Option (List ℕ)) where
+  -- From a state of a call, the call came on. `R` relates the turns before and after.
+  abbrev Follows : (List Op → List Op → Type 0) → Pending → Type 0
+  Follows R q = (from : State q.kind) (ops : List Op) → Ran may from old ops q.state mid →
+      (state : State q.kind) × (all : List Op) × Ran may from old all state new × ComesTo state result body × R ops all
 
-  through : Comes may from old there here → (ops : List Op) (state : State kind) (new : Pass) →
-      Ran may there here ops state new → Whole ops state new
-  through came _ _ _ begins = (came.0, came.1, λ given has. absurd has)
-  through came _ _ _ (steps {ops} {phase} {mid} state new ran step) =
-      let before = through came ops (Goes phase) mid ran in
-      (before.0 ++ step.op ∷ [], steps state new before.1 step, keeps_on before.0 ops (step.op ∷ []) before.2)
-  through came _ _ _ (turns_back {ops} {phase} {mid} state new ran step) =
-      let before = through came ops (Goes phase) mid ran in
-      (before.0 ++ step.ops, turns_back state new before.1 step, keeps_on before.0 ops step.ops before.2)
-  through came _ _ _ (reads {ops} {state} {mid} count value new ran r same) =
-      let before = through came ops state mid ran in
-      (before.0, reads count value new before.1 r same, before.2)
-  through came _ _ _ (resumes {ops} {wait} {mid} value new ran reached r same) =
-      let before = through came ops (Waits wait) mid ran in
-      (before.0, resumes value new before.1 reached r same, before.2)
-  through came _ _ _ (gives_up {ops} {wait} {mid} value new ran below r same) =
-      let before = through came ops (Waits wait) mid ran in
-      (before.0, gives_up value new before.1 below r same, before.2)
+  abbrev OneMore : List Op → List Op → List Op → Type 0
+  OneMore more ops all = all ≡ ops ++ more
 
-  pub comes_on : (state : State kind) (new : Pass) → Comes may from old there here → Comes may there here state new →
-      Comes may from old state new
-  comes_on state new came goes =
-      let whole = through came goes.0 state new goes.1 in
-      (whole.0, whole.1)
+  abbrev Any : List Op → List Op → Type 0
+  Any ops all = ⊤
 
-module _ (may : ℕ → Type 0) (from : State Receives) (old : Pass) (there : State Receives) (here : Pass) where
-  pub given_on : (given : Given) (new : Pass) → Comes may from old there here → HasGiven may there here given new →
-      HasGiven may from old given new
-  given_on given new came has =
-      let whole = through may from old there here came has.ops (Over has.ending) new has.ran in
-      record { ending = has.ending; ops = whole.0; ran = whole.1; taken = whole.2 given has.taken }
+  follows : {kind : Kind} (R : List Op → List Op → Type 0) (from state : State kind) (q : Pending) (ops : List Op) →
+      pending state ≡ q → Follows R q → Ran may from old ops state mid →
+      ((all : List Op) → R ops all → AreTaken (delivery_in result) all) → ComesOn may from old result body new
+  follows R from state q ops is goes ran taken =
+      let from_here : Follows R (pending state) = subst (Follows R) (sym is) goes in
+      let r = from_here from ops ran in
+      (r.0, r.1, r.2, r.3, taken r.1 r.4)
 
-  pub if_given : (told : Result Given Errno) (new : Pass) → Comes may from old there here →
-      IfOk told (λ given. HasGiven may there here given new) → IfOk told (λ given. HasGiven may from old given new)
-  if_given (Ok given) new came has = given_on given new came has
-  if_given (Err why) new came has = tt
+  stepped : {kind : Kind} (phase : Phase kind) (state : State kind) (made : StepsOn may phase mid state new) →
+      ComesTo state result body →
+      Follows (OneMore (ops_made MakesTurnAt FindsWorn may phase mid.seats mid.held state new.seats new.held made))
+      (pending (Goes phase))
+  stepped phase state (inl s) to = λ from ops ran. (state, ops ++ s.op ∷ [], steps state new ran s, to, refl)
+  stepped phase state (inr w) to = λ from ops ran. (state, ops ++ w.ops, turns_back state new ran w, to, refl)
 
-  pub receives_on : (p : Progress ReceiveWait (Result Given Errno)) (out : List ℕ) (new : Pass) →
-      Comes may from old there here → ReceivesOn may there here p out new → ReceivesOn may from old p out new
-  receives_on (progress.Waits w) out new came on = (comes_on may from old there here _ new came on.0, on.1)
-  receives_on (progress.Over told) out new came on =
-      ((on.0.0, comes_on may from old there here (Over on.0.0) new came on.0.1, on.0.2), if_given told new came on.1)
+  waited : {kind : Kind} (wait : Wait kind) (state : State kind) → EndsWait wait mid state new →
+      ComesTo state result body → Follows Any (pending (Waits wait))
+  waited wait state (inl e) to = λ from ops ran. elim e.3 [
+    | inl on ↦ (
+      Goes (resume wait e.0),
+      ops,
+      resumes e.0 new ran on.0 e.1 e.2,
+      subst (λ s. ComesTo s result body) on.1 to,
+      tt,
+    )
+    | inr still ↦ (
+      Waits wait,
+      ops,
+      reads (awaited wait) e.0 new ran e.1 e.2,
+      subst (λ s. ComesTo s result body) still to,
+      tt,
+    )
+  ]
+  waited wait state (inr e) to = λ from ops ran. (
+    _,
+    ops,
+    gives_up e.0 new ran e.1 e.2 e.3,
+    subst (λ s. ComesTo s result body) e.4 to,
+    tt,
+  )
 
-module _ (may : ℕ → Type 0) (from : State Sends) (old : Pass) (there : State Sends) (here : Pass) where
-  pub sends_on : (p : Progress SendWait (Result ⊤ Errno)) (text : List ℕ) (new : Pass) →
-      Comes may from old there here → SendsOn may there here p text new → SendsOn may from old p text new
-  sends_on (progress.Waits w) text new came on = (comes_on may from old there here _ new came on.0, on.1)
-  sends_on (progress.Over told) text new came on =
-      (on.0, comes_on may from old there here (Over on.0) new came on.1, on.2)
+  module _ {kind : Kind} (from : State kind) (text : Option (List ℕ)) where
+    -- The call makes a step.
+    pub comes_by_step : (s : Step) → ComesOn may from old (led.On (pending_call.At s)) text mid →
+        StepsTo may s text mid result body new → ComesOn may from old result body new
+    comes_by_step s came made =
+        let phase = phase_of s (text_in text) in
+        let more = ops_made MakesTurnAt FindsWorn may phase mid.seats mid.held made.0 new.seats new.held made.1 in
+        follows (OneMore more) from came.0 (pending (Goes phase)) came.1 came.3 (stepped phase made.0 made.1 made.2)
+        came.2
+        (λ all is. subst (AreTaken (delivery_in result)) (sym is) (made.3 came.1 came.4))
 
-module _ (may : ℕ → Type 0) (from : State Gets) (old : Pass) (there : State Gets) (here : Pass) where
-  pub gets_on : (p : Progress GetWait (Result ℤ Errno)) (new : Pass) → Comes may from old there here →
-      GetsOn may there here p new → GetsOn may from old p new
-  gets_on (progress.Waits w) new came on = comes_on may from old there here _ new came on
-  gets_on (progress.Over told) new came on = (on.0, comes_on may from old there here (Over on.0) new came on.1, on.2)
+-- The wait of the call ends.
+pub comes_by_wait : (may : ℕ → Type 0) {kind : Kind} (from : State kind) (old mid new : Pass) (w : Waiting) (result : Led)
+    (body : Option (List ℕ)) → ComesOn may from old (led.On (pending_call.Waits w)) body mid →
+    EndsTheWait w body mid result new → ComesOn may from old result body new
+comes_by_wait may from old mid new w result body came ended =
+    follows may old mid new result body (Any may old mid new result body) from came.0
+    (pending (Waits (wait_of w (text_in body)))) came.1 came.3
+    (waited may old mid new result body (wait_of w (text_in body)) ended.0 ended.1 ended.2) came.2
+    (λ all any. subst (λ d. AreTaken d all) (sym ended.3) tt)
 
 -- ---- a look
 
-module _ {kind : Kind} (may : ℕ → Type 0) (from : State kind) (old : Pass) (wait : Wait kind) (mid : Pass) where
+module _ (may : ℕ → Type 0) {kind : Kind} (from : State kind) (old mid new : Pass) (w : Waiting)
+    (body : Option (List ℕ)) where
   -- The call goes on.
-  pub comes_to_goal : (phase : Phase kind) (new : Pass) → Comes may from old (Waits wait) mid →
-      IsReached wait mid phase new → Comes may from old (Goes phase) new
-  comes_to_goal phase new came look =
-      subst (λ p. Comes may from old (Goes p) new) look.4 (came.0, resumes look.0 new came.1 look.1 look.2 look.3)
+  pub comes_to_goal : (s : Step) → ComesOn may from old (led.On (pending_call.Waits w)) body mid →
+      IsReached w (text_in body) mid s new → ComesOn may from old (led.On (pending_call.At s)) body new
+  comes_to_goal s came look =
+      let wait = wait_of w (text_in body) in
+      let result = led.On (pending_call.At s) in
+      follows may old mid new result body (Any may old mid new result body) from came.0 (pending (Waits wait)) came.1
+      came.3 (λ from ops ran. (
+        Goes (resume wait look.0),
+        ops,
+        resumes look.0 new ran look.1 look.2 look.3,
+        look.4,
+        tt,
+      )) came.2 (λ all any. subst (λ d. AreTaken d all) (sym look.5) tt)
 
   -- The call still waits.
-  pub comes_to_wait : (new : Pass) → Comes may from old (Waits wait) mid → StillWaits wait mid new →
-      Comes may from old (Waits wait) new
-  comes_to_wait new came look = (came.0, reads (awaited wait) look.0.0 new came.1 look.0.2 look.1)
+  pub comes_to_wait : ComesOn may from old (led.On (pending_call.Waits w)) body mid →
+      StillWaits (wait_of w (text_in body)) mid new → ComesOn may from old (led.On (pending_call.Waits w)) body new
+  comes_to_wait came look =
+      let wait = wait_of w (text_in body) in
+      let result = led.On (pending_call.Waits w) in
+      follows may old mid new result body (Any may old mid new result body) from came.0 (pending (Waits wait)) came.1
+      came.3 (λ from ops ran. (Waits wait, ops, reads (awaited wait) look.0.0 new ran look.0.2 look.1, refl, tt)) came.2
+      (λ all any. tt)
+
+-- ---- the end
+
+-- A call that is over has come to an end.
+pub record IsOver {kind : Kind} (may : ℕ → Type 0) (from : State kind) (old : Pass) (ended : Ended)
+    (body : Option (List ℕ)) (new : Pass) : Type 0 where
+  pub ending : Ending
+  pub ops : List Op
+  pub ran : Ran may from old ops (Over ending) new
+  pub outcome : ended.outcome ≡ outcome_of ending
+  pub bytes : gives_back kind ≡ true → body ≡ Some (text_given ending)
+  pub ends : EndsAs ended.outcome kind
+  pub taken : AreTaken ended.delivery ops
+
+pub is_over : {kind : Kind} (may : ℕ → Type 0) (from : State kind) (old : Pass) (ended : Ended)
+    (body : Option (List ℕ)) (new : Pass) → ComesOn may from old (led.Over ended) body new →
+    IsOver may from old ended body new
+is_over may from old ended body new (Over ending, ops, ran, to, taken) = record {
+  ending = ending;
+  ops = ops;
+  ran = ran;
+  outcome = to.0;
+  bytes = to.2;
+  ends = to.3;
+  taken = taken;
+}
+is_over may from old ended body new (Goes phase, ops, ran, to, taken) = absurd to
+is_over may from old ended body new (Waits wait, ops, ran, to, taken) = absurd to

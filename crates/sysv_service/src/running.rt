@@ -1,186 +1,183 @@
-//! Running a call: steps and waits, until it is over.
+//! Running a pending call: steps and waits, until it is over.
 
-ghost use Rattle.std.specs.Prelude.{◌≡◌, ℕ, ◌+◌, ⊤, Err};
-ghost use Rattle.sysv_model.specs.declared.errno.Errno.{Errno as Why};
-ghost use Rattle.sysv_steps.specs.declared.state.State.{State as StateKept};
-ghost use Rattle.sysv_steps.specs.declared.state.State.TheVariants.{Over as IsOver};
-ghost use Rattle.sysv_steps.specs.Call.{Kind};
-ghost use Rattle.sysv_steps.specs.State.{Phase as PhaseSeen, Wait as WaitSeen, Ending as EndingSeen, Over};
-ghost use Rattle.sysv_steps.specs.Resume.{awaited as is_awaited, goal_of, resume as resumes};
-ghost use Rattle.sysv_steps.specs.Seen.{ending_of, state_of};
-ghost use Rattle.sysv_steps.specs.Stepping.{no_moment};
+ghost use Rattle.std.specs.Prelude.{◌≡◌, ℕ, List, [], Option, None};
+ghost use Rattle.sysv_steps.specs.Answered.{outcome_of, EndsAs};
+ghost use Rattle.sysv_steps.specs.Asked.{asked_by};
+ghost use Rattle.sysv_steps.specs.Begin.{begin as begins};
+ghost use Rattle.sysv_steps.specs.Call.{Kind, kind_of};
+ghost use Rattle.sysv_steps.specs.State.{Over, Ending as Ends};
+ghost use Rattle.sysv_service.specs.Ran.{Comes};
+ghost use Rattle.sysv_steps.specs.Pending.{kind_at, kind_waiting, pending_kind, Brings, CanGoOn, CanStep, CanWait, StillCanGoOn, IsDelivered};
 ghost use Rattle.sysv_service.specs.Seats.{AreOf};
-ghost use Rattle.sysv_service.specs.SharedCounts.{count_of};
-ghost use Rattle.sysv_service.specs.Ran.{StepsOn, Comes};
-ghost use Rattle.sysv_service.specs.Pending.{stopped_at, StoppedBy};
-ghost use Rattle.sysv_service.specs.Waited.{EndsWait};
+ghost use Rattle.sysv_service.specs.Pending.{stopped, Advances, EndsTheWait, HasKind, ServesIn, StepsTo};
 
+use crate::AtGates;
 use crate::pass::Pass;
 use crate::progress::Progress;
 use crate::service::Service;
-use crate::shared_count::SharedCount;
 use crate::waiting::Waited;
 use std::sync::Wait as MayWait;
-use sysv_model::Errno;
-use sysv_steps::{NoWait, State};
-
-/// The steps of one of the calls, with what they use.
-pub(crate) trait Stepper {
-    /// Its steps.
-    type Step;
-
-    /// Its waits.
-    type Wait: Drop;
-
-    /// Its result.
-    type Done;
-
-    /// The times that its clock may return. It may have no clock.
-    ghost may: { Self → ℕ → Type 0 } = { λ _. no_moment };
-
-    /// The kind of its call.
-    ghost kind: { Kind };
-
-    /// The meaning of its steps, its waits and its result.
-    ghost phase: { Self → Self.Step → PhaseSeen kind };
-
-    ghost wait: { Self → Self.Wait → WaitSeen kind };
-
-    ghost ending: { Self → Self.Done → EndingSeen };
-
-    /// What its steps need of what they use.
-    ghost can: { Self → StateKept Self.Step Self.Wait Self.Done → Type 0 } = { λ _ _. ⊤ };
-
-    /// Makes one step.
-    fn step(
-        &self,
-        rt: &impl MayWait,
-        service: &Service,
-        pass: &mut Pass,
-        step: Self::Step,
-    ) -> State<Self::Step, Self::Wait, Self::Done>
-        requires pass { AreOf service.now pass.old.seats }
-        requires can { can self.now (State.Goes step) }
-        ensures pass { AreOf service.now pass.new.seats }
-        ensures can { can self.now result }
-        ensures steps { StepsOn (may self.now) (phase self.now step) pass.old
-            (state_of (phase self.now) (wait self.now) (ending self.now) result) pass.new };
-
-    /// It may be refused with any error.
-    ghost is_refused: { (s : Self) (why : Why) → can s (IsOver (Err why)) };
-}
-
-/// The waits of a call that may wait.
-pub(crate) trait Waiter: Stepper {
-    /// Returns the count for which it waits, and the value above which the count must rise.
-    fn awaited(&self, waits: &Self::Wait) -> (SharedCount, u64)
-        ensures count { count_of result.0 ≡ is_awaited (Self.wait self.now waits.now) }
-        ensures above { goal_of (Self.wait self.now waits.now) ≡ result.1 + 1 };
-
-    /// Returns the step at which it continues after the value `value` of its count ended the wait.
-    fn resume(&self, waits: Self::Wait, value: u64) -> Self::Step
-        requires { Self.can self.now (State.Waits waits) }
-        ensures next { resumes (Self.wait self.now waits) value ≡ Self.phase self.now result }
-        ensures can { Self.can self.now (State.Goes result) };
-}
+use sysv_model::{Body, Cred, Errno};
+use sysv_steps::{Call, CallBody, Clock, Ended, Pending, Progress as Led, Step, Waiting};
 
 impl Service {
-    /// Runs a call that has begun until it is over.
-    pub(crate) fn run<S: Waiter>(
+    /// Runs a call until it is over.
+    #[inline(always)]
+    pub(crate) fn run<C: Clock, B: CallBody>(
         &self,
         rt: &impl MayWait,
         pass: &mut Pass,
-        stepper: &S,
-        begun: State<S::Step, S::Wait, S::Done>,
-    ) -> Result<S::Done, Errno>
+        clock: &C,
+        body: &mut B,
+        begun: Led,
+    ) -> Ended
         requires pass { AreOf self.now pass.old.seats }
-        requires can { S.can stepper.now begun }
+        requires kind { ServesIn B.serves begun }
+        requires can { StillCanGoOn begun (B.bytes body.old) }
         ensures pass { AreOf self.now pass.new.seats }
-        ensures ran { Comes (S.may stepper.now)
-            (state_of (S.phase stepper.now) (S.wait stepper.now) (S.ending stepper.now) begun)
-            pass.old (Over (ending_of (S.ending stepper.now) result)) pass.new }
+        ensures delivered { IsDelivered result (B.bytes body.new) }
+        ensures ran { Advances (C.may clock.now) begun (B.bytes body.old) pass.old
+            (Led.Over result) (B.bytes body.new) pass.new }
     {
-        let mut state = begun;
+        let mut next = match begun {
+            Led::On(pending) => pending,
+            Led::Over(ended) => return ended,
+        };
         for _ in rt.forever() {
-            state = match self.run_on(rt, pass, stepper, state) {
-                Progress::Waits(wait) => self.wait_out(rt, pass, stepper, wait),
-                Progress::Over(told) => return told,
+            next = match self.go_or_wait(rt, pass, clock, body, next) {
+                Led::On(pending) => pending,
+                Led::Over(ended) => return ended,
             };
         }
         unreachable!()
     }
 
-    /// Runs a call that has begun, and that never waits, until it is over.
-    pub(crate) fn finish<S: Stepper<Wait = NoWait>>(
+    /// Makes the steps of a call until it waits or is over, or waits until its wait is over.
+    #[inline(always)]
+    fn go_or_wait<C: Clock, B: CallBody>(
         &self,
         rt: &impl MayWait,
         pass: &mut Pass,
-        stepper: &S,
-        begun: State<S::Step, NoWait, S::Done>,
-    ) -> Result<S::Done, Errno>
+        clock: &C,
+        body: &mut B,
+        pending: Pending,
+    ) -> Led
         requires pass { AreOf self.now pass.old.seats }
-        requires can { S.can stepper.now begun }
+        requires kind { B.serves (pending_kind pending) }
+        requires can { CanGoOn pending (B.bytes body.old) }
         ensures pass { AreOf self.now pass.new.seats }
-        ensures ran { Comes (S.may stepper.now)
-            (state_of (S.phase stepper.now) (S.wait stepper.now) (S.ending stepper.now) begun)
-            pass.old (Over (ending_of (S.ending stepper.now) result)) pass.new }
+        ensures serves { ServesIn B.serves result }
+        ensures can { StillCanGoOn result (B.bytes body.new) }
+        ensures ran { Advances (C.may clock.now) (Led.On pending) (B.bytes body.old) pass.old result
+            (B.bytes body.new) pass.new }
     {
-        match self.run_on(rt, pass, stepper, begun) {
-            Progress::Waits(never) => match never {},
-            Progress::Over(told) => told,
+        match pending {
+            Pending::At(step) => led_of(self.go_on(rt, pass, clock, step, body)),
+            Pending::Waits(wait) => self.wait_out(rt, pass, wait),
         }
     }
 
-    /// Makes the steps of a call that has begun until it waits or is over.
-    pub(crate) fn run_on<S: Stepper>(
+    /// Runs a call that has no body until it is over.
+    pub(crate) fn run_alone<C: Clock>(
         &self,
         rt: &impl MayWait,
         pass: &mut Pass,
-        stepper: &S,
-        begun: State<S::Step, S::Wait, S::Done>,
-    ) -> Progress<S::Wait, Result<S::Done, Errno>>
+        clock: &C,
+        cred: Cred,
+        call: Call<()>,
+    ) -> Ended
         requires pass { AreOf self.now pass.old.seats }
-        requires can { S.can stepper.now begun }
+        requires alone { Brings (kind_of (asked_by (λ _. []) call)) None }
         ensures pass { AreOf self.now pass.new.seats }
-        ensures can { StoppedBy (S.can stepper.now) result }
-        ensures ran { Comes (S.may stepper.now)
-            (state_of (S.phase stepper.now) (S.wait stepper.now) (S.ending stepper.now) begun)
-            pass.old (stopped_at (S.wait stepper.now) (S.ending stepper.now) result) pass.new }
+        ensures kind { EndsAs result.outcome (kind_of (asked_by (λ _. []) call)) }
+        ensures ran { (ending : Ends) × Comes (C.may clock.now)
+            (begins cred (asked_by (λ _. []) call) 0) pass.old (Over ending) pass.new
+            × (result.outcome ≡ outcome_of ending) }
     {
-        let mut state = begun;
-        for _ in rt.forever() {
-            state = match state {
-                State::Goes(step) => stepper.step(rt, self, pass, step),
-                State::Waits(wait) => return Progress::Waits(wait),
-                State::Over(told) => return Progress::Over(told),
-            };
-        }
-        unreachable!()
+        let mut none: Option<Body> = None;
+        let begun = none.begin_call(cred, call, 0);
+        self.run(rt, pass, clock, &mut none, begun)
     }
 
-    /// Waits until the wait of a call is over. Returns the state of the call afterwards: it
-    /// continues, or is over because a gate is worn out. It still waits only if no count can be
-    /// above the value of its wait.
-    fn wait_out<S: Waiter>(
+    /// Makes the steps of a call that has come so far until it waits or is over.
+    #[inline(always)]
+    pub(crate) fn run_on<C: Clock, B: CallBody>(
         &self,
         rt: &impl MayWait,
         pass: &mut Pass,
-        stepper: &S,
-        wait: S::Wait,
-    ) -> State<S::Step, S::Wait, S::Done>
+        clock: &C,
+        body: &mut B,
+        begun: Led,
+    ) -> Progress<Waiting, Ended>
         requires pass { AreOf self.now pass.old.seats }
-        requires can { S.can stepper.now (State.Waits wait) }
+        requires kind { ServesIn B.serves begun }
+        requires can { StillCanGoOn begun (B.bytes body.old) }
         ensures pass { AreOf self.now pass.new.seats }
-        ensures can { S.can stepper.now result }
-        ensures ended { EndsWait (S.wait stepper.now wait) pass.old
-            (state_of (S.phase stepper.now) (S.wait stepper.now) (S.ending stepper.now) result)
-            pass.new }
+        ensures serves { ServesIn B.serves (stopped result) }
+        ensures kind { (kind : Kind) → HasKind kind begun → HasKind kind (stopped result) }
+        ensures can { StillCanGoOn (stopped result) (B.bytes body.new) }
+        ensures same { B.is_lent → B.bytes body.new ≡ B.bytes body.old }
+        ensures ran { Advances (C.may clock.now) begun (B.bytes body.old) pass.old
+            (stopped result) (B.bytes body.new) pass.new }
     {
-        let (count, above) = stepper.awaited(&wait);
+        match begun {
+            Led::On(Pending::At(step)) => self.go_on(rt, pass, clock, step, body),
+            Led::On(Pending::Waits(wait)) => Progress::Waits(wait),
+            Led::Over(ended) => Progress::Over(ended),
+        }
+    }
+
+    /// Makes one step of a call at the gates.
+    #[inline(always)]
+    pub(crate) fn make_step<C: Clock, B: CallBody>(
+        &self,
+        rt: &impl MayWait,
+        pass: &mut Pass,
+        clock: &C,
+        body: &mut B,
+        step: Step,
+    ) -> Led
+        requires pass { AreOf self.now pass.old.seats }
+        requires kind { B.serves (kind_at step) }
+        requires can { CanStep step (B.bytes body.old) }
+        ensures pass { AreOf self.now pass.new.seats }
+        ensures kind { HasKind (kind_at step) result }
+        ensures can { StillCanGoOn result (B.bytes body.new) }
+        ensures same { B.is_lent → B.bytes body.new ≡ B.bytes body.old }
+        ensures steps { StepsTo (C.may clock.now) step (B.bytes body.old) pass.old result
+            (B.bytes body.new) pass.new }
+    {
+        let gates = AtGates::of(rt, &self.gates);
+        body.make_step(&gates, &mut pass.seats, &mut pass.held, clock, step)
+    }
+
+    /// Waits until the wait of a call is over. Returns what the wait leads to: the call continues,
+    /// or is over because a gate is worn out. It still waits only if no count can be above the value
+    /// of its wait.
+    fn wait_out(&self, rt: &impl MayWait, pass: &mut Pass, wait: Waiting) -> Led
+        requires { AreOf self.now pass.old.seats }
+        ensures pass { AreOf self.now pass.new.seats }
+        ensures kind { HasKind (kind_waiting wait) result }
+        ensures can { (body : Option (List ℕ)) → CanWait wait body → StillCanGoOn result body }
+        ensures ended { (body : Option (List ℕ)) → CanWait wait body →
+            EndsTheWait wait body pass.old result pass.new }
+    {
+        let (count, above) = wait.awaits();
         match self.wait_above(rt, pass, count, above) {
-            Waited::Above(value) => State::Goes(stepper.resume(wait, value)),
-            Waited::Still => State::Waits(wait),
-            Waited::Worn => State::Over(Err(Errno::EOVERFLOW)),
+            Waited::Above(value) => Led::On(Pending::At(wait.resume(value))),
+            Waited::Still => Led::On(Pending::Waits(wait)),
+            Waited::Worn => Led::Over(wait.refused(Errno::EOVERFLOW)),
         }
+    }
+}
+
+/// Returns a call that waits or is over, as a pending call or one that is over.
+#[inline(always)]
+fn led_of(came: Progress<Waiting, Ended>) -> Led
+    ensures { result ≡ stopped came }
+{
+    match came {
+        Progress::Waits(wait) => Led::On(Pending::Waits(wait)),
+        Progress::Over(ended) => Led::Over(ended),
     }
 }

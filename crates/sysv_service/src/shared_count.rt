@@ -7,43 +7,29 @@ ghost use Rattle.sysv_service.specs.SharedCounts.{place_with, count_there};
 use crate::gates::{FIRST_SLOT, POOL, REGISTRY};
 use sysv_gate::Count;
 use sysv_keys::slot_of_id;
+pub use sysv_steps::Awaited as SharedCount;
 
-/// A count of one of the objects behind gates.
-#[derive(Clone, Copy)]
-pub enum SharedCount {
-    /// The settled count of the registry.
-    Settled,
-    /// The released count of the pool.
-    Released,
-    /// The arrived count of the identifier's slot.
-    Arrived { id: i32 },
-    /// The freed count of the identifier's slot.
-    Freed { id: i32 },
+/// Returns the place in the bank of the object that has the count.
+pub(crate) fn place_of_count(count: SharedCount) -> usize
+    ensures place { result ≡ place_with count }
+    ensures within { result < SLOTS + 2 }
+{
+    match count {
+        SharedCount::Settled => REGISTRY,
+        SharedCount::Released => POOL,
+        SharedCount::Arrived { id } => slot_of_id(id) + FIRST_SLOT,
+        SharedCount::Freed { id } => slot_of_id(id) + FIRST_SLOT,
+    }
 }
 
-impl SharedCount {
-    /// Returns the place in the bank of the object that has the count.
-    pub(crate) fn place(self) -> usize
-        ensures place { result ≡ place_with self }
-        ensures within { result < SLOTS + 2 }
-    {
-        match self {
-            SharedCount::Settled => REGISTRY,
-            SharedCount::Released => POOL,
-            SharedCount::Arrived { id } => slot_of_id(id) + FIRST_SLOT,
-            SharedCount::Freed { id } => slot_of_id(id) + FIRST_SLOT,
+/// Returns which of the two counts of that object it is.
+pub(crate) fn count_at_place(count: SharedCount) -> Count
+    ensures { result ≡ count_there count }
+{
+    match count {
+        SharedCount::Settled | SharedCount::Released | SharedCount::Arrived { .. } => {
+            Count::Arrived
         }
-    }
-
-    /// Returns which of the two counts of that object it is.
-    pub(crate) fn there(self) -> Count
-        ensures { result ≡ count_there self }
-    {
-        match self {
-            SharedCount::Settled | SharedCount::Released | SharedCount::Arrived { .. } => {
-                Count::Arrived
-            }
-            SharedCount::Freed { .. } => Count::Freed,
-        }
+        SharedCount::Freed { .. } => Count::Freed,
     }
 }

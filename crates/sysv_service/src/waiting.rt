@@ -2,7 +2,7 @@
 
 ghost use Rattle.std.specs.Prelude.{◌≡◌, ◌+◌, ◌≤◌, ◌^◌};
 ghost use Rattle.sysv_service.specs.Seats.{AreOf};
-ghost use Rattle.sysv_service.specs.SharedCounts.{count_of};
+ghost use Rattle.sysv_steps.specs.Pending.{count_meant};
 ghost use Rattle.sysv_service.specs.Waited.{WaitsAbove};
 
 use crate::SharedCount;
@@ -33,7 +33,7 @@ impl Service {
     ) -> Waited
         requires { AreOf self.now pass.old.seats }
         ensures pass { AreOf self.now pass.new.seats }
-        ensures waited { WaitsAbove (count_of count) above pass.old result pass.new }
+        ensures waited { WaitsAbove (count_meant count) above pass.old result pass.new }
         ensures still { result ≡ Waited.Still → 2 ^ 64 ≤ above + 1 }
     {
         let goal = above.saturating_add(1);

@@ -12,8 +12,12 @@ use Rattle.sysv_steps.specs.declared.state.State.TheVariants as state
 use Rattle.sysv_steps.specs.Seen.{receive_phase, receive_state}
 use Rattle.sysv_steps.specs.State.{Receiving, Wait, State}
 use Rattle.sysv_steps.specs.Next.{waits_or, goes_on, after_take}
-use Rattle.sysv_steps.specs.Stepping.{StepsOn, Steps}
-use Rattle.sysv_steps.specs.Giving.{TakesGiven, HaveTaken, ReceiveKept, HasWhatItGives, GivesNothing}
+use Rattle.sysv_steps.specs.Pending.{delivery_at, delivery_in}
+use Rattle.sysv_steps.specs.declared.pending.Step.TheVariants as step
+use Rattle.sysv_steps.specs.declared.progress.Progress.{Progress}
+use Rattle.sysv_steps.specs.Stepping.{StepsOn, Steps, ops_made}
+use Rattle.sysv_steps.proofs.Endings.{taken_goes}
+use Rattle.sysv_steps.specs.Giving.{TakesGiven, AreTaken, HaveTaken, ReceiveKept, HasWhatItGives, GivesNothing}
 use Rattle.sysv_steps.specs.Giving.{StepsGiving, nothing_to_have}
 
 has_more : (given : Given) (ops more : List Op) → HaveTaken given ops → HaveTaken given (ops ++ more)
@@ -81,3 +85,14 @@ module _ {P : Type 0} (takes : P → Op → P → Type 0) (misses : P → Ask �
       StepsOn takes misses may (receive_phase there text) before kept (receive_state stands out) after keeps
   steps_giving (inl step) = inl step.0
   steps_giving (inr step) = inr step.0
+
+  -- What the receive leads to has the message that the receive has.
+  pub steps_taken : (result : Progress) →
+      ((ops : List Op) → HasWhatItGives stands ops → AreTaken (delivery_in result) ops) →
+      StepsGiving takes misses may there text before kept stands out after keeps →
+      (made : StepsOn takes misses may (receive_phase there text) before kept (receive_state stands out) after keeps)
+      × ((ops : List Op) → AreTaken (delivery_at (step.Receive there)) ops →
+      AreTaken (delivery_in result) (ops ++ ops_made takes misses may (receive_phase there text) before kept
+      (receive_state stands out) after keeps made))
+  steps_taken result gives (inl on) = (inl on.0, λ ops has. gives (ops ++ on.0.op ∷ []) (on.1 ops (taken_goes there ops has)))
+  steps_taken result gives (inr on) = (inr on.0, λ ops has. gives (ops ++ on.0.ops) (on.1 ops (taken_goes there ops has)))

@@ -1,6 +1,7 @@
 -- How the code reports the ending of a call (this project's profile): the outcome, and for a
 -- receive the body that it brought, with the bytes of the message or empty.
-use Rattle.std.specs.Prelude.{◌≡◌, Bool, true, false, ℕ, List, [], length, Option, Some, None, if◌then◌else◌}
+use Rattle.std.specs.Prelude.{◌≡◌, Bool, true, false, ℕ, List, [], length, Option, Some, None, if◌then◌else◌, ⊤}
+use Rattle.sysv_steps.specs.Call.{Kind, Gets, Sends, Receives, Stats, Sets, Removes}
 use Rattle.sysv_steps.specs.declared.outcome.Outcome.{Outcome}
 use Rattle.sysv_steps.specs.declared.outcome.Outcome.TheVariants as outcome
 use Rattle.sysv_steps.specs.State.{Ending, Id, Zero, Got, Told, Refused}
@@ -12,6 +13,17 @@ outcome_of Zero = outcome.Zero
 outcome_of (Got mtype text) = outcome.Got mtype (length text)
 outcome_of (Told stat) = outcome.Stat stat
 outcome_of (Refused why) = outcome.Refused why
+
+-- A call of this kind may end so.
+abbrev pub EndsAs : Outcome → Kind → Type 0
+EndsAs (outcome.Id id) Gets = ⊤
+EndsAs outcome.Zero Sends = ⊤
+EndsAs outcome.Zero Sets = ⊤
+EndsAs outcome.Zero Removes = ⊤
+EndsAs (outcome.Got mtype len) Receives = ⊤
+EndsAs (outcome.Stat stat) Stats = ⊤
+EndsAs (outcome.Refused why) kind = ⊤
+EndsAs told kind = ⊥
 
 -- A receive succeeded.
 abbrev pub is_got : Outcome → Bool

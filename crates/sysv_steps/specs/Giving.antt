@@ -1,7 +1,7 @@
 -- A receive returns the message that it took in a turn of its own: the type, the sender and the
 -- acceptance number of its delivery are those of the message (POSIX.1-2017, msgrcv; the sender and
 -- the number are this project's profile).
-use Rattle.std.specs.Prelude.{◌≡◌, ◌⊎◌, ℕ, List, [], ◌∷◌, ◌++◌, Ok, Err, ⊤}
+use Rattle.std.specs.Prelude.{◌≡◌, ◌⊎◌, ℕ, List, [], ◌∷◌, ◌++◌, Option, Some, None, Ok, Err, ⊤}
 use Rattle.sysv_model.specs.History.{Taken}
 use Rattle.sysv_model.specs.Turn.{Ask, Op, AtSlot}
 use Rattle.sysv_queue.specs.Delivery.{Given}
@@ -26,6 +26,11 @@ TakesGiven given op = ⊥
 abbrev pub HaveTaken : Given → List Op → Type 0
 HaveTaken given [] = ⊥
 HaveTaken given (op ∷ ops) = TakesGiven given op ⊎ HaveTaken given ops
+
+-- One of the turns took the message of the delivery, if there is one.
+abbrev pub AreTaken : Option Given → List Op → Type 0
+AreTaken None ops = ⊤
+AreTaken (Some given) ops = HaveTaken given ops
 
 -- The state of a receive of the code.
 abbrev pub ReceiveKept : Type 0

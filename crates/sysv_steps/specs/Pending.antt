@@ -1,7 +1,7 @@
 -- A pending call of the code, of any of the six kinds, as a state of the definitions; what it needs
 -- of the body that its driver keeps; and what a start or a step of it leads to (this project's
 -- profile).
-use Rattle.std.specs.Prelude.{◌≡◌, ◌≤◌, ℕ, true, List, [], length, Option, Some, None, ⊤}
+use Rattle.std.specs.Prelude.{◌≡◌, ◌≤◌, ℕ, true, List, [], ◌++◌, length, Option, Some, None, IsSome, IfSome, IfNone, ⊤}
 use Rattle.std.proofs.Props.{props}
 use Rattle.sysv_model.specs.declared.limits.TheConstants.{MESSAGE_BYTES}
 use Rattle.sysv_model.specs.Turn.{Ask, Op}
@@ -10,11 +10,17 @@ use Rattle.sysv_steps.specs.Call.{Kind, Gets, Sends, Receives, Stats, Sets, Remo
 use Rattle.sysv_steps.specs.State.{Phase, Wait, State, Goes, Waits, Over}
 use Rattle.sysv_steps.specs.Resume.{Count, ArrivedOf, FreedOf, Settled, Released}
 use Rattle.sysv_steps.specs.Kinds.{gives_back}
-use Rattle.sysv_steps.specs.Answered.{outcome_of, text_given}
-use Rattle.sysv_steps.specs.Bodies.{CanSend}
+use Rattle.sysv_queue.specs.Delivery.{Given}
+use Rattle.sysv_steps.specs.Answered.{outcome_of, text_given, EndsAs}
+use Rattle.sysv_steps.specs.Bodies.{CanSend, IsSized}
+use Rattle.sysv_steps.specs.Giving.{AreTaken}
 use Rattle.sysv_steps.specs.Seen.{get_phase, get_wait, send_phase, send_wait, receive_phase, receive_wait, stat_phase}
 use Rattle.sysv_steps.specs.Seen.{set_phase, remove_phase}
-use Rattle.sysv_steps.specs.Stepping.{StepsOn}
+use Rattle.sysv_steps.specs.Stepping.{StepsOn, ops_made}
+use Rattle.sysv_steps.specs.declared.outcome.Outcome.TheVariants as outcome
+use Rattle.sysv_steps.specs.declared.receive.ReceiveStep.TheVariants as receive
+use Rattle.sysv_steps.specs.declared.state.State.TheVariants as state
+use Rattle.sysv_steps.specs.declared.progress.Ended.{Ended}
 use Rattle.sysv_steps.specs.declared.pending.Step.{Step}
 use Rattle.sysv_steps.specs.declared.pending.Step.TheVariants as step
 use Rattle.sysv_steps.specs.declared.pending.Waiting.{Waiting}
@@ -95,20 +101,26 @@ pending_state (kept.Waits w) text = Waits (wait_of w text)
 
 -- ---- bodies
 
+-- A call of this kind brings the body that it needs.
+abbrev pub Brings : Kind → Option (List ℕ) → Type 0
+Brings Sends body = IsSome body
+Brings Receives body = IsSome body
+Brings kind body = ⊤
+
 -- The body is what a call before this step needs: a send can still send it, and a receive has one
--- to fill.
+-- to fill, or one that has the bytes of the message that it took.
 abbrev pub CanStep : Step → Option (List ℕ) → Type 0
 CanStep (step.Send s) (Some text) = CanSend s text
 CanStep (step.Send s) None = ⊥
-CanStep (step.Receive s) (Some text) = ⊤
+CanStep (step.Receive s) (Some text) = IsSized (state.Goes s) text
 CanStep (step.Receive s) None = ⊥
 CanStep s body = ⊤
 
--- The same of a call in this wait.
+-- The same of a call in this wait. The body of a receive is empty.
 abbrev pub CanWait : Waiting → Option (List ℕ) → Type 0
 CanWait (waiting.Send w) (Some text) = length text ≤ MESSAGE_BYTES
 CanWait (waiting.Send w) None = ⊥
-CanWait (waiting.Receive w) (Some text) = ⊤
+CanWait (waiting.Receive w) (Some text) = text ≡ []
 CanWait (waiting.Receive w) None = ⊥
 CanWait w body = ⊤
 
@@ -117,25 +129,55 @@ abbrev pub CanGoOn : PendingKept → Option (List ℕ) → Type 0
 CanGoOn (kept.At s) body = CanStep s body
 CanGoOn (kept.Waits w) body = CanWait w body
 
--- The call is over, or the body is what it needs.
+-- The delivery of a receive that is over is that of the message whose bytes the body has. A receive
+-- that failed has an empty body.
+abbrev pub IsDelivered : Ended → Option (List ℕ) → Type 0
+IsDelivered ended body =
+    IfSome ended.delivery (λ given. (ended.outcome ≡ outcome.Got given.mtype given.len)
+    × (given.len ≡ length (text_in body)) × (length (text_in body) ≤ MESSAGE_BYTES))
+    × IfNone ended.delivery (ended.receives ≡ true → text_in body ≡ [])
+
+-- The body is what the call needs, or the call is over, and a message that it returns is in the
+-- body.
 abbrev pub StillCanGoOn : Progress → Option (List ℕ) → Type 0
 StillCanGoOn (progress.On p) body = CanGoOn p body
-StillCanGoOn (progress.Over ended) body = ⊤
+StillCanGoOn (progress.Over ended) body = IsDelivered ended body
+
+-- ---- the message that a receive returns
+
+-- The delivery of the message that a receive before this step has taken.
+abbrev pub delivery_at : Step → Option Given
+delivery_at (step.Receive (receive.Giveback chain delivery)) = Some delivery
+delivery_at s = None
+
+-- The delivery of the message that a call has taken, if it has one to return.
+abbrev pub delivery_in : Progress → Option Given
+delivery_in (progress.On (kept.At s)) = delivery_at s
+delivery_in (progress.On (kept.Waits w)) = None
+delivery_in (progress.Over ended) = ended.delivery
 
 -- ---- what a start or a step leads to
 
 -- The code's call continues in the state in which the definitions' call is, or both are over: the
--- outcome is that of the ending, and the body of a receive has the bytes of the message, or none.
+-- outcome is that of the ending and one of its kind, and the body of a receive has the bytes of the
+-- message, or none.
 abbrev pub ComesTo : {kind : Kind} → State kind → Progress → Option (List ℕ) → Type 0
 ComesTo state (progress.On p) body = pending state ≡ pending (pending_state p (text_in body))
 ComesTo {kind} (Over ending) (progress.Over ended) body =
     (ended.outcome ≡ outcome_of ending) × (ended.receives ≡ gives_back kind)
-    × (gives_back kind ≡ true → body ≡ Some (text_given ending))
+    × (gives_back kind ≡ true → body ≡ Some (text_given ending)) × EndsAs ended.outcome kind
 ComesTo (Goes phase) (progress.Over ended) body = ⊥
 ComesTo (Waits wait) (progress.Over ended) body = ⊥
 
--- One step of a call, whether or not its gate is worn out, and what it leads to.
-abbrev pub StepsTo : {P : Type 0} → (P → Op → P → Type 0) → (P → Ask → P → Type 0) → (ℕ → Type 0) → {kind : Kind} →
-    Phase kind → P → ℕ → Progress → Option (List ℕ) → P → ℕ → Type 0
-StepsTo takes misses may {kind} phase before kept result body after keeps =
-    (state : State kind) × StepsOn takes misses may phase before kept state after keeps × ComesTo state result body
+-- One step of a call, whether or not its gate is worn out, and what it leads to. A message that the
+-- call then has to return was taken in a turn of the step, or before.
+module _ {P : Type 0} (takes : P → Op → P → Type 0) (misses : P → Ask → P → Type 0) (may : ℕ → Type 0) (s : Step)
+    (old : Option (List ℕ)) (before : P) (kept : ℕ) (result : Progress) (new : Option (List ℕ)) (after : P) (keeps : ℕ)
+  where
+    abbrev pub StepsTo : Type 0
+    StepsTo = (state : State (kind_at s))
+        × (made : StepsOn takes misses may (phase_of s (text_in old)) before kept state after keeps)
+        × ComesTo state result new
+        × ((ops : List Op) → AreTaken (delivery_at s) ops →
+        AreTaken (delivery_in result) (ops ++ ops_made takes misses may (phase_of s (text_in old)) before kept state after
+        keeps made))

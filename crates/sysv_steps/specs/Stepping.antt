@@ -106,6 +106,12 @@ module _ {P : Type 0} (takes : P → Op → P → Type 0) (misses : P → Ask �
   StepsOn may phase before kept state after keeps =
       Steps may phase before kept state after keeps ⊎ FindsNoTurn may phase before kept state after keeps
 
+  -- The turns that were made in it.
+  abbrev pub ops_made : {kind : Kind} (may : ℕ → Type 0) (phase : Phase kind) (before : P) (kept : ℕ)
+      (state : State kind) (after : P) (keeps : ℕ) → StepsOn may phase before kept state after keeps → List Op
+  ops_made may phase before kept state after keeps (inl s) = s.op ∷ []
+  ops_made may phase before kept state after keeps (inr w) = w.ops
+
   -- ---- parts of a step
 
   -- The registry was requested to forget the identifier, or its gate is worn out.

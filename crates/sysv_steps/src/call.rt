@@ -1,5 +1,10 @@
 //! The calls with their arguments.
 
+ghost use Rattle.std.specs.Prelude.{◌≡◌};
+ghost use Rattle.sysv_steps.specs.Asked.{asked_by, asked_of};
+ghost use Rattle.sysv_steps.specs.Call.{kind_of};
+ghost use Rattle.sysv_steps.specs.Pending.{text_in, Brings};
+
 use sysv_model::{Body, Flags, SetTo};
 
 /// A call with its arguments. `S` is the body that a send brings, and `R` is what a receive brings
@@ -65,4 +70,49 @@ pub enum Call<S = Body, R = S> {
         /// The identifier of the queue. A negative one is refused.
         id: i32,
     },
+}
+
+impl Call {
+    /// Returns the call without its body, and the body that it brought.
+    pub(crate) fn into_parts(self) -> (Call<()>, Option<Body>)
+        ensures same { asked_by (λ _. text_in result.1) result.0 ≡ asked_of self }
+        ensures brings { Brings (kind_of (asked_of self)) result.1 }
+    {
+        match self {
+            Call::Get { key, flags } => (Call::Get { key, flags }, None),
+            Call::Send {
+                id,
+                mtype,
+                flags,
+                body,
+            } => (
+                Call::Send {
+                    id,
+                    mtype,
+                    flags,
+                    body: (),
+                },
+                Some(body),
+            ),
+            Call::Receive {
+                id,
+                size,
+                mtype,
+                flags,
+                body,
+            } => (
+                Call::Receive {
+                    id,
+                    size,
+                    mtype,
+                    flags,
+                    body: (),
+                },
+                Some(body),
+            ),
+            Call::Stat { id } => (Call::Stat { id }, None),
+            Call::Set { id, to } => (Call::Set { id, to }, None),
+            Call::Remove { id } => (Call::Remove { id }, None),
+        }
+    }
 }

@@ -1,9 +1,11 @@
 //! What the state of each call leads to: the call is pending, or it is over.
 
-ghost use Rattle.std.specs.Prelude.{◌≡◌, ℕ, List, Option, Some, false};
+ghost use Rattle.std.specs.Prelude.{◌≡◌, ℕ, List, Option, Some, None, false};
+ghost use Rattle.sysv_model.specs.Turn.{Op};
 ghost use Rattle.sysv_steps.specs.Answered.{is_got, outcome_of};
-ghost use Rattle.sysv_steps.specs.Bodies.{StillCanSend};
-ghost use Rattle.sysv_steps.specs.Pending.{ComesTo, StillCanGoOn};
+ghost use Rattle.sysv_steps.specs.Bodies.{IsSized, StillCanSend};
+ghost use Rattle.sysv_steps.specs.Giving.{AreTaken, HasWhatItGives};
+ghost use Rattle.sysv_steps.specs.Pending.{ComesTo, StillCanGoOn, delivery_in};
 ghost use Rattle.sysv_steps.specs.Seen.{ending_of, get_state, send_state, receive_state, stat_state, set_state, remove_state};
 ghost use Rattle.sysv_steps.specs.State.{Zero};
 
@@ -20,9 +22,11 @@ use crate::state::State;
 use sysv_model::{Body, Errno};
 
 /// Returns what a get in this state leads to.
+#[inline(always)]
 pub(crate) fn of_get(state: GetState) -> Progress
     ensures comes { (body : Option (List ℕ)) → ComesTo (get_state state) result body }
     ensures can { (body : Option (List ℕ)) → StillCanGoOn result body }
+    ensures taken { delivery_in result ≡ None }
 {
     match state {
         State::Goes(step) => Progress::On(Pending::At(Step::Get(step))),
@@ -33,9 +37,11 @@ pub(crate) fn of_get(state: GetState) -> Progress
 }
 
 /// Returns what a send in this state leads to.
+#[inline(always)]
 pub(crate) fn of_send(state: SendState) -> Progress
     ensures comes { (text : List ℕ) → ComesTo (send_state state text) result (Some text) }
     ensures can { (text : List ℕ) → StillCanSend state text → StillCanGoOn result (Some text) }
+    ensures taken { delivery_in result ≡ None }
 {
     match state {
         State::Goes(step) => Progress::On(Pending::At(Step::Send(step))),
@@ -44,14 +50,21 @@ pub(crate) fn of_send(state: SendState) -> Progress
     }
 }
 
-/// Returns what a receive in this state leads to. If the receive failed, its body is empty.
+/// Returns what a receive in this state leads to. If the receive waits or failed, its body is
+/// empty.
+#[inline(always)]
 pub(crate) fn of_receive(state: ReceiveState, out: &mut Body) -> Progress
+    requires { IsSized state out.old }
     ensures comes { ComesTo (receive_state state out.old) result (Some out.new) }
     ensures can { StillCanGoOn result (Some out.new) }
+    ensures taken { (ops : List Op) → HasWhatItGives state ops → AreTaken (delivery_in result) ops }
 {
     match state {
         State::Goes(step) => Progress::On(Pending::At(Step::Receive(step))),
-        State::Waits(wait) => Progress::On(Pending::Waits(Waiting::Receive(wait))),
+        State::Waits(wait) => {
+            out.clear();
+            Progress::On(Pending::Waits(Waiting::Receive(wait)))
+        }
         State::Over(Ok(delivery)) => Progress::Over(Ended {
             outcome: Outcome::Got {
                 mtype: delivery.mtype(),
@@ -72,9 +85,11 @@ pub(crate) fn of_receive(state: ReceiveState, out: &mut Body) -> Progress
 }
 
 /// Returns what an IPC_STAT in this state leads to.
+#[inline(always)]
 pub(crate) fn of_stat(state: StatState) -> Progress
     ensures comes { (body : Option (List ℕ)) → ComesTo (stat_state state) result body }
     ensures can { (body : Option (List ℕ)) → StillCanGoOn result body }
+    ensures taken { delivery_in result ≡ None }
 {
     match state {
         State::Goes(step) => Progress::On(Pending::At(Step::Stat(step))),
@@ -84,9 +99,11 @@ pub(crate) fn of_stat(state: StatState) -> Progress
 }
 
 /// Returns what an IPC_SET in this state leads to.
+#[inline(always)]
 pub(crate) fn of_set(state: SetState) -> Progress
     ensures comes { (body : Option (List ℕ)) → ComesTo (set_state state) result body }
     ensures can { (body : Option (List ℕ)) → StillCanGoOn result body }
+    ensures taken { delivery_in result ≡ None }
 {
     match state {
         State::Goes(step) => Progress::On(Pending::At(Step::Set(step))),
@@ -95,9 +112,11 @@ pub(crate) fn of_set(state: SetState) -> Progress
 }
 
 /// Returns what an IPC_RMID in this state leads to.
+#[inline(always)]
 pub(crate) fn of_remove(state: RemoveState) -> Progress
     ensures comes { (body : Option (List ℕ)) → ComesTo (remove_state state) result body }
     ensures can { (body : Option (List ℕ)) → StillCanGoOn result body }
+    ensures taken { delivery_in result ≡ None }
 {
     match state {
         State::Goes(step) => Progress::On(Pending::At(Step::Remove(step))),
@@ -106,6 +125,7 @@ pub(crate) fn of_remove(state: RemoveState) -> Progress
 }
 
 /// Returns the outcome of a call that returns no value.
+#[inline(always)]
 fn done(told: Result<(), Errno>) -> Outcome
     ensures outcome { result ≡ outcome_of (ending_of (λ _. Zero) told) }
     ensures not_got { is_got result ≡ false }
@@ -117,10 +137,13 @@ fn done(told: Result<(), Errno>) -> Outcome
 }
 
 /// Returns the end of a call that is no receive.
+#[inline(always)]
 fn no_receive(outcome: Outcome) -> Ended
     requires { is_got outcome ≡ false }
     ensures outcome { result.outcome ≡ outcome }
     ensures receives { result.receives ≡ false }
+    ensures delivery { result.delivery ≡ None }
+    ensures can { (body : Option (List ℕ)) → StillCanGoOn (Progress.Over result) body }
 {
     Ended {
         outcome,

@@ -6,6 +6,7 @@
 //! the driver keep the message bodies. `specs/` has the table of steps.
 #![tactic(auto)]
 
+mod body;
 mod call;
 mod clock;
 mod get;
@@ -22,6 +23,7 @@ mod stat;
 mod state;
 mod worn;
 
+pub use body::CallBody;
 pub use call::Call;
 pub use clock::Clock;
 pub use get::{GetState, GetStep, GetWait, Getting, get_step};

@@ -1,25 +1,26 @@
 //! A pending call: one value for all six calls, and one driver.
 
-ghost use Rattle.std.specs.Prelude.{◌≡◌, ◌+◌, ℕ, List, Option};
+ghost use Rattle.std.specs.Prelude.{◌≡◌, ◌+◌, ℕ, List, Option, None};
+ghost use Rattle.sysv_steps.specs.Answered.{EndsAs};
 ghost use Rattle.sysv_steps.specs.Asked.{asked_of};
 ghost use Rattle.sysv_steps.specs.Begin.{begin as begins};
 ghost use Rattle.sysv_steps.specs.HeldBlocks.{held};
-ghost use Rattle.sysv_steps.specs.Pending.{pending, text_in, phase_of, wait_of, pending_state, count_meant, CanStep, CanWait, StillCanGoOn, ComesTo, StepsTo};
+ghost use Rattle.sysv_steps.specs.Kinds.{gives_back};
+ghost use Rattle.sysv_steps.specs.Pending.{pending, phase_of, wait_of, pending_state, kind_waiting, count_meant, delivery_at, CanStep, CanWait, StillCanGoOn, ComesTo};
 ghost use Rattle.sysv_steps.specs.Resume.{awaited, goal_of, resume as resumes};
-ghost use Rattle.sysv_steps.specs.State.{Goes};
+ghost use Rattle.sysv_steps.specs.State.{Goes, Over, Refused};
 
+use crate::body::CallBody;
 use crate::call::Call;
-use crate::clock::Clock;
-use crate::get::{GetStep, GetWait, Getting, get_step};
-use crate::leading::{of_get, of_receive, of_remove, of_send, of_set, of_stat};
-use crate::progress::Progress;
-use crate::receive::{ReceiveStep, ReceiveWait, Receiving, receive_step};
-use crate::remove::{RemoveStep, remove_step};
-use crate::send::{SendStep, SendWait, Sending, send_step};
-use crate::set::{SetStep, set_step};
-use crate::stat::{StatStep, stat_step};
-use sysv_model::{Body, Cred};
-use sysv_objects::Turns;
+use crate::get::{GetStep, GetWait};
+use crate::outcome::Outcome;
+use crate::progress::{Ended, Progress};
+use crate::receive::{ReceiveStep, ReceiveWait};
+use crate::remove::RemoveStep;
+use crate::send::{SendStep, SendWait};
+use crate::set::SetStep;
+use crate::stat::StatStep;
+use sysv_model::{Body, Cred, Errno};
 use sysv_pool::Chain;
 
 /// A pending call: the step before which it is, or the wait that it is in. Its driver keeps the
@@ -84,31 +85,9 @@ impl Pending {
         ensures comes { ComesTo (begins cred (asked_of call) released) result.0 result.1 }
         ensures can { StillCanGoOn result.0 result.1 }
     {
-        match call {
-            Call::Get { key, flags } => (of_get(Getting::begin(cred, key, flags)), None),
-            Call::Send {
-                id,
-                mtype,
-                flags,
-                body,
-            } => {
-                let begun = Sending::begin(cred, id, mtype, flags, body.len(), released);
-                (of_send(begun), Some(body))
-            }
-            Call::Receive {
-                id,
-                size,
-                mtype,
-                flags,
-                mut body,
-            } => {
-                let begun = Receiving::begin(cred, id, size, mtype, flags);
-                (of_receive(begun, &mut body), Some(body))
-            }
-            Call::Stat { id } => (of_stat(StatStep::begin(cred, id)), None),
-            Call::Set { id, to } => (of_set(SetStep::begin(cred, id, to)), None),
-            Call::Remove { id } => (of_remove(RemoveStep::begin(cred, id)), None),
-        }
+        let (call, mut body) = call.into_parts();
+        let begun = body.begin_call(cred, call, released);
+        (begun, body)
     }
 
     /// Ends the call and returns the chain that it holds, or an empty chain. A message that a
@@ -124,49 +103,6 @@ impl Pending {
 }
 
 impl Step {
-    /// Makes the step, and returns what it leads to. `body` is the body that the call brought: a
-    /// send sends it, and a receive fills it.
-    ///
-    /// A chain that cannot be released is added to `kept`. If the gate of the step's turn is worn
-    /// out, the call does what the step of its kind does then.
-    ///
-    /// # Conditions
-    ///
-    /// - `turns` must be ready for a turn at `at`.
-    /// - `body` must be the body of the call.
-    pub fn make<T: Turns, C: Clock>(
-        self,
-        turns: &T,
-        at: &mut T::At,
-        kept: &mut Chain,
-        clock: &C,
-        body: &mut Option<Body>,
-    ) -> Progress
-        requires ready { T.ready turns.now at.old }
-        requires body { CanStep self body.old }
-        ensures stays { T.stays turns.now at.new }
-        ensures body { StillCanGoOn result body.new }
-        ensures steps { StepsTo T.takes T.misses (C.may clock.now)
-            (phase_of self (text_in body.old)) at.old kept.old.blocks
-            result body.new at.new kept.new.blocks }
-    {
-        match self {
-            Step::Get(step) => of_get(get_step(turns, at, clock, step)),
-            Step::Send(step) => {
-                let Some(text) = body else { unreachable!() };
-                of_send(send_step(turns, at, kept, clock, text, step))
-            }
-            Step::Receive(step) => {
-                let Some(out) = body else { unreachable!() };
-                let state = receive_step(turns, at, kept, clock, out, step);
-                of_receive(state, out)
-            }
-            Step::Stat(step) => of_stat(stat_step(turns, at, step)),
-            Step::Set(step) => of_set(set_step(turns, at, kept, clock, step)),
-            Step::Remove(step) => of_remove(remove_step(turns, at, kept, step)),
-        }
-    }
-
     /// Ends the call and returns the chain that it holds before this step, or an empty chain. A
     /// message that a receive has taken is lost.
     fn into_chain(self) -> Chain
@@ -207,11 +143,29 @@ impl Waiting {
         ensures next { (text : List ℕ) → pending (Goes (resumes (wait_of self text) value))
             ≡ pending (Goes (phase_of result text)) }
         ensures body { (body : Option (List ℕ)) → CanWait self body → CanStep result body }
+        ensures taken { delivery_at result ≡ None }
     {
         match self {
             Waiting::Get(wait) => Step::Get(wait.resume()),
             Waiting::Send(wait) => Step::Send(wait.resume(value)),
             Waiting::Receive(wait) => Step::Receive(wait.resume()),
+        }
+    }
+
+    /// Returns the end of the call if its wait fails with `why`.
+    pub fn refused(self, why: Errno) -> Ended
+        ensures comes { (body : Option (List ℕ)) → CanWait self body → ComesTo
+            {kind = kind_waiting self} (Over (Refused why)) (Progress.Over result) body }
+        ensures can { (body : Option (List ℕ)) → CanWait self body →
+            StillCanGoOn (Progress.Over result) body }
+        ensures kind { EndsAs result.outcome (kind_waiting self)
+            × (result.receives ≡ gives_back (kind_waiting self)) }
+        ensures taken { result.delivery ≡ None }
+    {
+        Ended {
+            outcome: Outcome::Refused(why),
+            receives: matches!(self, Waiting::Receive(_)),
+            delivery: None,
         }
     }
 }

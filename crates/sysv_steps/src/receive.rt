@@ -94,8 +94,9 @@ impl ReceiveWait {
 
     /// Returns the step at which the receive continues after its wait: it takes again.
     pub fn resume(self) -> ReceiveStep
-        ensures { (value : ℕ) (out : List ℕ) →
+        ensures next { (value : ℕ) (out : List ℕ) →
             resumes (receive_wait self) value ≡ receive_phase result out }
+        ensures take { result ≡ ReceiveStep.Take self.receive }
     {
         ReceiveStep::Take(self.receive)
     }
@@ -194,6 +195,7 @@ impl Receiving {
 /// # Conditions
 ///
 /// - `turns` must be ready for a turn at `at`.
+#[inline(always)]
 pub fn receive_step<T: Turns, C: Clock>(
     turns: &T,
     at: &mut T::At,
@@ -218,6 +220,7 @@ pub fn receive_step<T: Turns, C: Clock>(
 }
 
 /// Makes the step that takes a message. After the message is taken, its bytes are copied to `out`.
+#[inline(always)]
 fn take<T: Turns, C: Clock>(
     turns: &T,
     at: &mut T::At,

@@ -296,6 +296,7 @@ impl Sending {
 /// - `turns` must be ready for a turn at `at`.
 /// - `text` has at most 8,192 bytes, and before its place the send holds a chain of the number of
 ///   blocks that `text` needs.
+#[inline(always)]
 pub fn send_step<T: Turns, C: Clock>(
     turns: &T,
     at: &mut T::At,
@@ -323,6 +324,7 @@ pub fn send_step<T: Turns, C: Clock>(
 }
 
 /// Makes the step that checks whether the message fits.
+#[inline(always)]
 fn look<T: Turns>(turns: &T, at: &mut T::At, text: &Body, send: Sending) -> SendState
     requires ready { T.ready turns.now at.old }
     requires short { length text.now ≤ most_bytes }
@@ -342,6 +344,7 @@ fn look<T: Turns>(turns: &T, at: &mut T::At, text: &Body, send: Sending) -> Send
 }
 
 /// Makes the step that reserves blocks for the body.
+#[inline(always)]
 fn reserve<T: Turns>(turns: &T, at: &mut T::At, text: &Body, send: Sending) -> SendState
     requires ready { T.ready turns.now at.old }
     requires short { length text.now ≤ most_bytes }
@@ -360,6 +363,7 @@ fn reserve<T: Turns>(turns: &T, at: &mut T::At, text: &Body, send: Sending) -> S
 
 /// Makes the step that puts the message on the queue. The body is copied into the chain just
 /// before. If the gate of the slot is worn out, the call still has to release the chain.
+#[inline(always)]
 fn place<T: Turns, C: Clock>(
     turns: &T,
     at: &mut T::At,

@@ -1,15 +1,20 @@
 //! Calls in pieces: a call that waits is a value, and goes on when its count has risen.
 
+ghost use Rattle.std.specs.Prelude.{◌≡◌, ℕ, List, Option, IsSome};
+ghost use Rattle.sysv_service.specs.Pending.{stopped};
 ghost use Rattle.sysv_service.specs.Seats.{AreOf};
+ghost use Rattle.sysv_steps.specs.Asked.{asked_by};
+ghost use Rattle.sysv_steps.specs.Call.{kind_of};
+ghost use Rattle.sysv_steps.specs.Pending.{text_in, Brings, CanStep, CanWait, StillCanGoOn};
 
 use crate::parts::{CLOCK, assert_is, body_of, closed, opened, waiting};
 use std::alloc::Global;
 use std::process::Abort;
 use std::sync::Wait;
-use sysv_model::{Body, Errno, Flags, MESSAGE_BYTES, SetTo};
-use sysv_queue::{Delivery, Tally};
+use sysv_model::{Body, Errno, Flags, SetTo};
+use sysv_queue::Tally;
 use sysv_service::{
-    GetWait, Getting, Pass, Progress, ReceiveWait, Receiving, SendWait, Sending, Service,
+    Call, Ended, GetWait, Getting, Outcome, Pass, Progress, Service, Step, Waiting,
 };
 use tests_kit::{USER, creating};
 
@@ -41,60 +46,122 @@ fn send(
     assert_is(rt, sent, Ok(()));
 }
 
+/// Begins a call.
+fn begin(
+    rt: &(impl Abort + Wait),
+    service: &Service,
+    pass: &mut Pass,
+    call: Call<()>,
+    body: &mut Option<Body>,
+) -> Progress<Waiting, Ended>
+    requires pass { AreOf service.now pass.old.seats }
+    requires brings { Brings (kind_of (asked_by (λ _. text_in body.old) call)) body.old }
+    ensures pass { AreOf service.now pass.new.seats }
+    ensures can { StillCanGoOn (stopped result) body.new }
+{
+    service.begin(rt, pass, &CLOCK, USER, call, body)
+}
+
 /// Begins a receive of type 5 from queue 0.
 fn begin_receive(
     rt: &(impl Abort + Wait),
     service: &Service,
     pass: &mut Pass,
-    out: &mut Body,
+    out: &mut Option<Body>,
     flags: Flags,
-) -> Progress<ReceiveWait, Result<Delivery, Errno>>
-    requires { AreOf service.now pass.old.seats }
-    ensures { AreOf service.now pass.new.seats }
+) -> Progress<Waiting, Ended>
+    requires pass { AreOf service.now pass.old.seats }
+    requires brings { IsSome out.old }
+    ensures pass { AreOf service.now pass.new.seats }
+    ensures can { StillCanGoOn (stopped result) out.new }
 {
-    service.msgrcv_begin(rt, pass, &CLOCK, USER, 0, out, 100, 5, flags)
+    let call = Call::Receive {
+        id: 0,
+        size: 100,
+        mtype: 5,
+        flags,
+        body: (),
+    };
+    begin(rt, service, pass, call, out)
 }
 
-/// Returns the wait of a receive.
-fn receive_wait(
-    rt: &impl Abort,
-    progress: Progress<ReceiveWait, Result<Delivery, Errno>>,
-) -> ReceiveWait {
+/// Begins a send of type 5 to queue `id`, which waits if need be.
+fn begin_send(
+    rt: &(impl Abort + Wait),
+    service: &Service,
+    pass: &mut Pass,
+    id: i32,
+    text: &mut Option<Body>,
+) -> Progress<Waiting, Ended>
+    requires pass { AreOf service.now pass.old.seats }
+    requires brings { IsSome text.old }
+    ensures pass { AreOf service.now pass.new.seats }
+    ensures can { StillCanGoOn (stopped result) text.new }
+{
+    let call = Call::Send {
+        id,
+        mtype: 5,
+        flags: waiting(),
+        body: (),
+    };
+    begin(rt, service, pass, call, text)
+}
+
+/// Returns the wait of a call.
+fn wait_of(rt: &impl Abort, progress: Progress<Waiting, Ended>) -> Waiting
+    ensures { progress ≡ Progress.Waits result }
+{
     match progress {
         Progress::Waits(wait) => wait,
-        Progress::Over(Ok(delivery)) => {
-            delivery.lost(&mut Tally::open());
-            panic!(rt; "a message")
-        }
-        Progress::Over(Err(why)) => panic!(rt; "{why}"),
+        Progress::Over(_ended) => panic!(rt; "the call is over"),
     }
 }
 
-/// Returns the type and the length of the message that a receive returned.
-fn received(
-    rt: &impl Abort,
-    progress: Progress<ReceiveWait, Result<Delivery, Errno>>,
-) -> Result<(i64, usize), Errno> {
+/// Returns how a call has ended. A message is written.
+fn told(rt: &impl Abort, progress: Progress<Waiting, Ended>) -> Outcome {
     match progress {
-        Progress::Waits(_wait) => panic!(rt; "the receive waits"),
-        Progress::Over(Ok(delivery)) => {
-            let told = (delivery.mtype(), delivery.len());
-            delivery.written(&mut Tally::open());
-            Ok(told)
+        Progress::Waits(wait) => panic!(rt; "{wait:?}"),
+        Progress::Over(
+            Ended {
+                outcome,
+                receives: _,
+                delivery,
+            },
+        ) => {
+            if let Some(delivery) = delivery {
+                delivery.written(&mut Tally::open());
+            }
+            outcome
         }
-        Progress::Over(Err(why)) => Err(why),
     }
 }
 
-/// Looks once for a receive that can go on.
-fn look(rt: &impl Abort, service: &Service, pass: &mut Pass, wait: &ReceiveWait) -> Receiving
+/// Looks once for a call that can go on.
+fn look(rt: &impl Abort, service: &Service, pass: &mut Pass, wait: &Waiting) -> Step
+    requires { AreOf service.now pass.old.seats }
+    ensures pass { AreOf service.now pass.new.seats }
+    ensures can { (body : Option (List ℕ)) → CanWait wait.now body → CanStep result body }
+{
+    match service.look(pass, wait) {
+        Some(step) => step,
+        None => panic!(rt; "the call still waits"),
+    }
+}
+
+/// Asserts that a call still waits.
+fn assert_waits(rt: &impl Abort, service: &Service, pass: &mut Pass, wait: &Waiting)
     requires { AreOf service.now pass.old.seats }
     ensures { AreOf service.now pass.new.seats }
 {
-    match service.msgrcv_look(pass, wait) {
-        Some(receive) => receive,
-        None => panic!(rt; "the receive still waits"),
+    match service.look(pass, wait) {
+        None => {}
+        Some(_step) => panic!(rt; "the call goes on"),
     }
+}
+
+/// Returns the number of bytes in a body.
+fn length_of(body: &Option<Body>) -> Option<usize> {
+    body.as_ref().map(|body| body.len())
 }
 
 // A message of another type ends the wait too: the receive looks at the queue, and waits again.
@@ -103,21 +170,21 @@ fn a_receive_goes_on_after_a_send_of_another_pass(rt: HostRuntime) {
     let alloc = rt.alloc();
     let (service, mut pass) = one_queue(&rt, alloc);
     let mut other = service.split_pass(alloc, &mut pass).expect(&rt, "a split");
-    let mut out = body_of(&rt, alloc, b"what was there before");
+    let mut out = Some(body_of(&rt, alloc, b"what was there before"));
     let begun = begin_receive(&rt, &service, &mut pass, &mut out, waiting());
-    let wait = receive_wait(&rt, begun);
-    assert_is(&rt, out.len(), 0);
-    assert!(rt; service.msgrcv_look(&mut pass, &wait).is_none());
+    let wait = wait_of(&rt, begun);
+    assert_is(&rt, length_of(&out), Some(0));
+    assert_waits(&rt, &service, &mut pass, &wait);
     send(&rt, alloc, &service, &mut other, 6, b"x");
     let again = look(&rt, &service, &mut pass, &wait);
-    let waits = service.msgrcv_go_on(&rt, &mut pass, &CLOCK, &mut out, again);
-    let wait = receive_wait(&rt, waits);
-    assert!(rt; service.msgrcv_look(&mut pass, &wait).is_none());
+    let waits = service.go_on(&rt, &mut pass, &CLOCK, again, &mut out);
+    let wait = wait_of(&rt, waits);
+    assert_waits(&rt, &service, &mut pass, &wait);
     send(&rt, alloc, &service, &mut other, 5, b"ping");
     let again = look(&rt, &service, &mut pass, &wait);
-    let over = service.msgrcv_go_on(&rt, &mut pass, &CLOCK, &mut out, again);
-    assert_is(&rt, received(&rt, over), Ok((5, 4)));
-    assert_is(&rt, out.len(), 4);
+    let over = service.go_on(&rt, &mut pass, &CLOCK, again, &mut out);
+    assert_is(&rt, told(&rt, over), Outcome::Got { mtype: 5, len: 4 });
+    assert_is(&rt, length_of(&out), Some(4));
     service.join_pass(&mut pass, other);
     assert_is(&rt, service.close(pass), closed(1, 128));
 }
@@ -126,13 +193,14 @@ fn a_receive_goes_on_after_a_send_of_another_pass(rt: HostRuntime) {
 fn a_receive_that_need_not_wait_is_over_at_once(rt: HostRuntime) {
     let alloc = rt.alloc();
     let (service, mut pass) = one_queue(&rt, alloc);
-    let mut out = body_of(&rt, alloc, b"what was there before");
+    let mut out = Some(body_of(&rt, alloc, b"what was there before"));
     let begun = begin_receive(&rt, &service, &mut pass, &mut out, Flags::IPC_NOWAIT);
-    assert_is(&rt, received(&rt, begun), Err(Errno::ENOMSG));
-    assert_is(&rt, out.len(), 0);
+    assert_is(&rt, told(&rt, begun), Outcome::Refused(Errno::ENOMSG));
+    assert_is(&rt, length_of(&out), Some(0));
     send(&rt, alloc, &service, &mut pass, 5, b"ping");
+    let mut out = Some(body_of(&rt, alloc, b""));
     let begun = begin_receive(&rt, &service, &mut pass, &mut out, waiting());
-    assert_is(&rt, received(&rt, begun), Ok((5, 4)));
+    assert_is(&rt, told(&rt, begun), Outcome::Got { mtype: 5, len: 4 });
     assert_is(&rt, service.close(pass), closed(0, 128));
 }
 
@@ -142,44 +210,18 @@ fn a_receive_that_need_not_wait_is_over_at_once(rt: HostRuntime) {
 fn a_receive_that_is_dropped_takes_nothing(rt: HostRuntime) {
     let alloc = rt.alloc();
     let (service, mut pass) = one_queue(&rt, alloc);
-    let mut out = body_of(&rt, alloc, b"what was there before");
+    let mut out = Some(body_of(&rt, alloc, b"what was there before"));
     let begun = begin_receive(&rt, &service, &mut pass, &mut out, waiting());
-    let _dropped = receive_wait(&rt, begun);
+    let _dropped = wait_of(&rt, begun);
     match service.msgctl_stat(&rt, &mut pass, USER, 0) {
         Ok(stat) => assert_is(&rt, (stat.qnum, stat.lrpid, stat.rtime), (0, 0, 0)),
         Err(why) => panic!(rt; "no attributes: {why}"),
     }
     send(&rt, alloc, &service, &mut pass, 5, b"ping");
+    let mut out = Some(body_of(&rt, alloc, b""));
     let begun = begin_receive(&rt, &service, &mut pass, &mut out, waiting());
-    assert_is(&rt, received(&rt, begun), Ok((5, 4)));
+    assert_is(&rt, told(&rt, begun), Outcome::Got { mtype: 5, len: 4 });
     assert_is(&rt, service.close(pass), closed(0, 128));
-}
-
-/// Returns the wait of a send.
-fn send_wait(rt: &impl Abort, progress: Progress<SendWait, Result<(), Errno>>) -> SendWait {
-    match progress {
-        Progress::Waits(wait) => wait,
-        Progress::Over(told) => panic!(rt; "{told:?}"),
-    }
-}
-
-/// Asserts that a send has sent its message.
-fn assert_sent(rt: &impl Abort, progress: Progress<SendWait, Result<(), Errno>>) {
-    match progress {
-        Progress::Waits(_wait) => panic!(rt; "the send waits"),
-        Progress::Over(told) => assert_is(rt, told, Ok(())),
-    }
-}
-
-/// Looks once for a send that can go on.
-fn look_for_send(rt: &impl Abort, service: &Service, pass: &mut Pass, wait: &SendWait) -> Sending
-    requires { AreOf service.now pass.old.seats }
-    ensures { AreOf service.now pass.new.seats }
-{
-    match service.msgsnd_look(pass, wait) {
-        Some(send) => send,
-        None => panic!(rt; "the send still waits"),
-    }
 }
 
 /// Takes the message of queue `id`.
@@ -217,13 +259,13 @@ fn a_send_that_is_dropped_sends_nothing(rt: HostRuntime) {
     let alloc = rt.alloc();
     let (service, mut pass) = small_queue(&rt, alloc);
     send(&rt, alloc, &service, &mut pass, 5, b"ping");
-    let text = body_of(&rt, alloc, b"pong");
-    let begun = service.msgsnd_begin(&rt, &mut pass, &CLOCK, USER, 0, 5, &text, waiting());
-    let _dropped = send_wait(&rt, begun);
+    let mut text = Some(body_of(&rt, alloc, b"pong"));
+    let begun = begin_send(&rt, &service, &mut pass, 0, &mut text);
+    let _dropped = wait_of(&rt, begun);
     take(&rt, alloc, &service, &mut pass, 0);
-    let mut out = body_of(&rt, alloc, b"");
+    let mut out = Some(body_of(&rt, alloc, b""));
     let begun = begin_receive(&rt, &service, &mut pass, &mut out, Flags::IPC_NOWAIT);
-    assert_is(&rt, received(&rt, begun), Err(Errno::ENOMSG));
+    assert_is(&rt, told(&rt, begun), Outcome::Refused(Errno::ENOMSG));
     assert_is(&rt, service.close(pass), closed(0, 128));
 }
 
@@ -232,83 +274,93 @@ fn a_send_goes_on_after_a_receive_of_another_pass(rt: HostRuntime) {
     let alloc = rt.alloc();
     let (service, mut pass) = small_queue(&rt, alloc);
     let mut other = service.split_pass(alloc, &mut pass).expect(&rt, "a split");
-    let text = body_of(&rt, alloc, b"ping");
-    assert!(rt; text.len() <= MESSAGE_BYTES);
-    let begun = service.msgsnd_begin(&rt, &mut pass, &CLOCK, USER, 0, 5, &text, waiting());
-    assert_sent(&rt, begun);
-    let begun = service.msgsnd_begin(&rt, &mut pass, &CLOCK, USER, 0, 5, &text, waiting());
-    let wait = send_wait(&rt, begun);
-    assert!(rt; service.msgsnd_look(&mut pass, &wait).is_none());
+    send(&rt, alloc, &service, &mut pass, 5, b"ping");
+    let mut text = Some(body_of(&rt, alloc, b"ping"));
+    let begun = begin_send(&rt, &service, &mut pass, 0, &mut text);
+    let wait = wait_of(&rt, begun);
+    assert_waits(&rt, &service, &mut pass, &wait);
     take(&rt, alloc, &service, &mut other, 0);
-    let again = look_for_send(&rt, &service, &mut pass, &wait);
-    let over = service.msgsnd_go_on(&rt, &mut pass, &CLOCK, &text, again);
-    assert_sent(&rt, over);
+    let again = look(&rt, &service, &mut pass, &wait);
+    let over = service.go_on(&rt, &mut pass, &CLOCK, again, &mut text);
+    assert_is(&rt, told(&rt, over), Outcome::Zero);
     service.join_pass(&mut pass, other);
     assert_is(&rt, service.close(pass), closed(1, 128));
+}
+
+/// Opens a service of 128 blocks with queues 0 and 1. Queue 1 has a message in all blocks.
+fn full_pool(rt: &(impl Abort + Wait), alloc: Global) -> (Service, Pass)
+    ensures { AreOf result.0 result.1.seats }
+{
+    let (service, mut pass) = one_queue(rt, alloc);
+    let second = service.msgget(rt, &mut pass, &CLOCK, USER, 8, creating());
+    assert_is(rt, second, Ok(1));
+    let mut all = Some(body_of(rt, alloc, &[b'x'; 8192]));
+    let begun = begin_send(rt, &service, &mut pass, 1, &mut all);
+    assert_is(rt, told(rt, begun), Outcome::Zero);
+    (service, pass)
 }
 
 // A send that waits for blocks holds none.
 #[test]
 fn a_send_that_waits_for_blocks_is_dropped(rt: HostRuntime) {
     let alloc = rt.alloc();
-    let (service, mut pass) = one_queue(&rt, alloc);
-    let second = service.msgget(&rt, &mut pass, &CLOCK, USER, 8, creating());
-    assert_is(&rt, second, Ok(1));
-    let all = body_of(&rt, alloc, &[b'x'; 8192]);
-    let sent = service.msgsnd(&rt, &mut pass, &CLOCK, USER, 1, 5, &all, waiting());
-    assert_is(&rt, sent, Ok(()));
-    let text = body_of(&rt, alloc, b"ping");
-    let begun = service.msgsnd_begin(&rt, &mut pass, &CLOCK, USER, 0, 5, &text, waiting());
-    let _dropped = send_wait(&rt, begun);
+    let (service, mut pass) = full_pool(&rt, alloc);
+    let mut text = Some(body_of(&rt, alloc, b"ping"));
+    let begun = begin_send(&rt, &service, &mut pass, 0, &mut text);
+    let _dropped = wait_of(&rt, begun);
     assert_is(&rt, service.close(pass), closed(1, 128));
 }
 
 #[test]
 fn a_send_goes_on_after_blocks_were_released(rt: HostRuntime) {
     let alloc = rt.alloc();
-    let (service, mut pass) = one_queue(&rt, alloc);
-    let second = service.msgget(&rt, &mut pass, &CLOCK, USER, 8, creating());
-    assert_is(&rt, second, Ok(1));
-    let all = body_of(&rt, alloc, &[b'x'; 8192]);
-    let begun = service.msgsnd_begin(&rt, &mut pass, &CLOCK, USER, 1, 5, &all, waiting());
-    assert_sent(&rt, begun);
-    let text = body_of(&rt, alloc, b"ping");
-    assert!(rt; text.len() <= MESSAGE_BYTES);
-    let begun = service.msgsnd_begin(&rt, &mut pass, &CLOCK, USER, 0, 5, &text, waiting());
-    let wait = send_wait(&rt, begun);
-    assert!(rt; service.msgsnd_look(&mut pass, &wait).is_none());
+    let (service, mut pass) = full_pool(&rt, alloc);
+    let mut text = Some(body_of(&rt, alloc, b"ping"));
+    let begun = begin_send(&rt, &service, &mut pass, 0, &mut text);
+    let wait = wait_of(&rt, begun);
+    assert_waits(&rt, &service, &mut pass, &wait);
     take(&rt, alloc, &service, &mut pass, 1);
-    let again = look_for_send(&rt, &service, &mut pass, &wait);
-    let over = service.msgsnd_go_on(&rt, &mut pass, &CLOCK, &text, again);
-    assert_sent(&rt, over);
+    let again = look(&rt, &service, &mut pass, &wait);
+    let over = service.go_on(&rt, &mut pass, &CLOCK, again, &mut text);
+    assert_is(&rt, told(&rt, over), Outcome::Zero);
     assert_is(&rt, service.close(pass), closed(1, 128));
-}
-
-/// Returns the identifier that a get returned.
-fn id_of(rt: &impl Abort, progress: Progress<GetWait, Result<i32, Errno>>) -> Result<i32, Errno> {
-    match progress {
-        Progress::Waits(_wait) => panic!(rt; "the get waits"),
-        Progress::Over(told) => told,
-    }
 }
 
 // The second get goes on as one that has waited for the queue of its key.
 #[test]
 fn a_get_goes_on_after_a_queue_was_made(rt: HostRuntime) {
     let (service, mut pass) = opened(&rt, rt.alloc(), 128, 0);
+    let flags = creating();
     let get = Getting {
         cred: USER,
         key: 7,
-        flags: creating(),
+        flags,
     };
-    let wait = GetWait { above: 0, get };
-    assert!(rt; service.msgget_look(&mut pass, &wait).is_none());
-    let made = service.msgget_begin(&rt, &mut pass, &CLOCK, USER, 7, creating());
-    assert_is(&rt, id_of(&rt, made), Ok(0));
-    let Some(again) = service.msgget_look(&mut pass, &wait) else {
-        panic!(rt; "the get still waits")
-    };
-    let found = service.msgget_go_on(&rt, &mut pass, &CLOCK, again);
-    assert_is(&rt, id_of(&rt, found), Ok(0));
+    let wait = Waiting::Get(GetWait { above: 0, get });
+    assert_waits(&rt, &service, &mut pass, &wait);
+    let mut none = None;
+    let call = Call::Get { key: 7, flags };
+    let made = begin(&rt, &service, &mut pass, call, &mut none);
+    assert_is(&rt, told(&rt, made), Outcome::Id(0));
+    let again = look(&rt, &service, &mut pass, &wait);
+    let found = service.go_on(&rt, &mut pass, &CLOCK, again, &mut none);
+    assert_is(&rt, told(&rt, found), Outcome::Id(0));
+    assert_is(&rt, service.close(pass), closed(0, 128));
+}
+
+// A call that never waits is over at once.
+#[test]
+fn the_attributes_are_told_at_once(rt: HostRuntime) {
+    let (service, mut pass) = one_queue(&rt, rt.alloc());
+    let mut none = None;
+    let told_at_once = begin(&rt, &service, &mut pass, Call::Stat { id: 0 }, &mut none);
+    match told(&rt, told_at_once) {
+        Outcome::Stat(stat) => assert_is(&rt, (stat.perm.uid, stat.qnum), (1000, 0)),
+        other => panic!(rt; "{other:?}"),
+    }
+    let removed = begin(&rt, &service, &mut pass, Call::Remove { id: 0 }, &mut none);
+    assert_is(&rt, told(&rt, removed), Outcome::Zero);
+    let gone = begin(&rt, &service, &mut pass, Call::Stat { id: 0 }, &mut none);
+    assert_is(&rt, told(&rt, gone), Outcome::Refused(Errno::EINVAL));
     assert_is(&rt, service.close(pass), closed(0, 128));
 }

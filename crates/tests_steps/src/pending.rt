@@ -15,8 +15,8 @@ use sysv_model::{Body, Errno};
 use sysv_pool::Chain;
 use sysv_queue::Tally;
 use sysv_steps::{
-    Awaited, Call, Ended, GetStep, GetWait, Outcome, Pending, Progress, SendWait, Sending, Step,
-    Waiting,
+    Awaited, Call, CallBody, Ended, GetStep, GetWait, Outcome, Pending, Progress, SendWait,
+    Sending, Step, Waiting,
 };
 use tests_kit::{USER, creating, flags};
 
@@ -94,7 +94,8 @@ fn go_on(rt: &impl Abort, at: &mut Counted, progress: Progress, body: &mut Optio
 {
     assert!(rt; at.raised < 100);
     let mut kept = Chain::empty();
-    let progress = step_of(rt, progress).make(&AtObjects, at, &mut kept, &Still, body);
+    let step = step_of(rt, progress);
+    let progress = body.make_step(&AtObjects, at, &mut kept, &Still, step);
     assert_is(rt, kept.end(), 0);
     progress
 }
@@ -223,7 +224,7 @@ fn a_refused_receive_empties_its_body(rt: HostRuntime) {
     let (begun, mut body) = begin_receive(&rt, rt.alloc(), 0);
     let (mut back, mut kept) = (0, Chain::empty());
     let step = step_of(&rt, begun);
-    let taken = step.make(&WornGates, &mut back, &mut kept, &Still, &mut body);
+    let taken = body.make_step(&WornGates, &mut back, &mut kept, &Still, step);
     assert_refused(&rt, taken, body, Errno::EOVERFLOW);
     assert_is(&rt, (back, kept.end()), (1, 0));
 }

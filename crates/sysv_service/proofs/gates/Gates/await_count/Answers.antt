@@ -1,5 +1,5 @@
 use Rattle.std.proofs.Common.{refl, subst}
-use Rattle.sysv_service.specs.SharedCounts.{count_of}
+use Rattle.sysv_steps.specs.Pending.{count_meant}
 use Rattle.sysv_service.specs.Reading.{Awaits}
 use Rattle.sysv_service.specs.Banked.{seats_seen}
 use Rattle.sysv_service.proofs.PlacesShown.{of_bank, are_of, sees_more}
@@ -22,8 +22,9 @@ returns-clause-waited g c =
     c.requires in
     let more = sees_more c.self.inside.bank before after its c.await_count.ensures.gates
     c.await_count.ensures.longer in
-    subst (λ b. Awaits (count_of c.args.count) c.args.goal b c.await_count.result (seats_seen after))
+    subst (λ b. Awaits (count_meant c.args.count) c.args.goal b c.await_count.result (seats_seen after))
     c.seats.view_is
     (awaits before after c.seats.invariant c.each_seat_of_a_bank_knows_its_own.ensures more
-    c.args.count c.place-place.result c.there.result c.place-place.ensures.place c.there.ensures c.args.goal
+    c.args.count c.place_of_count-place.result c.count_at_place.result c.place_of_count-place.ensures.place
+    c.count_at_place.ensures c.args.goal
     c.await_count.result c.await_count.ensures.waited)

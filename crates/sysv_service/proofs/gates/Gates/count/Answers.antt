@@ -1,5 +1,5 @@
 use Rattle.std.proofs.Common.{refl, subst}
-use Rattle.sysv_service.specs.SharedCounts.{count_of}
+use Rattle.sysv_steps.specs.Pending.{count_meant}
 use Rattle.sysv_service.specs.Reading.{Reads}
 use Rattle.sysv_service.specs.Banked.{seats_seen}
 use Rattle.sysv_service.proofs.PlacesShown.{of_bank, are_of, sees_more}
@@ -20,7 +20,7 @@ returns-clause-read c =
     let its = of_bank c.self.inside.bank before _ _ c.self.invariant.0 c.seats.invariant c.self.view_is c.seats.view_is
     c.requires in
     let more = sees_more c.self.inside.bank before after its c.count.ensures.gates c.count.ensures.longer in
-    subst (λ b. Reads (count_of c.args.count) c.count.result b (seats_seen after)) c.seats.view_is
+    subst (λ b. Reads (count_meant c.args.count) c.count.result b (seats_seen after)) c.seats.view_is
     (reads before after c.seats.invariant c.each_seat_of_a_bank_knows_its_own.ensures more
-    c.args.count c.place.result c.there.result c.place.ensures.place c.there.ensures c.count.result
+    c.args.count c.place_of_count.result c.count_at_place.result c.place_of_count.ensures.place c.count_at_place.ensures c.count.result
     c.count.ensures.read)

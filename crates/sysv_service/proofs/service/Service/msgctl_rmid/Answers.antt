@@ -1,12 +1,16 @@
 use Rattle.std.proofs.lemmas.Int.{to_z-of_z}
-use Rattle.sysv_steps.specs.State.{Zero}
-use Rattle.sysv_steps.specs.Seen.{ending_of}
-use Rattle.sysv_service.proofs.ProceedsByStep.{from_start, tells_zero}
+use Rattle.sysv_steps.specs.State.{Over}
+use Rattle.sysv_steps.specs.Stepping.{no_moment}
+use Rattle.sysv_service.specs.Results.{removal_as_send}
+use Rattle.sysv_service.proofs.Untimed.{removal_is_untimed, comes_with}
 use Rattle.sysv_service.proofs.service.Service.msgctl_rmid.Goals as goal
+
+pub done_of-requires : goal.done_of-requires
+done_of-requires g c = removal_as_send c.run_alone.result.outcome c.run_alone.ensures.kind
 
 pub returns-clause-ran : goal.returns-clause-ran
 returns-clause-ran g c =
     let id = c.ranges.id in
-    let ran = from_start (c.begin.ensures 0) c.finish.ensures.ran in
-    let comes = simp to_z-of_z at ran in
-    (ending_of (λ _. Zero) c.finish.result, comes, tells_zero c.finish.result)
+    let ran = c.run_alone.ensures.ran in
+    let comes = simp to_z-of_z at (comes_with _ no_moment removal_is_untimed _ _ (Over ran.0) _ ran.1) in
+    (ran.0, comes, c.done_of.ensures ran.0 ran.2)

@@ -1,66 +1,50 @@
-use Rattle.std.proofs.Common.{subst, rules, w32, w64, to_z, of_z}
+use Rattle.std.proofs.Common.{◌≡◌, refl, Some}
 use Rattle.std.proofs.lemmas.Int.{to_z-of_z}
-use Rattle.sysv_steps.specs.Seen.{receive_wait, receive_state}
-use Rattle.sysv_steps.specs.State.{Waits}
-use Rattle.sysv_steps.specs.Giving.{GivesNothing}
-use Rattle.sysv_service.specs.Pending.{ReceivesOn}
-use Rattle.sysv_service.specs.Pieces.{comes_on, if_given}
-use Rattle.sysv_service.proofs.ProceedsByStep.{first_at, comes_wait}
-use Rattle.sysv_service.proofs.ReceiveGivesTaken.{begin_gives_nothing}
+use Rattle.sysv_steps.specs.Call.{Receives}
+use Rattle.sysv_service.specs.Pieces.{comes_first, has_kind, is_over}
+use Rattle.sysv_service.proofs.KindsServed.{serves_in}
+use Rattle.sysv_service.specs.Results.{tells_got, has_given}
 use Rattle.sysv_service.proofs.service.Service.msgrcv.Goals as goal
 
-pub loop-init : goal.loop-init
-loop-init g c =
-    let may = g.C.Clock.may c.args.clock.now in
-    let starts = c.begin-state.ensures c.args.out.now 0 in
-    record {
-      pass = c.requires;
-      nothing = subst GivesNothing starts
-          (begin_gives_nothing c.args.cred (to_z w32 (of_z w32 c.args.id)) c.args.size
-          (to_z w64 (of_z w64 c.args.mtype))
-          c.args.flags);
-      comes = first_at may _ _ _ starts;
-      goes_on = search rules;
-    }
+pub run-requires-clause-kind : goal.run-requires-clause-kind
+run-requires-clause-kind g c =
+    let begun = c.begin_call-begun in
+    serves_in (λ kind. kind ≡ Receives) _ begun.result (has_kind _ begun.result (Some begun.new.self) begun.ensures.comes) refl
 
-pub loop-preserved : goal.loop-preserved
-loop-preserved g c =
+pub delivery_of-requires : goal.delivery_of-requires
+delivery_of-requires g c =
     let may = g.C.Clock.may c.args.clock.now in
-    let wait = receive_wait c.in-Waits.wait in
-    let out = c.receive_on.new.out in
-    let on = subst (λ p.
-    ReceivesOn may (receive_state c.loop.state c.loop.out) c.loop.pass p out c.receive_on.new.pass)
-    c.in-Waits.is c.receive_on.ensures.ran in
-    let there = comes_on may _ _ _ _ (Waits wait) c.receive_on.new.pass c.loop.invariant.comes on.0 in
-    record {
-      pass = c.wait_for_message.ensures.pass;
-      nothing = c.wait_for_message.ensures.nothing out;
-      comes = comes_wait may _ _ wait c.receive_on.new.pass _ c.wait_for_message.new.pass there
-          (c.wait_for_message.ensures.ended out);
-      goes_on = search rules;
-    }
+    let begun = c.begin_call-begun in
+    let old = c.args.pass.now in
+    let started = comes_first may _ old begun.result (Some begun.new.self) begun.ensures.comes begun.ensures.taken in
+    let over = is_over may _ old c.run.result _ c.run.new.pass (c.run.ensures.ran _ _ old started) in
+    over.ends
 
-pub returns-in-Over-clause-ran : goal.returns-in-Over-clause-ran
-returns-in-Over-clause-ran g c =
+pub returns-clause-ran : goal.returns-clause-ran
+returns-clause-ran g c =
     let may = g.C.Clock.may c.args.clock.now in
-    let on =
-    subst (λ p.
-    ReceivesOn may (receive_state c.loop.state c.loop.out) c.loop.pass p c.receive_on.new.out c.receive_on.new.pass)
-    c.in-Over.is c.receive_on.ensures.ran in
-    let comes = comes_on may _ _ _ _ _ c.receive_on.new.pass c.loop.invariant.comes on.0.1 in
     let id = c.ranges.id in
     let mtype = c.ranges.mtype in
-    let there = simp to_z-of_z at comes in
-    (on.0.0, there, on.0.2)
+    let begun = c.begin_call-begun in
+    let old = c.args.pass.now in
+    let started = comes_first may _ old begun.result (Some begun.new.self) begun.ensures.comes begun.ensures.taken in
+    let over = is_over may _ old c.run.result _ c.run.new.pass (c.run.ensures.ran _ _ old started) in
+    let ran = simp to_z-of_z at over.ran in (
+      over.ending,
+      (over.ops, ran),
+      tells_got over.ending c.run.result c.delivery_of.result c.run.new.body c.delivery_of.ensures over.outcome
+          (over.bytes refl) c.run.ensures.delivered,
+    )
 
-pub returns-in-Over-clause-given : goal.returns-in-Over-clause-given
-returns-in-Over-clause-given g c =
+pub returns-clause-given : goal.returns-clause-given
+returns-clause-given g c =
     let may = g.C.Clock.may c.args.clock.now in
-    let on =
-    subst (λ p.
-    ReceivesOn may (receive_state c.loop.state c.loop.out) c.loop.pass p c.receive_on.new.out c.receive_on.new.pass)
-    c.in-Over.is c.receive_on.ensures.ran in
-    let given = if_given may _ _ _ _ c.in-Over.told c.receive_on.new.pass c.loop.invariant.comes on.1 in
     let id = c.ranges.id in
     let mtype = c.ranges.mtype in
-    simp to_z-of_z at given
+    let begun = c.begin_call-begun in
+    let old = c.args.pass.now in
+    let started = comes_first may _ old begun.result (Some begun.new.self) begun.ensures.comes begun.ensures.taken in
+    let over = is_over may _ old c.run.result _ c.run.new.pass (c.run.ensures.ran _ _ old started) in
+    let ran = simp to_z-of_z at over.ran in
+    has_given may _ old over.ending over.ops c.run.result c.delivery_of.result c.run.new.pass ran over.taken
+    c.delivery_of.ensures

@@ -1,35 +1,40 @@
-use Rattle.std.proofs.Common.{◌≡◌, ℕ, refl, sym, subst}
+use Rattle.std.proofs.Common.{◌≡◌, refl, Some}
 use Rattle.std.proofs.lemmas.Int.{to_z-of_z}
-use Rattle.sysv_steps.specs.Call.{Msgsnd}
-use Rattle.sysv_steps.specs.Begin.{begin as begins}
-use Rattle.sysv_steps.specs.Resume.{Released}
-use Rattle.sysv_steps.specs.Seen.{ending_of}
-use Rattle.sysv_steps.specs.State.{Ending, Over, Zero}
-use Rattle.sysv_service.specs.Reading.{Reads}
-use Rattle.sysv_service.specs.Ran.{Pass, Comes}
-use Rattle.sysv_service.specs.Told.{TellsZero}
-use Rattle.sysv_service.proofs.ProceedsByStep.{from_start, tells_zero}
+use Rattle.sysv_steps.specs.Call.{Sends}
+use Rattle.sysv_service.specs.Pieces.{comes_first, has_kind, is_over}
+use Rattle.sysv_service.proofs.KindsServed.{serves_in}
 use Rattle.sysv_service.proofs.service.Service.msgsnd.Goals as goal
+
+pub run-requires-clause-kind : goal.run-requires-clause-kind
+run-requires-clause-kind g c =
+    let begun = c.begin_call-begun in
+    serves_in (λ kind. kind ≡ Sends) _ begun.result (has_kind _ begun.result (Some begun.new.self.now) begun.ensures.comes) refl
+
+pub done_of-requires : goal.done_of-requires
+done_of-requires g c =
+    let may = g.C.Clock.may c.args.clock.now in
+    let begun = c.begin_call-begun in
+    let mid = c.read_at_start-released.new.pass in
+    let started = comes_first may _ mid begun.result (Some begun.new.self.now) begun.ensures.comes begun.ensures.taken in
+    let over = is_over may _ mid c.run.result _ c.run.new.pass (c.run.ensures.ran _ _ mid started) in
+    over.ends
 
 pub returns-clause-ran : goal.returns-clause-ran
 returns-clause-ran g c =
-    let mid : Pass = record { seats = c.count-released.new.seats; held = c.pass.inside.held.blocks } in
     let may = g.C.Clock.may c.args.clock.now in
     let id = c.ranges.id in
     let mtype = c.ranges.mtype in
-    let ending = ending_of (λ _. Zero) c.run.result in
-    let ran =
-    from_start (c.begin-begun.ensures.next c.args.text.now (sym c.len.ensures.value)) c.run.ensures.ran in
-    let comes = simp to_z-of_z at ran in
-    subst (λ (b : Pass).
-    (released : ℕ) × (m : Pass) × Reads Released released b.seats m.seats × (m.held ≡ b.held) × (ending : Ending)
-    × Comes may (begins c.args.cred (Msgsnd c.args.id c.args.mtype c.args.flags c.args.text.now) released) m
-    (Over ending) c.run.new.pass × TellsZero ending c.run.result) c.pass.view_is (
-      c.count-released.result,
+    let begun = c.begin_call-begun in
+    let mid = c.read_at_start-released.new.pass in
+    let started = comes_first may _ mid begun.result (Some begun.new.self.now) begun.ensures.comes begun.ensures.taken in
+    let over = is_over may _ mid c.run.result _ c.run.new.pass (c.run.ensures.ran _ _ mid started) in
+    let ran = simp to_z-of_z at over.ran in
+    let read = c.read_at_start-released.ensures.starts c.args.text.now in (
+      c.read_at_start-released.result,
       mid,
-      c.count-released.ensures.read,
-      refl,
-      ending,
-      comes,
-      tells_zero c.run.result,
+      read.0,
+      read.1,
+      over.ending,
+      (over.ops, ran),
+      c.done_of.ensures over.ending over.outcome,
     )

@@ -1,52 +1,43 @@
 use Rattle.std.proofs.Common.{subst, rules}
-use Rattle.sysv_steps.specs.Seen.{state_of}
-use Rattle.sysv_service.specs.Ran.{Comes}
-use Rattle.sysv_service.specs.Pending.{stopped_at, StoppedBy}
-use Rattle.sysv_service.specs.Pieces.{comes_on}
-use Rattle.sysv_service.proofs.ProceedsByStep.{comes_first, comes_wait}
+use Rattle.sysv_steps.specs.Pending.{StillCanGoOn}
+use Rattle.sysv_service.specs.Pending.{ComesOn, ServesIn}
 use Rattle.sysv_service.proofs.service.Service.run.Goals as goal
 
 pub loop-init : goal.loop-init
-loop-init g c = record {
-  pass = c.requires.pass;
-  can = c.requires.can;
-  comes = comes_first (g.S.Stepper.may c.args.stepper.now) _ _;
-  goes_on = search rules;
-}
-
-pub loop-preserved : goal.loop-preserved
-loop-preserved g c =
-    let stepper = c.args.stepper.now in
-    let may = g.S.Stepper.may stepper in
-    let phase = g.S.Stepper.phase stepper in
-    let wait = g.S.Stepper.wait stepper in
-    let ending = g.S.Stepper.ending stepper in
-    let ran =
-    subst (λ p.
-    Comes may (state_of phase wait ending c.loop.state) c.loop.pass (stopped_at wait ending p) c.run_on.new.pass)
-    c.in-Waits.is c.run_on.ensures.ran in
-    let there = comes_on may _ _ _ _ _ c.run_on.new.pass c.loop.invariant.comes ran in
+loop-init g c =
+    let may = g.C.Clock.may c.args.clock.now in
+    let body = g.B.CallBody.bytes c.args.body.now in
     record {
-      pass = c.wait_out.ensures.pass;
-      can = c.wait_out.ensures.can;
-      comes = comes_wait may _ _ (wait c.in-Waits.wait) c.run_on.new.pass _ c.wait_out.new.pass there
-          c.wait_out.ensures.ended;
+      pass = c.requires.pass;
+      serves = subst (ServesIn g.B.CallBody.serves) c.in-On.is c.requires.kind;
+      can = subst (λ p. StillCanGoOn p body) c.in-On.is c.requires.can;
+      comes = λ kind from old came. subst (λ p. ComesOn may from old p body c.args.pass.now) c.in-On.is came;
       goes_on = search rules;
     }
 
-pub wait_out-requires-clause-can : goal.wait_out-requires-clause-can
-wait_out-requires-clause-can g c =
-    subst (StoppedBy (g.S.Stepper.can c.args.stepper.now)) c.in-Waits.is c.run_on.ensures.can
+pub loop-preserved : goal.loop-preserved
+loop-preserved g c =
+    let may = g.C.Clock.may c.args.clock.now in
+    let body = g.B.CallBody.bytes c.go_or_wait.new.body in
+    let pass = c.go_or_wait.new.pass in
+    record {
+      pass = c.go_or_wait.ensures.pass;
+      serves = subst (ServesIn g.B.CallBody.serves) c.in-On.is c.go_or_wait.ensures.serves;
+      can = subst (λ p. StillCanGoOn p body) c.in-On.is c.go_or_wait.ensures.can;
+      comes = λ kind from old came.
+          subst (λ p. ComesOn may from old p body pass) c.in-On.is
+          (c.go_or_wait.ensures.ran kind from old (c.loop.invariant.comes kind from old came));
+      goes_on = search rules;
+    }
+
+pub returns-in-Over-clause-delivered : goal.returns-in-Over-clause-delivered
+returns-in-Over-clause-delivered g c =
+    subst (λ p. StillCanGoOn p (g.B.CallBody.bytes c.go_or_wait.new.body)) c.in-Over.is c.go_or_wait.ensures.can
 
 pub returns-in-Over-clause-ran : goal.returns-in-Over-clause-ran
-returns-in-Over-clause-ran g c =
-    let stepper = c.args.stepper.now in
-    let may = g.S.Stepper.may stepper in
-    let phase = g.S.Stepper.phase stepper in
-    let wait = g.S.Stepper.wait stepper in
-    let ending = g.S.Stepper.ending stepper in
-    let ran =
-    subst (λ p.
-    Comes may (state_of phase wait ending c.loop.state) c.loop.pass (stopped_at wait ending p) c.run_on.new.pass)
-    c.in-Over.is c.run_on.ensures.ran in
-    comes_on may _ _ _ _ _ c.run_on.new.pass c.loop.invariant.comes ran
+returns-in-Over-clause-ran g c = λ kind from old came.
+    subst
+    (λ p.
+    ComesOn (g.C.Clock.may c.args.clock.now) from old p (g.B.CallBody.bytes c.go_or_wait.new.body)
+    c.go_or_wait.new.pass)
+    c.in-Over.is (c.go_or_wait.ensures.ran kind from old (c.loop.invariant.comes kind from old came))

@@ -1,19 +1,18 @@
-use Rattle.sysv_steps.specs.Seen.{state_of}
+use Rattle.sysv_steps.specs.Pending.{pending_kind, CanGoOn}
+use Rattle.sysv_steps.specs.declared.progress.Progress.TheVariants.{On}
 use Rattle.sysv_service.specs.Seats.{AreOf}
-use Rattle.sysv_service.specs.Ran.{Comes}
+use Rattle.sysv_service.specs.Pending.{Advances}
 use Rattle.sysv_service.proofs.service.Service.run.Given as goal
 
--- The state of the call so far.
+-- How far the call has come.
 abbrev pub invariant-loop : goal.invariant-loop
 invariant-loop g l =
-    let stepper = l.fn.stepper in
-    let phase = g.S.Stepper.phase stepper in
-    let wait = g.S.Stepper.wait stepper in
-    let ending = g.S.Stepper.ending stepper in
+    let bytes = g.B.CallBody.bytes in
     record {
       pass : AreOf l.fn.self l.pass.seats;
-      can : g.S.Stepper.can stepper l.state;
-      comes : Comes (g.S.Stepper.may stepper) (state_of phase wait ending l.fn.begun) l.fn.pass
-          (state_of phase wait ending l.state) l.pass;
+      serves : g.B.CallBody.serves (pending_kind l.next);
+      can : CanGoOn l.next (bytes l.body);
+      comes : Advances (g.C.Clock.may l.fn.clock) l.fn.begun (bytes l.fn.body) l.fn.pass (On l.next) (bytes l.body)
+          l.pass;
       goes_on : (goal.iterator-loop g).can_next l.iterator' × (goal.iterator-loop g).is_finite l.iterator';
     }

@@ -1,54 +1,60 @@
-use Rattle.std.proofs.Common.{ap, subst, rules}
-use Rattle.sysv_steps.specs.Seen.{state_of}
-use Rattle.sysv_service.proofs.ProceedsByStep.{comes_first, moved, comes_step}
+use Rattle.std.proofs.Common.{sym, subst}
+use Rattle.sysv_steps.specs.Pending.{kind_at, StillCanGoOn}
+use Rattle.sysv_service.specs.Pending.{stopped, Advances, ComesOn, HasKind, ServesIn}
+use Rattle.sysv_service.proofs.KindsServed.{serves_in}
 use Rattle.sysv_service.proofs.service.Service.run_on.Goals as goal
 
-pub loop-init : goal.loop-init
-loop-init g c = record {
-  pass = c.requires.pass;
-  can = c.requires.can;
-  comes = comes_first (g.S.Stepper.may c.args.stepper.now) _ _;
-  goes_on = search rules;
-}
+pub go_on-requires-clause-kind : goal.go_on-requires-clause-kind
+go_on-requires-clause-kind g c = subst (ServesIn g.B.CallBody.serves) c.in-On-At.is c.requires.kind
 
-pub loop-preserved : goal.loop-preserved
-loop-preserved g c =
-    let stepper = c.args.stepper.now in
-    let may = g.S.Stepper.may stepper in
-    let phase = g.S.Stepper.phase stepper in
-    let wait = g.S.Stepper.wait stepper in
-    let ending = g.S.Stepper.ending stepper in
-    let there =
-    moved may _ _ _ _ c.loop.pass (ap (state_of phase wait ending) c.in-Goes.is) c.loop.invariant.comes in
-    record {
-      pass = c.step.ensures.pass;
-      can = c.step.ensures.can;
-      comes = comes_step may _ _ (phase c.in-Goes.step) c.loop.pass _ c.step.new.pass there c.step.ensures.steps;
-      goes_on = search rules;
-    }
+pub go_on-requires-clause-can : goal.go_on-requires-clause-can
+go_on-requires-clause-can g c =
+    subst (λ p. StillCanGoOn p (g.B.CallBody.bytes c.args.body.now)) c.in-On-At.is c.requires.can
 
-pub step-requires-clause-can : goal.step-requires-clause-can
-step-requires-clause-can g c =
-    subst (g.S.Stepper.can c.args.stepper.now) c.in-Goes.is c.loop.invariant.can
+pub returns-in-On-At-clause-serves : goal.returns-in-On-At-clause-serves
+returns-in-On-At-clause-serves g c =
+    serves_in g.B.CallBody.serves (kind_at c.in-On-At.step) (stopped c.go_on.result) c.go_on.ensures.kind
+    (subst (ServesIn g.B.CallBody.serves) c.in-On-At.is c.requires.kind)
 
-pub returns-in-Waits-clause-can : goal.returns-in-Waits-clause-can
-returns-in-Waits-clause-can g c =
-    subst (g.S.Stepper.can c.args.stepper.now) c.in-Waits.is c.loop.invariant.can
+pub returns-in-On-At-clause-kind : goal.returns-in-On-At-clause-kind
+returns-in-On-At-clause-kind g c = λ kind is.
+    subst (λ k. HasKind k (stopped c.go_on.result)) (subst (HasKind kind) c.in-On-At.is is) c.go_on.ensures.kind
+
+pub returns-in-On-At-clause-ran : goal.returns-in-On-At-clause-ran
+returns-in-On-At-clause-ran g c =
+    let may = g.C.Clock.may c.args.clock.now in
+    let bytes = g.B.CallBody.bytes in
+    subst
+    (λ p.
+    Advances may p (bytes c.args.body.now) c.args.pass.now (stopped c.go_on.result) (bytes c.go_on.new.body)
+    c.go_on.new.pass)
+    (sym c.in-On-At.is) c.go_on.ensures.ran
+
+pub returns-in-On-Waits-clause-serves : goal.returns-in-On-Waits-clause-serves
+returns-in-On-Waits-clause-serves g c = subst (ServesIn g.B.CallBody.serves) c.in-On-Waits.is c.requires.kind
+
+pub returns-in-On-Waits-clause-kind : goal.returns-in-On-Waits-clause-kind
+returns-in-On-Waits-clause-kind g c = λ kind is. subst (HasKind kind) c.in-On-Waits.is is
+
+pub returns-in-On-Waits-clause-can : goal.returns-in-On-Waits-clause-can
+returns-in-On-Waits-clause-can g c =
+    subst (λ p. StillCanGoOn p (g.B.CallBody.bytes c.args.body.now)) c.in-On-Waits.is c.requires.can
+
+pub returns-in-On-Waits-clause-ran : goal.returns-in-On-Waits-clause-ran
+returns-in-On-Waits-clause-ran g c = λ kind from old came.
+    subst
+    (λ p. ComesOn (g.C.Clock.may c.args.clock.now) from old p (g.B.CallBody.bytes c.args.body.now) c.args.pass.now)
+    c.in-On-Waits.is came
+
+pub returns-in-Over-clause-kind : goal.returns-in-Over-clause-kind
+returns-in-Over-clause-kind g c = λ kind is. subst (HasKind kind) c.in-Over.is is
 
 pub returns-in-Over-clause-can : goal.returns-in-Over-clause-can
 returns-in-Over-clause-can g c =
-    subst (g.S.Stepper.can c.args.stepper.now) c.in-Over.is c.loop.invariant.can
-
-pub returns-in-Waits-clause-ran : goal.returns-in-Waits-clause-ran
-returns-in-Waits-clause-ran g c =
-    let stepper = c.args.stepper.now in
-    moved (g.S.Stepper.may stepper) _ _ _ _ c.loop.pass
-    (ap (state_of (g.S.Stepper.phase stepper) (g.S.Stepper.wait stepper) (g.S.Stepper.ending stepper)) c.in-Waits.is)
-    c.loop.invariant.comes
+    subst (λ p. StillCanGoOn p (g.B.CallBody.bytes c.args.body.now)) c.in-Over.is c.requires.can
 
 pub returns-in-Over-clause-ran : goal.returns-in-Over-clause-ran
-returns-in-Over-clause-ran g c =
-    let stepper = c.args.stepper.now in
-    moved (g.S.Stepper.may stepper) _ _ _ _ c.loop.pass
-    (ap (state_of (g.S.Stepper.phase stepper) (g.S.Stepper.wait stepper) (g.S.Stepper.ending stepper)) c.in-Over.is)
-    c.loop.invariant.comes
+returns-in-Over-clause-ran g c = λ kind from old came.
+    subst
+    (λ p. ComesOn (g.C.Clock.may c.args.clock.now) from old p (g.B.CallBody.bytes c.args.body.now) c.args.pass.now)
+    c.in-Over.is came
