@@ -1,5 +1,6 @@
 -- What the seats count, before and after one of them changed.
-use Rattle.std.proofs.Common.{◌≡◌, ◌≢◌, ◌⊎◌, inl, inr, ⊎_elim, ℕ, zero, suc, ◌+◌, ◌*◌, ◌<◌, ◌≤◌, ◌==◌, Bool, cond, List, [], ◌∷◌, ◌++◌}
+use Rattle.std.proofs.Common.{◌≡◌, ◌≢◌, ◌⊎◌, inl, inr, ⊎_elim, ℕ, zero, suc, ◌+◌, ◌*◌, ◌<◌, ◌≤◌, ◌==◌, Bool, cond, List}
+use Rattle.std.proofs.Common.{[], ◌∷◌, ◌++◌}
 use Rattle.std.proofs.Common.{length, set, sym, refl, ap, ◌∙◌, arith, eq-eqb, ne_eqb}
 use Rattle.std.specs.Prelude.{sum_by}
 use mathlib.Core.Logic.{dite}
@@ -146,29 +147,32 @@ pub record IsQuiet (old : (View → ℕ) → ℕ) (w : View) : Type 0 where
 
 pub quiet_still : (v w : View) → busy v.stage ≡ 0 → busy w.stage ≡ 0 → IsQuiet (λ f. f v) w
 quiet_still v w none none' =
-    let n : is_near v.stage + (is_ringing v.stage + (has_rung v.stage + (has_looked v.stage + has_passed v.stage))) ≡ 0 =
+    let n : is_near v.stage + (is_ringing v.stage + (has_rung v.stage + (has_looked v.stage + has_passed v.stage)))
+    ≡ 0 =
     none in
-    let m : is_near w.stage + (is_ringing w.stage + (has_rung w.stage + (has_looked w.stage + has_passed w.stage))) ≡ 0 =
+    let m : is_near w.stage + (is_ringing w.stage + (has_rung w.stage + (has_looked w.stage + has_passed w.stage)))
+    ≡ 0 =
     none' in
     record {
-  rung = λ at. none_here has_rung at v (omega arith) ∙ sym (none_here has_rung at w (omega arith));
-  ringing = λ at. none_here is_ringing at v (omega arith) ∙ sym (none_here is_ringing at w (omega arith));
-  near = λ at. none_here is_near at v (omega arith) ∙ sym (none_here is_near at w (omega arith));
-  looked = λ at. none_here has_looked at v (omega arith) ∙ sym (none_here has_looked at w (omega arith));
-  passed = omega arith;
-}
+      rung = λ at. none_here has_rung at v (omega arith) ∙ sym (none_here has_rung at w (omega arith));
+      ringing = λ at. none_here is_ringing at v (omega arith) ∙ sym (none_here is_ringing at w (omega arith));
+      near = λ at. none_here is_near at v (omega arith) ∙ sym (none_here is_near at w (omega arith));
+      looked = λ at. none_here has_looked at v (omega arith) ∙ sym (none_here has_looked at w (omega arith));
+      passed = omega arith;
+    }
 
 pub quiet_new : (w : View) → busy w.stage ≡ 0 → IsQuiet (λ f. 0) w
 quiet_new w none =
-    let m : is_near w.stage + (is_ringing w.stage + (has_rung w.stage + (has_looked w.stage + has_passed w.stage))) ≡ 0 =
+    let m : is_near w.stage + (is_ringing w.stage + (has_rung w.stage + (has_looked w.stage + has_passed w.stage)))
+    ≡ 0 =
     none in
     record {
-  rung = λ at. sym (none_here has_rung at w (omega arith));
-  ringing = λ at. sym (none_here is_ringing at w (omega arith));
-  near = λ at. sym (none_here is_near at w (omega arith));
-  looked = λ at. sym (none_here has_looked at w (omega arith));
-  passed = omega arith;
-}
+      rung = λ at. sym (none_here has_rung at w (omega arith));
+      ringing = λ at. sym (none_here is_ringing at w (omega arith));
+      near = λ at. sym (none_here is_near at w (omega arith));
+      looked = λ at. sym (none_here has_looked at w (omega arith));
+      passed = omega arith;
+    }
 
 -- ---- words
 

@@ -146,7 +146,8 @@ module _ (many : ℕ) (words : List ℕ) (views : List View) (kept : IsKept many
 
 module _ (many : ℕ) (words : List ℕ) (views : List View) (kept : IsKept many words views) where
   -- A new seat that rings at a doorbell where nobody is.
-  passed_keeps : (a : ℕ) → IsBell many a → get_or words a 0 ≡ 0 → IsKept many words (views ++ moved_to a Passed away ∷ [])
+  passed_keeps : (a : ℕ) → IsBell many a → get_or words a 0 ≡ 0 →
+      IsKept many words (views ++ moved_to a Passed away ∷ [])
   passed_keeps a bell nobody =
       let w : View = moved_to a Passed away in
       let vs : List View = views ++ w ∷ [] in
@@ -250,7 +251,8 @@ module _ (many : ℕ) (words : List ℕ) (views : List View) (kept : IsKept many
             omega arith;
         called = kept.called;
         entered = λ at bell.
-            let s : count_at is_at at vs + 0 ≡ count_at is_at at views + here is_at at w = change.sums (here is_at at) in
+            let s : count_at is_at at vs + 0 ≡ count_at is_at at views + here is_at at w =
+            change.sums (here is_at at) in
             let o = none_here is_at at w refl in
             let k = kept.entered at bell in
             omega arith;
@@ -476,9 +478,9 @@ spares many slots id me stage two s held _ there _ =
       keeps,
       tt,
       (λ few.
-      let kept = kept_now many id s.words s.views w held few in
-      subst (λ (ws : List ℕ). IsKept many ws (set s.views id w)) (sym (set-get_or s.words 1 0))
-      (spares_after many s.words s.views kept id me.0 there stage two n refl)),
+          let kept = kept_now many id s.words s.views w held few in
+          subst (λ (ws : List ℕ). IsKept many ws (set s.views id w)) (sym (set-get_or s.words 1 0))
+          (spares_after many s.words s.views kept id me.0 there stage two n refl)),
       refl,
     )
 
@@ -491,7 +493,8 @@ calls many slots id me stage two s held _ there _ =
       keeps,
       tt,
       (λ few.
-      calls_after many s.words s.views (kept_now many id s.words s.views w held few) id me.0 there stage two n refl),
+          calls_after many s.words s.views (kept_now many id s.words s.views w held few) id me.0 there stage two n
+          refl),
       refl,
     )
 
@@ -506,18 +509,18 @@ rings_out many slots id a me place stage at s held _ there _ =
       keeps,
       tt,
       (λ few.
-      let kept = kept_now many id s.words s.views w held few in
-      let sum : strokes a (set s.views id w) + here has_rung a me.0 ≡ strokes a s.views + here has_rung a w =
-      (replaced s.views id me.0 w there).sums (here has_rung a) in
-      let z = none_here has_rung a me.0 (ap has_rung stage) in
-      let one : here has_rung a w ≡ 1 = is_here has_rung a w at in
-      let most = few_rung a (set s.views id w) in
-      let is = kept.rung a place in
-      let more : k ≡ n + 1 = more_by_one n (length (set s.views id w)) (omega arith) few in
-      let bell : IsBell many me.0.at = subst (λ (z : ℕ). IsBell many z) (sym at) place in
-      let after : IsKept many (set s.words (me.0.at + 1) k) (set s.views id w) =
-      stroke_keeps many s.words s.views kept id me.0 there k bell stage
-      (more ∙ ap (λ (z : ℕ). get_or s.words (z + 1) 0 + 1) (sym at)) in
-      subst (λ (z : ℕ). IsKept many (set s.words (z + 1) k) (set s.views id w)) at after),
+          let kept = kept_now many id s.words s.views w held few in
+          let sum : strokes a (set s.views id w) + here has_rung a me.0 ≡ strokes a s.views + here has_rung a w =
+          (replaced s.views id me.0 w there).sums (here has_rung a) in
+          let z = none_here has_rung a me.0 (ap has_rung stage) in
+          let one : here has_rung a w ≡ 1 = is_here has_rung a w at in
+          let most = few_rung a (set s.views id w) in
+          let is = kept.rung a place in
+          let more : k ≡ n + 1 = more_by_one n (length (set s.views id w)) (omega arith) few in
+          let bell : IsBell many me.0.at = subst (λ (z : ℕ). IsBell many z) (sym at) place in
+          let after : IsKept many (set s.words (me.0.at + 1) k) (set s.views id w) =
+          stroke_keeps many s.words s.views kept id me.0 there k bell stage
+          (more ∙ ap (λ (z : ℕ). get_or s.words (z + 1) 0 + 1) (sym at)) in
+          subst (λ (z : ℕ). IsKept many (set s.words (z + 1) k) (set s.views id w)) at after),
       refl,
     )

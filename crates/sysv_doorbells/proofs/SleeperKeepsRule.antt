@@ -1,5 +1,6 @@
 -- Proves that each step of a thread that sleeps keeps the rule.
-use Rattle.std.proofs.Common.{◌≡◌, ◌≢◌, ⊎_elim, ℕ, zero, suc, ◌+◌, ◌*◌, ◌-◌, ◌%◌, ◌^◌, ◌<◌, ◌≤◌, List, [], ◌∷◌, ◌++◌, length, set}
+use Rattle.std.proofs.Common.{◌≡◌, ◌≢◌, ⊎_elim, ℕ, zero, suc, ◌+◌, ◌*◌, ◌-◌, ◌%◌, ◌^◌, ◌<◌, ◌≤◌, List, [], ◌∷◌, ◌++◌}
+use Rattle.std.proofs.Common.{length, set}
 use Rattle.std.proofs.Common.{get_or, sym, refl, ap, ◌∙◌, subst, arith, length-set, get_or-set_same}
 use mathlib.Core.Logic.{dite}
 use mathlib.Core.Option.{none, some}
@@ -17,7 +18,8 @@ use Rattle.sysv_doorbells.specs.Rule.{is_inside, is_at, is_near, is_ringing, has
 use Rattle.sysv_doorbells.specs.Rule.{count_at, count, strokes, rings, IsBell, IsReady, IsKept, Kept, away}
 use Rattle.sysv_doorbells.specs.Steps.{Mine, moved, moved_to, noted, opened, made_ready}
 use Rattle.sysv_doorbells.specs.Steps as steps
-use Rattle.sysv_doorbells.proofs.Counts.{Change, replaced, joined, IsQuiet, quiet_still, quiet_new, busy, not_next, apart}
+use Rattle.sysv_doorbells.proofs.Counts.{Change, replaced, joined, IsQuiet, quiet_still, quiet_new, busy, not_next}
+use Rattle.sysv_doorbells.proofs.Counts.{apart}
 use Rattle.sysv_doorbells.proofs.Counts.{is_here, is_else, none_here, same_here, few_inside, few_at, one_less}
 
 -- ---- a step that rings nothing
@@ -160,7 +162,8 @@ module _ (many : ℕ) (words : List ℕ) (views : List View) (kept : IsKept many
         let less = place.1 in
         let change = replaced views id v w there in
         let here_now : get_or (set words a k) a 0 ≡ k = get_or-set_same words a k 0 (omega arith) in
-        let zeroth : get_or (set words a k) 0 0 ≡ get_or words 0 0 = get_or-set_other words a 0 k 0 (λ e. omega arith) in
+        let zeroth : get_or (set words a k) 0 0 ≡ get_or words 0 0 =
+        get_or-set_other words a 0 k 0 (λ e. omega arith) in
         let first : get_or (set words a k) 1 0 ≡ get_or words 1 0 = get_or-set_other words a 1 k 0 (λ e. omega arith) in
         quiet_keeps many words views kept (set views id w) (λ f. f v) w change
         (quiet_still v w (ap busy come) refl) (set words a k) (length-set words a k)
@@ -249,7 +252,8 @@ module _ (many : ℕ) (words : List ℕ) (views : List View) (kept : IsKept many
         let size = kept.size in
         let change = replaced views id v w there in
         let zero_now : get_or (set words 1 0) 1 0 ≡ 0 = get_or-set_same words 1 0 0 (omega arith) in
-        let zeroth : get_or (set words 1 0) 0 0 ≡ get_or words 0 0 = get_or-set_other words 1 0 0 0 (λ e. omega arith) in
+        let zeroth : get_or (set words 1 0) 0 0 ≡ get_or words 0 0 =
+        get_or-set_other words 1 0 0 0 (λ e. omega arith) in
         quiet_keeps many words views kept (set views id w) (λ f. f v) w change
         (quiet_still v w (ap busy stage) refl) (set words 1 0) (length-set words 1 0)
         (let s : count is_inside (set views id w) + is_inside v.stage ≡ count is_inside views + 1 =
@@ -283,7 +287,8 @@ module _ (many : ℕ) (words : List ℕ) (views : List View) (kept : IsKept many
         let size = kept.size in
         let change = replaced views id v w there in
         let zero_now : get_or (set words 1 0) 1 0 ≡ 0 = get_or-set_same words 1 0 0 (omega arith) in
-        let zeroth : get_or (set words 1 0) 0 0 ≡ get_or words 0 0 = get_or-set_other words 1 0 0 0 (λ e. omega arith) in
+        let zeroth : get_or (set words 1 0) 0 0 ≡ get_or words 0 0 =
+        get_or-set_other words 1 0 0 0 (λ e. omega arith) in
         quiet_keeps many words views kept (set views id w) (λ f. f v) w change
         (quiet_still v w (ap busy stage) (ap busy stage)) (set words 1 0) (length-set words 1 0)
         (let s : count is_inside (set views id w) + is_inside v.stage ≡ count is_inside views + is_inside v.stage =
@@ -409,7 +414,8 @@ less_by_one : (n : ℕ) → 1 ≤ n → n < 18446744073709551616 →
     (n + 18446744073709551615) % 18446744073709551616 + 1 ≡ n
 less_by_one n least fits = omega arith
 
-pub begins : (many slots i : ℕ) → Enters (Kept many) slots i (λ n w. steps.Begins (step slots i 0 0 none) (away, []) n (w, []))
+pub begins : (many slots i : ℕ) →
+    Enters (Kept many) slots i (λ n w. steps.Begins (step slots i 0 0 none) (away, []) n (w, []))
 begins many slots i s held _ _ = (
   away,
   (λ few. begins_keeps many s.words s.views (held (one_less s.views away few))),
@@ -425,14 +431,14 @@ comes many slots id me stage s held _ there _ =
       keeps,
       tt,
       (λ few.
-      let kept = kept_now many id s.words s.views w held few in
-      let sum : count is_inside (set s.views id w) + is_inside me.0.stage ≡ count is_inside s.views + 1 =
-      (replaced s.views id me.0 w there).sums (λ (u : View). is_inside u.stage) in
-      let z : is_inside me.0.stage ≡ 0 = ap is_inside stage in
-      let most = few_inside (set s.views id w) in
-      let is = kept.sleepers in
-      comes_keeps many s.words s.views kept id me.0 there ((n + 1) % 18446744073709551616) stage
-      (more_by_one n (length (set s.views id w)) (omega arith) few)),
+          let kept = kept_now many id s.words s.views w held few in
+          let sum : count is_inside (set s.views id w) + is_inside me.0.stage ≡ count is_inside s.views + 1 =
+          (replaced s.views id me.0 w there).sums (λ (u : View). is_inside u.stage) in
+          let z : is_inside me.0.stage ≡ 0 = ap is_inside stage in
+          let most = few_inside (set s.views id w) in
+          let is = kept.sleepers in
+          comes_keeps many s.words s.views kept id me.0 there ((n + 1) % 18446744073709551616) stage
+          (more_by_one n (length (set s.views id w)) (omega arith) few)),
       refl,
     )
 
@@ -445,15 +451,16 @@ enters many slots id a me place stage s held _ there _ =
       keeps,
       tt,
       (λ few.
-      let kept = kept_now many id s.words s.views w held few in
-      let sum : count_at is_at a (set s.views id w) + here is_at a me.0 ≡ count_at is_at a s.views + here is_at a w =
-      (replaced s.views id me.0 w there).sums (here is_at a) in
-      let z = none_here is_at a me.0 (ap is_at stage) in
-      let one : here is_at a w ≡ 1 = is_here is_at a w refl in
-      let most = few_at a (set s.views id w) in
-      let is = kept.entered a place in
-      enters_keeps many s.words s.views kept id me.0 there a ((n + 1) % 18446744073709551616) place stage
-      (more_by_one n (length (set s.views id w)) (omega arith) few)),
+          let kept = kept_now many id s.words s.views w held few in
+          let sum : count_at is_at a (set s.views id w) + here is_at a me.0
+          ≡ count_at is_at a s.views + here is_at a w =
+          (replaced s.views id me.0 w there).sums (here is_at a) in
+          let z = none_here is_at a me.0 (ap is_at stage) in
+          let one : here is_at a w ≡ 1 = is_here is_at a w refl in
+          let most = few_at a (set s.views id w) in
+          let is = kept.entered a place in
+          enters_keeps many s.words s.views kept id me.0 there a ((n + 1) % 18446744073709551616) place stage
+          (more_by_one n (length (set s.views id w)) (omega arith) few)),
       refl,
     )
 
@@ -467,12 +474,12 @@ reads many slots id a me place apart stage at s held _ there _ =
       keeps,
       tt,
       (λ few.
-      let kept = kept_now many id s.words s.views w held few in
-      let bell : IsBell many me.0.at = subst (λ (z : ℕ). IsBell many z) (sym at) place in
-      let after = reads_keeps many s.words s.views kept id me.0 there bell (λ e. apart (sym at ∙ e)) stage in
-      subst (λ (ws : List ℕ). IsKept many ws (set s.views id w)) (sym (set-get_or s.words (a + 1) 0))
-      (subst (λ (z : ℕ). IsKept many s.words (set s.views id (made_ready (get_or s.words (z + 1) 0) since me.0))) at
-      after)),
+          let kept = kept_now many id s.words s.views w held few in
+          let bell : IsBell many me.0.at = subst (λ (z : ℕ). IsBell many z) (sym at) place in
+          let after = reads_keeps many s.words s.views kept id me.0 there bell (λ e. apart (sym at ∙ e)) stage in
+          subst (λ (ws : List ℕ). IsKept many ws (set s.views id w)) (sym (set-get_or s.words (a + 1) 0))
+          (subst (λ (z : ℕ). IsKept many s.words (set s.views id (made_ready (get_or s.words (z + 1) 0) since me.0))) at
+          after)),
       (since, refl),
     )
 
@@ -485,11 +492,11 @@ notes many slots id a me place stage at s held _ there _ =
       keeps,
       tt,
       (λ few.
-      let kept = kept_now many id s.words s.views w held few in
-      let bell : IsBell many me.0.at = subst (λ (z : ℕ). IsBell many z) (sym at) place in
-      let after = notes_keeps many s.words s.views kept id me.0 there bell stage in
-      subst (λ (ws : List ℕ). IsKept many ws (set s.views id w)) (sym (set-get_or s.words (a + 1) 0))
-      (subst (λ (z : ℕ). IsKept many s.words (set s.views id (noted (get_or s.words (z + 1) 0) me.0))) at after)),
+          let kept = kept_now many id s.words s.views w held few in
+          let bell : IsBell many me.0.at = subst (λ (z : ℕ). IsBell many z) (sym at) place in
+          let after = notes_keeps many s.words s.views kept id me.0 there bell stage in
+          subst (λ (ws : List ℕ). IsKept many ws (set s.views id w)) (sym (set-get_or s.words (a + 1) 0))
+          (subst (λ (z : ℕ). IsKept many s.words (set s.views id (noted (get_or s.words (z + 1) 0) me.0))) at after)),
       refl,
     )
 
@@ -526,17 +533,17 @@ leaves many slots id a me place stage at s held _ there low =
       keeps,
       tt,
       (λ few.
-      let kept = kept_now many id s.words s.views w held few in
-      let least : 1 ≤ count_at is_at me.0.at s.views =
-      counted_at many s.words s.views kept id me.0 there (ap is_at stage) in
-      let least' : 1 ≤ count_at is_at a s.views = subst (λ (z : ℕ). 1 ≤ count_at is_at z s.views) at least in
-      let is = kept.entered a place in
-      let one : k + 1 ≡ n = less_by_one n (omega arith) low in
-      let bell : IsBell many me.0.at = subst (λ (z : ℕ). IsBell many z) (sym at) place in
-      let after : IsKept many (set s.words me.0.at k) (set s.views id w) =
-      leaves_keeps many s.words s.views kept id me.0 there k bell stage
-      (one ∙ ap (λ (z : ℕ). get_or s.words z 0) (sym at)) in
-      subst (λ (z : ℕ). IsKept many (set s.words z k) (set s.views id w)) at after),
+          let kept = kept_now many id s.words s.views w held few in
+          let least : 1 ≤ count_at is_at me.0.at s.views =
+          counted_at many s.words s.views kept id me.0 there (ap is_at stage) in
+          let least' : 1 ≤ count_at is_at a s.views = subst (λ (z : ℕ). 1 ≤ count_at is_at z s.views) at least in
+          let is = kept.entered a place in
+          let one : k + 1 ≡ n = less_by_one n (omega arith) low in
+          let bell : IsBell many me.0.at = subst (λ (z : ℕ). IsBell many z) (sym at) place in
+          let after : IsKept many (set s.words me.0.at k) (set s.views id w) =
+          leaves_keeps many s.words s.views kept id me.0 there k bell stage
+          (one ∙ ap (λ (z : ℕ). get_or s.words z 0) (sym at)) in
+          subst (λ (z : ℕ). IsKept many (set s.words z k) (set s.views id w)) at after),
       refl,
     )
 
@@ -551,10 +558,10 @@ goes many slots id me stage s held _ there low =
       keeps,
       tt,
       (λ few.
-      let kept = kept_now many id s.words s.views w held few in
-      let least : 1 ≤ count is_inside s.views =
-      counted_inside many s.words s.views kept id me.0 there (ap is_inside stage) in
-      let is = kept.sleepers in
-      goes_keeps many s.words s.views kept id me.0 there k stage (less_by_one n (omega arith) low)),
+          let kept = kept_now many id s.words s.views w held few in
+          let least : 1 ≤ count is_inside s.views =
+          counted_inside many s.words s.views kept id me.0 there (ap is_inside stage) in
+          let is = kept.sleepers in
+          goes_keeps many s.words s.views kept id me.0 there k stage (less_by_one n (omega arith) low)),
       refl,
     )

@@ -6,8 +6,11 @@ pub fetch_add-requires : goal.fetch_add-requires
 fetch_add-requires c =
     let many = c.self.invariant.0 in
     let words = ap (λ z. z.words) c.self.view_is in
-    let within = c.requires.within in
-    (search rules, omega arith, enters _ _ _ _ _ (c.args.bell, omega arith, refl) (ap (λ m. m.0.stage) c.come-token.ensures.me))
+    let within = c.requires.within in (
+      search rules,
+      omega arith,
+      enters _ _ _ _ _ (c.args.bell, omega arith, refl) (ap (λ m. m.0.stage) c.come-token.ensures.me),
+    )
 
 pub read-strokes-requires-clause-bell : goal.read-strokes-requires-clause-bell
 read-strokes-requires-clause-bell c = (c.args.bell, refl)
