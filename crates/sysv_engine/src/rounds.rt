@@ -2,6 +2,7 @@
 ghost use Rattle.std.specs.Prelude.{◌≡◌, ◌⊎◌, None, Some, true};
 ghost use Rattle.sysv_parking.specs.Agenda.{IsAtRest, KeepsWork};
 ghost use Rattle.sysv_parking.specs.Parking.{AreInLines, MovesOnly, key_at};
+ghost use Rattle.sysv_engine.specs.Contacts.{GoOn};
 ghost use Rattle.sysv_engine.specs.Places.{IsVacantAt, KeepsAll};
 
 use crate::moment::Moment;
@@ -107,7 +108,7 @@ impl<'a, 'c, R: Wait> Serving<'a, 'c, R> {
         self.note_ready(worker);
         worker.begin_looks();
         if has_come {
-            read_envelopes(self, worker);
+            self.read_mail(worker);
         }
         self.spread(worker);
         self.serve_ready(worker);
@@ -227,6 +228,7 @@ impl<'a, 'c, R: Wait> Serving<'a, 'c, R> {
         ensures keeps { KeepsAll T.incoming T.outgoing T.closes worker.old.places.items
             worker.new.places.items }
         ensures agenda { worker.new.agenda ≡ worker.old.agenda }
+        ensures words { worker.new.rest ≡ worker.old.rest }
     {
         let before = worker.blocks_in_use(place);
         worker.go_on(place);
@@ -252,6 +254,7 @@ impl<'a, 'c, R: Wait> Serving<'a, 'c, R> {
         ensures moves { MovesOnly place worker.old.agenda.parking worker.new.agenda.parking }
         ensures rest { worker.new.agenda
             ≡ record worker.old.agenda { parking = worker.new.agenda.parking } }
+        ensures words { worker.new.rest ≡ worker.old.rest }
     {
         self.line_up(worker, place);
         if worker.is_over(place) {
@@ -272,6 +275,7 @@ impl<'a, 'c, R: Wait> Serving<'a, 'c, R> {
         ensures moves { MovesOnly place worker.old.agenda.parking worker.new.agenda.parking }
         ensures rest { worker.new.agenda
             ≡ record worker.old.agenda { parking = worker.new.agenda.parking } }
+        ensures words { worker.new.rest ≡ worker.old.rest }
     {
         let mut looked = false;
         for _ in self.rt.forever() {
@@ -298,6 +302,7 @@ impl<'a, 'c, R: Wait> Serving<'a, 'c, R> {
         ensures moves { MovesOnly place worker.old.agenda.parking worker.new.agenda.parking }
         ensures rest { worker.new.agenda
             ≡ record worker.old.agenda { parking = worker.new.agenda.parking } }
+        ensures words { worker.new.rest ≡ worker.old.rest }
     {
         let key = worker.key(place);
         if key == worker.agenda.lines().key(place) {
@@ -327,6 +332,7 @@ impl<'a, 'c, R: Wait> Serving<'a, 'c, R> {
         ensures moves { MovesOnly place worker.old.agenda.parking worker.new.agenda.parking }
         ensures rest { worker.new.agenda
             ≡ record worker.old.agenda { parking = worker.new.agenda.parking } }
+        ensures words { worker.new.rest ≡ worker.old.rest }
     {
         let Some(key) = worker.agenda.lines().key(place) else {
             return;
@@ -348,6 +354,7 @@ impl<'a, 'c, R: Wait> Serving<'a, 'c, R> {
         ensures moves { MovesOnly place worker.old.agenda.parking worker.new.agenda.parking }
         ensures rest { worker.new.agenda
             ≡ record worker.old.agenda { parking = worker.new.agenda.parking } }
+        ensures words { worker.new.rest ≡ worker.old.rest }
     {
         self.leave_line(worker, place);
         let Some(served) = worker.close(place) else {
@@ -369,7 +376,36 @@ impl<'a, 'c, R: Wait> Serving<'a, 'c, R> {
             worker.new.places.items }
         ensures rest { (worker.new.agenda.looks ≡ 0) ⊎ IsAtRest worker.new.agenda }
     {
+        self.announce(worker);
+        self.heed(worker);
+    }
+
+    /// Reads the envelopes that were sent to the worker, as far as it keeps them.
+    fn read_mail<T: NonBlocking, W: Watch<T>>(&self, worker: &mut Worker<'a, R, T, W>)
+        ensures keeps { KeepsAll T.incoming T.outgoing T.closes worker.old.places.items
+            worker.new.places.items }
+    {
+        read_envelopes(self, worker);
+    }
+
+    /// Tells all whom it may concern what the calls of the worker have changed.
+    fn announce<T: NonBlocking, W: Watch<T>>(&self, worker: &mut Worker<'a, R, T, W>)
+        ensures keeps { KeepsAll T.incoming T.outgoing T.closes worker.old.places.items
+            worker.new.places.items }
+        ensures told { GoOn worker.old.rest.contacts worker.new.rest.contacts }
+        ensures work { KeepsWork worker.old.agenda worker.new.agenda }
+        ensures parking { worker.new.agenda.parking ≡ worker.old.agenda.parking }
+    {
         collect(self.rt, self, worker);
+    }
+
+    /// Heeds what has changed, and the messages that have arrived, as far as the worker's share of
+    /// looks goes.
+    fn heed<T: NonBlocking, W: Watch<T>>(&self, worker: &mut Worker<'a, R, T, W>)
+        ensures keeps { KeepsAll T.incoming T.outgoing T.closes worker.old.places.items
+            worker.new.places.items }
+        ensures rest { (worker.new.agenda.looks ≡ 0) ⊎ IsAtRest worker.new.agenda }
+    {
         heed_all(self.rt, self, worker);
     }
 
@@ -390,6 +426,7 @@ impl<'a, 'c, R: Wait> Serving<'a, 'c, R> {
         ensures over { (result ≡ Found.Message) ⊎ (result ≡ Found.Over)
             → key_at worker.new.agenda.parking place ≡ None }
         ensures work { KeepsWork worker.old.agenda worker.new.agenda }
+        ensures told { GoOn worker.old.rest.contacts worker.new.rest.contacts }
     {
         let before = worker.agenda.lines().key(place);
         self.go_on(worker, place);
@@ -398,7 +435,7 @@ impl<'a, 'c, R: Wait> Serving<'a, 'c, R> {
             worker.drain(place);
         }
         self.settle(worker, place);
-        collect(self.rt, self, worker);
+        self.announce(worker);
         found(before, worker.agenda.lines().key(place), has_taken)
     }
 

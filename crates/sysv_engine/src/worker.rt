@@ -189,7 +189,8 @@ impl<'a, R: Wait, T: NonBlocking, W: Watch<T>> Worker<'a, R, T, W> {
     /// Counts an envelope that this worker writes. Returns whose turn it is to look first, counted
     /// on from turn to turn, or `None` for its own.
     pub(crate) fn next_first(&mut self) -> Option<usize>
-        ensures { (self.new.places ≡ self.old.places) × (self.new.agenda ≡ self.old.agenda) }
+        ensures { (self.new.places ≡ self.old.places) × (self.new.agenda ≡ self.old.agenda)
+            × (self.new.rest ≡ self.old.rest) }
     {
         self.messages = self.messages.wrapping_add(1);
         turn(self.messages, SHARE_OF_MESSAGES)
@@ -198,7 +199,7 @@ impl<'a, R: Wait, T: NonBlocking, W: Watch<T>> Worker<'a, R, T, W> {
     /// Counts a change that this worker heeds. Returns whether other workers heed it first.
     pub(crate) fn is_last_to_heed(&mut self) -> bool
         ensures { (self.new.places ≡ self.old.places) × (self.new.agenda ≡ self.old.agenda)
-            × (self.new.tools ≡ self.old.tools) }
+            × (self.new.tools ≡ self.old.tools) × (self.new.rest ≡ self.old.rest) }
     {
         self.changed = self.changed.wrapping_add(1);
         turn(self.changed, SHARE_OF_CHANGES).is_some()
@@ -323,6 +324,7 @@ impl<'a, R: Wait, T: NonBlocking, W: Watch<T>> Worker<'a, R, T, W> {
         ensures keeps { KeepsAll T.incoming T.outgoing T.closes self.old.places.items
             self.new.places.items }
         ensures agenda { self.new.agenda ≡ self.old.agenda }
+        ensures rest { self.new.rest ≡ self.old.rest }
     {
         if let Some(there) = self.places.get_mut(ready.place) {
             there.note(ready);
@@ -346,6 +348,7 @@ impl<'a, R: Wait, T: NonBlocking, W: Watch<T>> Worker<'a, R, T, W> {
         ensures keeps { KeepsAll T.incoming T.outgoing T.closes self.old.places.items
             self.new.places.items }
         ensures agenda { self.new.agenda ≡ self.old.agenda }
+        ensures rest { self.new.rest ≡ self.old.rest }
     {
         if let Some(there) = self.places.get_mut(place) {
             there.go_on(&mut self.tools);
@@ -358,6 +361,7 @@ impl<'a, R: Wait, T: NonBlocking, W: Watch<T>> Worker<'a, R, T, W> {
         ensures keeps { KeepsAll T.incoming T.outgoing T.closes self.old.places.items
             self.new.places.items }
         ensures agenda { self.new.agenda ≡ self.old.agenda }
+        ensures rest { self.new.rest ≡ self.old.rest }
     {
         if let Some(there) = self.places.get_mut(place) {
             there.drain();
@@ -370,6 +374,7 @@ impl<'a, R: Wait, T: NonBlocking, W: Watch<T>> Worker<'a, R, T, W> {
         ensures keeps { KeepsAll T.incoming T.outgoing T.closes self.old.places.items
             self.new.places.items }
         ensures agenda { self.new.agenda ≡ self.old.agenda }
+        ensures rest { self.new.rest ≡ self.old.rest }
     {
         if let Some(there) = self.places.get_mut(place) {
             there.cut(limit);
@@ -382,6 +387,7 @@ impl<'a, R: Wait, T: NonBlocking, W: Watch<T>> Worker<'a, R, T, W> {
         ensures keeps { KeepsAll T.incoming T.outgoing T.closes self.old.places.items
             self.new.places.items }
         ensures agenda { self.new.agenda ≡ self.old.agenda }
+        ensures rest { self.new.rest ≡ self.old.rest }
     {
         if let Some(there) = self.places.get_mut(place) {
             there.cut_late();
@@ -394,6 +400,7 @@ impl<'a, R: Wait, T: NonBlocking, W: Watch<T>> Worker<'a, R, T, W> {
         ensures keeps { KeepsAll T.incoming T.outgoing T.closes self.old.places.items
             self.new.places.items }
         ensures agenda { self.new.agenda ≡ self.old.agenda }
+        ensures rest { self.new.rest ≡ self.old.rest }
     {
         let Some(there) = self.places.get_mut(place) else {
             return None;
@@ -407,6 +414,7 @@ impl<'a, R: Wait, T: NonBlocking, W: Watch<T>> Worker<'a, R, T, W> {
         ensures keeps { KeepsAll T.incoming T.outgoing T.closes self.old.places.items
             self.new.places.items }
         ensures agenda { self.new.agenda ≡ self.old.agenda }
+        ensures rest { self.new.rest ≡ self.old.rest }
     {
         self.await_room(place);
         self.await_turn(place);
@@ -418,6 +426,7 @@ impl<'a, R: Wait, T: NonBlocking, W: Watch<T>> Worker<'a, R, T, W> {
         ensures keeps { KeepsAll T.incoming T.outgoing T.closes self.old.places.items
             self.new.places.items }
         ensures agenda { self.new.agenda ≡ self.old.agenda }
+        ensures rest { self.new.rest ≡ self.old.rest }
     {
         if let Some(there) = self.places.get_mut(place) {
             there.await_room(&mut self.watch, place);
@@ -430,6 +439,7 @@ impl<'a, R: Wait, T: NonBlocking, W: Watch<T>> Worker<'a, R, T, W> {
         ensures keeps { KeepsAll T.incoming T.outgoing T.closes self.old.places.items
             self.new.places.items }
         ensures agenda { self.new.agenda ≡ self.old.agenda }
+        ensures rest { self.new.rest ≡ self.old.rest }
     {
         let Some(there) = self.places.get_mut(place) else {
             return;
@@ -463,7 +473,8 @@ impl<'a, R: Wait, T: NonBlocking, W: Watch<T>> Worker<'a, R, T, W> {
     /// Has the worker look soon whether the client has more bytes to read, if it may have some that
     /// nothing reports.
     pub(crate) fn look_again(&mut self, place: usize)
-        ensures { (self.new.places ≡ self.old.places) × (self.new.agenda ≡ self.old.agenda) }
+        ensures { (self.new.places ≡ self.old.places) × (self.new.agenda ≡ self.old.agenda)
+            × (self.new.rest ≡ self.old.rest) }
     {
         if self.again.is_none() && self.may_hold_more(place) {
             self.again = Some(Moment::now().plus_millis(AGAIN_MILLIS));
@@ -477,6 +488,7 @@ impl<'a, R: Wait, T: NonBlocking, W: Watch<T>> Worker<'a, R, T, W> {
         ensures keeps { KeepsAll T.incoming T.outgoing T.closes self.old.places.items
             self.new.places.items }
         ensures agenda { self.new.agenda ≡ self.old.agenda }
+        ensures rest { self.new.rest ≡ self.old.rest }
     {
         if patience == Patience::UNBOUNDED {
             return;
