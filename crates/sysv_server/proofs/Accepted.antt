@@ -63,9 +63,9 @@ module _ {A : Type 0} where
 -- ---- the connections of a listener
 
 module _ {L I H : Type 0} (told : L → Option (List SocketStream)) (listens : L → Bool)
-    (reads : I → ℕ → Result ℕ Error → I → Type 0) where
+    (reads : I → ℕ → Result ℕ Error → I → Type 0) (fails : L → Error → L → Type 0) where
   abbrev pub Gives : Accepting L I H → Option SocketStream → Accepting L I H → Type 0
-  Gives = Accepts told listens reads
+  Gives = Accepts told listens reads fails
 
   -- the connections that were given one after the other
   abbrev Given : List SocketStream → Accepting L I H → Accepting L I H → Type 0
@@ -173,8 +173,8 @@ module _ {L I H : Type 0} (told : L → Option (List SocketStream)) (listens : L
       (reason : Option Reason)
       → s.accepted ≡ 0 → s.most ≡ m → m ≤ 2 ^ 64 - 1 → is_some s.input ≡ input → Given items s last
       → GivesAll Gives s items s' → sessions ≡ capped (length items)
-      → IsSomeAnd reason (HasEnded listens reads last)
-      → HasCause reads input m sessions reason
+      → IsSomeAnd reason (HasEnded listens reads fails last)
+      → HasCause reads fails input m sessions reason
   has_cause m sessions s last s' items input None none same small of_input gave all count why = why
   has_cause m sessions s last s' items input (Some Full) none same small of_input gave all count full =
       let fits : s.most ≤ 2 ^ 64 - 1 = omega arith in
@@ -191,7 +191,7 @@ module _ {L I H : Type 0} (told : L → Option (List SocketStream)) (listens : L
   has_cause m sessions s last s' items input (Some (NoSocket why)) none same small of_input gave all count unopened =
       let no_item = none_given items s last gave unopened in
       count ∙ (ap capped no_item ∙ below 0 (omega arith))
-  has_cause m sessions s last s' items input (Some (Accept why)) none same small of_input gave all count failed = tt
+  has_cause m sessions s last s' items input (Some (Accept why)) none same small of_input gave all count failed = failed
 
   abbrev pub Serves : Bool → ℕ → Accepting L I H → List ⊤ → Ended → Accepting L I H → List ⊤ → Type 0
   Serves = ServesConnections untold untold closing_sockets Gives
@@ -264,7 +264,7 @@ module _ {L I H : Type 0} (told : L → Option (List SocketStream)) (listens : L
       (ended : Ended) (input : Bool) (reason : Option Reason)
       → s.accepted ≡ 0 → s.most ≡ m → m ≤ 2 ^ 64 - 1 → s.reason ≡ None
       → is_some s.input ≡ input → s'.reason ≡ reason → Serves shows blocks s books ended s' books'
-      → HasCause reads input m ended.sums.sessions reason
+      → HasCause reads fails input m ended.sums.sessions reason
   ends_for shows blocks m s s' books books' ended input reason none same small unended of_input of_reason served =
       let gave = served.gave in
       let each = one_each untold untold closing_sockets served.desks served.shifts served.given served.in_team.sat
@@ -279,7 +279,7 @@ module _ {L I H : Type 0} (told : L → Option (List SocketStream)) (listens : L
         | inr why ↦
             has_cause m ended.sums.sessions s gave.last s' served.given input reason none same small of_input
             gave.gave gave (sums ∙ ap capped counted)
-            (subst (λ r. IsSomeAnd r (HasEnded listens reads gave.last)) of_reason why)
+            (subst (λ r. IsSomeAnd r (HasEnded listens reads fails gave.last)) of_reason why)
       ]
 
   -- what a fault leaves of the service on a listener, and of the listener
@@ -357,11 +357,11 @@ module _ {L I H : Type 0} (told : L → Option (List SocketStream)) (listens : L
               (fails_from shows blocks workers m s s' books books' why none same small counted left))
 
     pub all_for : (input : Bool) (reason : Option Reason) → s.reason ≡ None → is_some s.input ≡ input →
-        s'.reason ≡ reason → IfOk result (λ ended. HasCause reads input m ended.sums.sessions reason)
+        s'.reason ≡ reason → IfOk result (λ ended. HasCause reads fails input m ended.sums.sessions reason)
     all_for input reason unended of_input of_reason = of result ok
       where
         of : (r : Result Ended ServeFault) → IfOk r (λ ended. Serves shows blocks s books ended s' books')
-            → IfOk r (λ ended. HasCause reads input m ended.sums.sessions reason)
+            → IfOk r (λ ended. HasCause reads fails input m ended.sums.sessions reason)
         of (Ok ended) all =
             ends_for shows blocks m s s' books books' ended input reason none same small unended of_input of_reason all
         of (Err why) all = tt
@@ -377,19 +377,19 @@ pub err_so : {A E : Type 0} (P Q : E → Type 0) (result : Result A E) → ((e :
 err_so P Q (Ok x) so p = tt
 err_so P Q (Err e) so p = so e p
 
-has_reason : {I : Type 0} (reads : I → ℕ → Result ℕ Error → I → Type 0) (input : Bool) (m sessions : ℕ)
-    (reason : Option Reason) → HasCause reads input m sessions reason → HasReason input m sessions reason
-has_reason reads input m sessions None cause = cause
-has_reason reads input m sessions (Some Full) cause = cause
-has_reason reads input m sessions (Some InputOver) cause = cause.0
-has_reason reads input m sessions (Some (NoSocket why)) cause = cause
-has_reason reads input m sessions (Some (Accept why)) cause = cause
+has_reason : {L I : Type 0} (reads : I → ℕ → Result ℕ Error → I → Type 0) (fails : L → Error → L → Type 0)
+    (input : Bool) (m sessions : ℕ) (reason : Option Reason) → HasCause reads fails input m sessions reason → HasReason input m sessions reason
+has_reason reads fails input m sessions None cause = cause
+has_reason reads fails input m sessions (Some Full) cause = cause
+has_reason reads fails input m sessions (Some InputOver) cause = cause.0
+has_reason reads fails input m sessions (Some (NoSocket why)) cause = cause
+has_reason reads fails input m sessions (Some (Accept why)) cause = tt
 
-pub reason_so : {I : Type 0} (reads : I → ℕ → Result ℕ Error → I → Type 0) (input input' : Bool) (m : ℕ)
-    (reason : Option Reason) (result : Result Ended ServeFault) → input' ≡ input
-    → IfOk result (λ ended. HasCause reads input' m ended.sums.sessions reason)
+pub reason_so : {L I : Type 0} (reads : I → ℕ → Result ℕ Error → I → Type 0) (fails : L → Error → L → Type 0)
+    (input input' : Bool) (m : ℕ) (reason : Option Reason) (result : Result Ended ServeFault) → input' ≡ input
+    → IfOk result (λ ended. HasCause reads fails input' m ended.sums.sessions reason)
     → IfOk result (λ ended. HasReason input m ended.sums.sessions reason)
-reason_so reads input input' m reason (Ok ended) same cause =
+reason_so reads fails input input' m reason (Ok ended) same cause =
     subst (λ b. HasReason b m ended.sums.sessions reason) same
-    (has_reason reads input' m ended.sums.sessions reason cause)
-reason_so reads input input' m reason (Err why) same cause = tt
+    (has_reason reads fails input' m ended.sums.sessions reason cause)
+reason_so reads fails input input' m reason (Err why) same cause = tt

@@ -7,32 +7,34 @@ use Rattle.sysv_seats.specs.Untold.{limits_of}
 use Rattle.sysv_server.specs.declared.accepting.Accepting.{Accepting}
 use Rattle.sysv_server.specs.declared.host.Reason.{Reason}
 use Rattle.sysv_server.specs.declared.host.Reason.TheVariants.{Full, InputOver, NoSocket, Accept}
-use Rattle.sysv_server.specs.Listening.{IsOver, added}
+use Rattle.sysv_server.specs.Listening.{HasFailed, IsOver, added}
 use Rattle.sysv_engine.specs.Added.{capped}
 
 -- The number of connections is limited, and the limit is reached.
 abbrev pub IsFull : ℕ → ℕ → Type 0
 IsFull most accepted = (most ≢ 0) × (most ≤ accepted)
 
--- While a source with an input, or without one, waited for a connection, this ended it. `reads` are
--- the reads of the input.
-abbrev pub EndsInput : {I : Type 0} → (I → ℕ → Result ℕ Error → I → Type 0) → Bool → Reason → Type 0
-EndsInput reads has_input Full = ⊥
-EndsInput reads has_input InputOver = (has_input ≡ true) × IsOver reads
-EndsInput reads has_input (NoSocket why) = ⊥
-EndsInput reads has_input (Accept why) = ⊤
+module _ {L I : Type 0} (reads : I → ℕ → Result ℕ Error → I → Type 0) (fails : L → Error → L → Type 0) where
+  -- While a source with an input, or without one, waited for a connection, this ended it. `reads` are the
+  -- reads of the input, and `fails` the accepts of the listener that may fail.
+  abbrev pub EndsWait : Bool → Reason → Type 0
+  EndsWait has_input Full = ⊥
+  EndsWait has_input InputOver = (has_input ≡ true) × IsOver reads
+  EndsWait has_input (NoSocket why) = ⊥
+  EndsWait has_input (Accept why) = HasFailed fails why
 
-module _ {L I H : Type 0} (listens : L → Bool) (reads : I → ℕ → Result ℕ Error → I → Type 0) where
+module _ {L I H : Type 0} (listens : L → Bool) (reads : I → ℕ → Result ℕ Error → I → Type 0)
+    (fails : L → Error → L → Type 0) where
   -- The source may end for this reason: the limit is reached, its input is over, its listener could not
-  -- be opened, or an accept failed.
+  -- be opened, or an accept failed with this error.
   abbrev pub HasEnded : Accepting L I H → Reason → Type 0
   HasEnded source Full = IsFull source.most source.accepted
   HasEnded source InputOver = (is_some source.input ≡ true) × IsOver reads
   HasEnded source (NoSocket why) = listens source.listener.now ≡ false
-  HasEnded source (Accept why) = ⊤
+  HasEnded source (Accept why) = HasFailed fails why
 
 module _ {L I H : Type 0} (told : L → Option (List SocketStream)) (listens : L → Bool)
-    (reads : I → ℕ → Result ℕ Error → I → Type 0) where
+    (reads : I → ℕ → Result ℕ Error → I → Type 0) (fails : L → Error → L → Type 0) where
   -- The source returned a connection or none, and its counts changed accordingly. A connection that it
   -- returned is the one that its listener accepted, which accepted no other. It returns a connection
   -- only below the limit, if there is one, and has an open listener then. It returns none only if it
@@ -41,7 +43,7 @@ module _ {L I H : Type 0} (told : L → Option (List SocketStream)) (listens : L
   abbrev pub Accepts : Accepting L I H → Option SocketStream → Accepting L I H → Type 0
   Accepts old None new =
       (new.most ≡ old.most) × (new.accepted ≡ old.accepted)
-      × ((is_some old.reason ≡ true) ⊎ IsSomeAnd new.reason (HasEnded listens reads old))
+      × ((is_some old.reason ≡ true) ⊎ IsSomeAnd new.reason (HasEnded listens reads fails old))
       × (listens new.listener.now ≡ false) × (told new.listener.now ≡ told old.listener.now)
       × (new.listener.ghost_name ≡ old.listener.ghost_name)
   Accepts old (Some stream) new =

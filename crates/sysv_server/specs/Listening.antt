@@ -25,3 +25,9 @@ pub record IsOver {I : Type 0} (reads : I → ℕ → Result ℕ Error → I →
   pub after : I
   pub read : reads before room told after
   pub last : IsLast told
+
+-- An accept of a socket has failed with this error. `fails` are the accepts of that socket that may fail.
+pub record HasFailed {L : Type 0} (fails : L → Error → L → Type 0) (why : Error) : Type 0 where
+  pub before : L
+  pub after : L
+  pub failed : fails before why after

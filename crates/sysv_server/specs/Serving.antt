@@ -23,7 +23,7 @@ use Rattle.sysv_engine.specs.Handled.{Shift, cut_off_of, refused_of, sums_of, to
 use Rattle.sysv_engine.specs.OneRun.{Lived}
 use Rattle.sysv_engine.specs.Serving.{HasLived, LeavesBooks}
 use Rattle.sysv_workers.specs.declared.workers.TheConstants.{MAX_WORKERS}
-use Rattle.sysv_server.specs.Listening.{IsOver, added}
+use Rattle.sysv_server.specs.Listening.{HasFailed, IsOver, added}
 use Rattle.sysv_server.specs.declared.host.Reason.{Reason}
 use Rattle.sysv_server.specs.declared.terms.Terms.{Terms}
 use Rattle.sysv_server.specs.declared.host.Reason.TheVariants.{Full, InputOver, NoSocket, Accept}
@@ -103,12 +103,14 @@ HasReason has_input most sessions (Some InputOver) = has_input ≡ true
 HasReason has_input most sessions (Some (NoSocket why)) = sessions ≡ 0
 HasReason has_input most sessions (Some (Accept why)) = ⊤
 
--- The same, and an input that is over was read to its end, or could not be read. `reads` are the reads
--- of the input.
-abbrev pub HasCause : {I : Type 0} → (I → ℕ → Result ℕ Error → I → Type 0) → Bool → (most sessions : ℕ) →
-    Option Reason → Type 0
-HasCause reads has_input most sessions (Some InputOver) = (has_input ≡ true) × IsOver reads
-HasCause reads has_input most sessions reason = HasReason has_input most sessions reason
+module _ {L I : Type 0} (reads : I → ℕ → Result ℕ Error → I → Type 0) (fails : L → Error → L → Type 0) where
+  -- The same, and an input that is over was read to its end, or could not be read, and an accept has failed
+  -- with the error that is told. `reads` are the reads of the input, and `fails` the accepts of the listener
+  -- that may fail.
+  abbrev pub HasCause : Bool → (most sessions : ℕ) → Option Reason → Type 0
+  HasCause has_input most sessions (Some InputOver) = (has_input ≡ true) × IsOver reads
+  HasCause has_input most sessions (Some (Accept why)) = HasFailed fails why
+  HasCause has_input most sessions reason = HasReason has_input most sessions reason
 
 module _ {L : Type 0} (told : L → Option (List SocketStream)) where
   -- A server served the connections of a listener, which went from the one state to the other and is

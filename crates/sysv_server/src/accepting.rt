@@ -2,7 +2,7 @@
 ghost use Rattle.std.specs.Prelude.{◌≡◌, ◌≢◌, ◌<◌, ◌≤◌, ◌-◌, ◌^◌, ◌∷◌, [], true, false, is_some, None, IfErr, IfOk, OnErr, OnOk};
 ghost use Rattle.sysv_engine.specs.Looks.{Looks};
 ghost use Rattle.sysv_seats.specs.Untold.{limits_of};
-ghost use Rattle.sysv_server.specs.Accepts.{EndsInput, HasEnded};
+ghost use Rattle.sysv_server.specs.Accepts.{EndsWait, HasEnded};
 ghost use Rattle.sysv_server.specs.Listening.{added, IsOver};
 
 use crate::desk::Desk;
@@ -168,7 +168,7 @@ impl<'a, L: Listens, I: Input + Drop, H: Host> Accepting<'a, L, I, H> {
         ensures bounded { IfOk result (λ _. self.old.most ≢ 0 →
             self.old.accepted < self.old.most) }
         ensures opened { OnOk result (L.listens self.new.listener.now ≡ true) }
-        ensures ended { IfErr result (λ why. HasEnded L.listens I.reads self.old why) }
+        ensures ended { IfErr result (λ why. HasEnded L.listens I.reads L.fails self.old why) }
         ensures ok { IfOk result (λ stream. L.accepted self.new.listener.now
             ≡ added (L.accepted self.old.listener.now) (stream ∷ [])) }
         ensures limits { IfOk result (λ stream. limits_of stream ≡ self.old.limits) }
@@ -206,7 +206,7 @@ impl<'a, L: Listens, I: Input + Drop, H: Host> Accepting<'a, L, I, H> {
 impl<L: Listens, I: Input + Drop, H: Host> Arrivals<SocketStream> for Accepting<'_, L, I, H> {
     ghost use Rattle.sysv_server.specs.Accepts.{Accepts};
 
-    ghost gives = { Accepts L.accepted L.listens I.reads };
+    ghost gives = { Accepts L.accepted L.listens I.reads L.fails };
 
     #[tactic(auto, using(sysv_engine::proofs::Looking::looks_stay))]
     fn next<R: Wait>(&mut self, rows: &mut Rows<'_, R>) -> Option<SocketStream> {
@@ -267,7 +267,7 @@ impl<H: Host> Acceptor<'_, '_, H> {
         retries: bool,
     ) -> Result<SocketStream, Reason>
         ensures input { is_some input.new ≡ is_some input.old }
-        ensures ended { IfErr result (EndsInput I.reads (is_some input.old)) }
+        ensures ended { IfErr result (EndsWait I.reads L.fails (is_some input.old)) }
         ensures ok { IfOk result (λ stream.
             L.accepted listener.new ≡ added (L.accepted listener.old) (stream ∷ [])) }
         ensures limits { IfOk result (λ stream. limits_of stream ≡ self.now.limits) }
@@ -299,7 +299,10 @@ impl<H: Host> Acceptor<'_, '_, H> {
                 Err(why) => return Err(Reason::Accept(why)),
             }
         }
-        Err(Reason::Accept(io::Error::from(ErrorKind::TimedOut)))
+        match listener.accept(self.limits) {
+            Ok(stream) => Ok(stream),
+            Err(why) => Err(Reason::Accept(why)),
+        }
     }
 
     /// Waits a little after an accept that failed. Tells the host, unless it was told already.

@@ -1,5 +1,5 @@
 //! Sockets that connections are accepted from, and inputs whose end ends a server.
-ghost use Rattle.std.specs.Prelude.{◌≡◌, ℕ, Bool, true, false, is_some, List, ◌∷◌, [], Option, IfOk, OnOk, OnErr, Result, length};
+ghost use Rattle.std.specs.Prelude.{◌≡◌, ℕ, Bool, true, false, is_some, List, ◌∷◌, [], Option, IfErr, IfOk, OnOk, OnErr, Result, length};
 ghost use Rattle.std.specs.declared.io.Error.{Error};
 ghost use Rattle.sysv_seats.specs.declared.socket_stream.SocketStream.{SocketStream};
 ghost use Rattle.sysv_seats.specs.Untold.{limits_of};
@@ -20,6 +20,9 @@ pub trait Listens {
 
     /// Whether clients can connect.
     ghost listens: { Self → Bool };
+
+    /// With which error an accept may fail, and what socket it leaves.
+    ghost fails: { Self → Error → Self → Type 0 };
 
     /// Returns whether clients can connect.
     fn is_open(&self) -> bool
@@ -49,6 +52,7 @@ pub trait Listens {
             accepted self.new ≡ added (accepted self.old) (stream ∷ [])) }
         ensures limits { IfOk result (λ stream. limits_of stream ≡ limits) }
         ensures err { OnErr result (accepted self.new ≡ accepted self.old) }
+        ensures failed { IfErr result (λ why. fails self.old why self.new) }
         ensures same { listens self.new ≡ listens self.old };
 
     /// Closes the socket. After that, clients are refused.
@@ -95,11 +99,13 @@ impl<'a> Lent<'a> {
 }
 
 impl Listens for Lent<'_> {
-    ghost use Rattle.std.specs.Prelude.{None};
+    ghost use Rattle.std.specs.Prelude.{None, ⊤};
 
     ghost accepted = { λ _. None };
 
     ghost listens = { λ lent. lent.is_open };
+
+    ghost fails = { λ _ _ _. ⊤ };
 
     fn is_open(&self) -> bool {
         self.is_open
@@ -141,11 +147,13 @@ impl<'a, H> Hosted<'a, H> {
 }
 
 impl<H: Host> Listens for Hosted<'_, H> {
-    ghost use Rattle.std.specs.Prelude.{None, is_some};
+    ghost use Rattle.std.specs.Prelude.{None, is_some, ⊤};
 
     ghost accepted = { λ _. None };
 
     ghost listens = { λ hosted. is_some hosted.listener };
+
+    ghost fails = { λ _ _ _. ⊤ };
 
     fn is_open(&self) -> bool {
         self.listener.is_some()

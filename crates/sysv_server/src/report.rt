@@ -1,6 +1,7 @@
 //! The state of a server as text.
-ghost use Rattle.std.specs.Prelude.{◌≡◌, ◌≤◌, ◌+◌};
+ghost use Rattle.std.specs.Prelude.{◌≡◌, IfSome};
 ghost use Rattle.sysv_engine.specs.Looks.{Looks};
+ghost use Rattle.sysv_server.specs.Report.{AreNumbers, free_blocks, numbers_of};
 
 use crate::VERSION;
 use itoa::{Buffer, Integer};
@@ -118,6 +119,9 @@ const OF_SERVER: [Metric; 14] = [
     ),
 ];
 
+/// The largest number, modulo 2^64, that is not below 0.
+const LARGEST: u64 = i64::MAX as u64;
+
 /// The version of the server.
 const BUILD: Metric = (
     "version",
@@ -232,7 +236,9 @@ impl State {
         rows: &mut Rows<'_, R>,
         admission: &Admission,
     ) -> Option<State>
-        ensures { Looks rows.old rows.new }
+        ensures looks { Looks rows.old rows.new }
+        ensures numbers { IfSome result (λ state.
+            AreNumbers server.now.at_once admission.now state.numbers) }
     {
         let mut slots = Vec::new(alloc);
         for slot in 0..SLOTS {
@@ -389,7 +395,9 @@ impl State {
 }
 
 /// Returns the numbers of a server, in the order of `OF_SERVER`.
-fn numbers(counted: &Counted, admission: &Admission) -> [u64; OF_SERVER.len()] {
+fn numbers(counted: &Counted, admission: &Admission) -> [u64; OF_SERVER.len()]
+    ensures { result ≡ numbers_of counted.now admission.now }
+{
     let Counted {
         over,
         at_once,
@@ -426,13 +434,13 @@ fn numbers(counted: &Counted, admission: &Admission) -> [u64; OF_SERVER.len()] {
 /// Returns the number of free blocks in a pool of `blocks` blocks if `in_use`, modulo 2^64, are in
 /// use. If that is below 0, all are free, and if it is above `blocks`, none is.
 fn free_of(blocks: u32, in_use: u64) -> u64
-    ensures within { result ≤ blocks }
-    ensures exact { in_use ≤ blocks → result + in_use ≡ blocks }
+    ensures { result ≡ free_blocks blocks in_use }
 {
-    match u64::from(blocks).checked_sub(in_use) {
-        Some(free) => free,
-        None if in_use > i64::MAX as u64 => u64::from(blocks),
-        None => 0,
+    let blocks = u64::from(blocks);
+    if in_use > LARGEST {
+        blocks
+    } else {
+        blocks.saturating_sub(in_use)
     }
 }
 

@@ -144,8 +144,9 @@ pub fn serve_listener<I: Read + AsRawFd + Drop, H: Host + Drop, R: Threads + Wai
 ///
 /// The listener is opened if it is not open, and closed when no more connections are to be
 /// accepted. Each connection that it has accepted has a session, and there are no other sessions.
-/// At `Reason::InputOver` a read of the input returned no byte or failed. The host is told what
-/// happens, and opens only the socket for readers of the server's state.
+/// At `Reason::InputOver` a read of the input returned no byte or failed, and at `Reason::Accept` an
+/// accept of the listener failed with this error. The host is told what happens, and opens only the
+/// socket for readers of the server's state.
 ///
 /// # Errors
 ///
@@ -168,8 +169,8 @@ pub fn serve_from<L: Listens, I: Input + Drop, H: Host, R: Threads + Wait + Net 
     requires at_once { (1 ≤ terms.at_once) × (terms.at_once ≤ MAX_CLIENTS) }
     ensures ok { IfOk result (λ ended. EndsFrom L.accepted L.listens terms.stats terms.blocks
         terms.at_once terms.sessions (limits_in terms) listener.old ended listener.new) }
-    ensures exact { IfOk result (λ ended. HasCause I.reads (is_some input) terms.sessions
-        ended.sums.sessions reason.new) }
+    ensures exact { IfOk result (λ ended. HasCause I.reads L.fails (is_some input)
+        terms.sessions ended.sums.sessions reason.new) }
     ensures balance { IfOk result (λ ended. IsBalanced ended.sums) }
     ensures err { IfErr result (λ why. FailsFrom L.accepted terms.stats terms.blocks terms.at_once
         terms.sessions listener.old why listener.new) }
@@ -194,8 +195,8 @@ fn run<L: Listens, I: Input + Drop, H: Host, R: Threads + Wait + Net + Sync>(
     requires at_once { (1 ≤ terms.at_once) × (terms.at_once ≤ MAX_CLIENTS) }
     ensures ok { IfOk result (λ ended. EndsFrom L.accepted L.listens terms.stats terms.blocks
         terms.at_once terms.sessions (limits_in terms) listener.old ended listener.new) }
-    ensures exact { IfOk result (λ ended. HasCause I.reads (is_some input) terms.sessions
-        ended.sums.sessions reason.new) }
+    ensures exact { IfOk result (λ ended. HasCause I.reads L.fails (is_some input)
+        terms.sessions ended.sums.sessions reason.new) }
     ensures balance { IfOk result (λ ended. IsBalanced ended.sums) }
     ensures err { IfErr result (λ why. FailsFrom L.accepted terms.stats terms.blocks terms.at_once
         terms.sessions listener.old why listener.new) }

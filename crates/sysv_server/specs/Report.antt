@@ -1,0 +1,37 @@
+-- The numbers that a server shows of itself (this project's profile), by what its workers have counted
+-- and by what its accepting thread knows.
+use Rattle.std.specs.Prelude.{◌≡◌, ℕ, ◌+◌, ◌-◌, List, [], ◌∷◌, nat_lt, if◌then◌else◌}
+use Rattle.std.specs.Int.{from_bool}
+use Rattle.sysv_engine.specs.Added.{capped}
+use Rattle.sysv_engine.specs.declared.counts.Counted.{Counted}
+use Rattle.sysv_server.specs.declared.report.Admission.{Admission}
+use Rattle.sysv_server.specs.declared.report.TheConstants.{LARGEST}
+
+-- The number of free blocks of a pool of which this number is in use, modulo 2^64. If that is below 0, all
+-- are free.
+abbrev pub free_blocks : (blocks in_use : ℕ) → ℕ
+free_blocks blocks in_use = if nat_lt LARGEST in_use then blocks else blocks - in_use
+
+-- The numbers of a server, in the order in which they are shown.
+abbrev pub numbers_of : Counted → Admission → List ℕ
+numbers_of counted admission =
+    admission.started
+    ∷ admission.accepted - counted.over
+    ∷ counted.at_once
+    ∷ admission.accepted
+    ∷ from_bool admission.has_waiting
+    ∷ counted.slots.receives
+    ∷ capped (counted.slots.sends + counted.for_blocks)
+    ∷ counted.for_blocks
+    ∷ counted.slots.arrived
+    ∷ counted.slots.freed
+    ∷ counted.written
+    ∷ counted.lost
+    ∷ admission.blocks
+    ∷ free_blocks admission.blocks counted.in_use
+    ∷ []
+
+-- These are the numbers of a server with this maximum of sessions at once.
+abbrev pub AreNumbers : (at_once : ℕ) → Admission → List ℕ → Type 0
+AreNumbers at_once admission numbers =
+    (counted : Counted) × (counted.at_once ≡ at_once) × (numbers ≡ numbers_of counted admission)
