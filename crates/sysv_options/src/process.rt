@@ -1,7 +1,6 @@
 //! What a process asks of the system.
-ghost use Rattle.std.specs.Prelude.{◌≡◌, IfErr, IfOk, map, string_bytes};
-ghost use Rattle.sysv_options.specs.Process.{AreTold, Told};
-ghost use Rattle.sysv_options.specs.Process.Told.{Group, Number, OpenFiles, Terminal, Unread, User, Variable, Words};
+ghost use Rattle.std.specs.Prelude.{IfErr, IfOk, map, string_bytes};
+ghost use Rattle.sysv_options.specs.Process.{AreTold, Group, Number, OpenFiles, Terminal, Told, Unread, User, Variable, Words};
 
 use crate::who::Surroundings;
 use sysv_model::Cred;

@@ -120,7 +120,7 @@ const OF_SERVER: [Metric; 14] = [
 ];
 
 /// The largest number, modulo 2^64, that is not below 0.
-const LARGEST: u64 = i64::MAX as u64;
+const LARGEST: u64 = 0x7fff_ffff_ffff_ffff;
 
 /// The version of the server.
 const BUILD: Metric = (

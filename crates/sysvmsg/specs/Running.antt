@@ -21,8 +21,7 @@ use Rattle.sysv_options.specs.declared.asked.Asked.{Asked}
 use Rattle.sysv_options.specs.declared.asked.Asked.TheVariants.{Script, Serve, Look, Client}
 use Rattle.sysv_options.specs.declared.process.NoWords.{NoWords}
 use Rattle.sysv_options.specs.declared.who.Surroundings.{Surroundings}
-use Rattle.sysv_options.specs.Process.{AreTold, Told}
-use Rattle.sysv_options.specs.Process.Told.{Unread, Words}
+use Rattle.sysv_options.specs.Process.{AreTold, Told, Unread, Words}
 use Rattle.sysv_options.specs.Requests.{IsMeant}
 use Rattle.sysv_options.specs.Who.{stated_by, told_by}
 use Rattle.sysvmsg.specs.Ends.{HasServedAll}
