@@ -1,6 +1,6 @@
 //! What a worker counts for those who look at the server.
-ghost use Rattle.std.specs.Prelude.{IfSome};
-ghost use Rattle.sysv_engine.specs.Counting.{HasKinds, IsCounted};
+ghost use Rattle.std.specs.Prelude.{◌≡◌, IfSome};
+ghost use Rattle.sysv_engine.specs.Counting.{HasKinds, IsCounted, MovesOn, moved_first, word_by};
 
 use crate::counter::{Added, Counter, Kind};
 use std::alloc::Global;
@@ -74,19 +74,23 @@ impl Moved {
     /// Adds the message of this notification, if it is of one. Returns whether it moved as the
     /// others did; else it is not added.
     #[inline(always)]
-    pub(crate) fn add(&mut self, notification: Notification) -> bool {
+    pub(crate) fn add(&mut self, notification: Notification) -> bool
+        ensures { MovesOn (word_by notification) self.old result self.new }
+    {
         let Some(word) = word_of(notification) else {
             return true;
         };
         if word != self.word {
             return false;
         }
-        self.count = self.count.wrapping_add(1);
+        self.count = self.count.saturating_add(1);
         true
     }
 
     /// Returns the message of this notification alone, if it is of one.
-    pub(crate) fn first(notification: Notification) -> Moved {
+    pub(crate) fn first(notification: Notification) -> Moved
+        ensures { result ≡ moved_first (word_by notification) }
+    {
         match word_of(notification) {
             Some(word) => Moved { word, count: 1 },
             None => Moved::NONE,
@@ -97,7 +101,9 @@ impl Moved {
 /// Returns the word of the receives that a message which was placed may end, or of the sends that
 /// one which was taken may end.
 #[inline(always)]
-fn word_of(notification: Notification) -> Option<usize> {
+fn word_of(notification: Notification) -> Option<usize>
+    ensures { result ≡ word_by notification }
+{
     match notification {
         Notification::Arrived { slot, .. } => Some(slot),
         Notification::Freed { slot, .. } => Some(room_word(slot)),
