@@ -378,7 +378,8 @@ err_so P Q (Ok x) so p = tt
 err_so P Q (Err e) so p = so e p
 
 has_reason : {L I : Type 0} (reads : I → ℕ → Result ℕ Error → I → Type 0) (fails : L → Error → L → Type 0)
-    (input : Bool) (m sessions : ℕ) (reason : Option Reason) → HasCause reads fails input m sessions reason → HasReason input m sessions reason
+    (input : Bool) (m sessions : ℕ) (reason : Option Reason) → HasCause reads fails input m sessions reason →
+    HasReason input m sessions reason
 has_reason reads fails input m sessions None cause = cause
 has_reason reads fails input m sessions (Some Full) cause = cause
 has_reason reads fails input m sessions (Some InputOver) cause = cause.0

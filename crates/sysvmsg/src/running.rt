@@ -35,13 +35,7 @@ pub(crate) fn exit_of<
     I: Read + AsRawFd + Drop,
     P: Place,
     S: Write,
->(
-    process: &Own,
-    rt: &R,
-    input: I,
-    place: P,
-    screen: &mut Screen<S>,
-) -> ExitCode
+>(process: &Own, rt: &R, input: I, place: P, screen: &mut Screen<S>) -> ExitCode
     ensures { EndsIn P.Input.remaining P.Output.contents P.incoming P.outgoing P.refuses
         (Own.tells process.now) place result (I.remaining input)
         (S.contents screen.old.writer) (S.contents screen.new.writer) }
@@ -55,11 +49,7 @@ pub(crate) fn exit_of<
 }
 
 /// Tells why the words of the command line cannot be read. Returns the status of that.
-fn refuse(
-    rt: &(impl Print + Eprint + AllocGlobal),
-    why: NoWords,
-    around: &Surroundings,
-) -> ExitCode
+fn refuse(rt: &(impl Print + Eprint + AllocGlobal), why: NoWords, around: &Surroundings) -> ExitCode
     ensures { Fails result }
 {
     match why {
