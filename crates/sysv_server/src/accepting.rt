@@ -299,7 +299,8 @@ impl<H: Host> Acceptor<'_, '_, H> {
                 Err(why) => return Err(Reason::Accept(why)),
             }
         }
-        match listener.accept(self.limits) {
+        let last = listener.accept(self.limits);
+        match last {
             Ok(stream) => Ok(stream),
             Err(why) => Err(Reason::Accept(why)),
         }
