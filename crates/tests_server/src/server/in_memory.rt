@@ -20,11 +20,13 @@ struct Connected {
 }
 
 impl Listens for Connected {
-    ghost use Rattle.std.specs.Prelude.{map, not, Some};
+    ghost use Rattle.std.specs.Prelude.{map, not, Some, ⊤};
 
     ghost accepted = { λ l. Some (map (λ s. s.value) l.accepted.items) };
 
     ghost listens = { λ l. not l.is_closed };
+
+    ghost fails = { λ _ _ _. ⊤ };
 
     fn is_open(&self) -> bool {
         !self.is_closed
@@ -199,6 +201,34 @@ fn a_server_ends_at_the_end_of_its_input(rt: HostRuntime) {
     if is_served {
         assert_that(&rt, matches!(reason, Some(Reason::InputOver)));
         assert_closed(&rt, &listener);
+        assert_had(&rt, &mut first, &[KNOWN]);
+    }
+}
+
+// The first client is served. Nobody else has connected, which is an error that does not pass.
+#[test]
+fn a_server_ends_with_the_error_of_an_accept(rt: HostRuntime) {
+    let mut listener = listener(&rt, rt.alloc());
+    let mut first = client(&rt, &mut listener, &[HELLO]);
+    let mut reason = None;
+    let end = serve_from(
+        &rt,
+        rt.alloc(),
+        &mut listener,
+        &Unbound,
+        None::<Typed>,
+        terms(0),
+        &mut reason,
+    );
+    let is_served = end.is_ok();
+    assert_sums(&rt, end, sums(1, 0, 0));
+    if is_served {
+        let kind = match reason {
+            Some(Reason::Accept(why)) => Some(why.kind()),
+            _ => None,
+        };
+        assert_that(&rt, kind == Some(ErrorKind::NotConnected));
+        assert_that(&rt, listener.is_closed);
         assert_had(&rt, &mut first, &[KNOWN]);
     }
 }
