@@ -333,6 +333,7 @@ fn faults_are_told_as_the_words_and_the_environment_want(rt: HostRuntime) {
 }
 
 /// A process whose environment has the value 1 for one variable.
+#[derive(Clone, Copy)]
 struct Known {
     variable: &'static str,
 }
