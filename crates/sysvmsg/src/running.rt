@@ -41,11 +41,10 @@ pub(crate) fn exit_of<
         (S.contents screen.old.writer) (S.contents screen.new.writer) }
 {
     let around = surroundings(process);
-    let visit = match process.words() {
-        Ok(words) => run(rt, words.as_slice(), &around, input, place, screen),
-        Err(why) => unused(refuse(rt, why, &around), place),
-    };
-    visit.exit
+    match process.words() {
+        Ok(words) => run(rt, words.as_slice(), &around, input, place, screen).exit,
+        Err(why) => refuse(rt, why, &around),
+    }
 }
 
 /// Tells why the words of the command line cannot be read. Returns the status of that.
