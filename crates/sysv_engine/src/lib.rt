@@ -15,7 +15,6 @@ mod alarm;
 mod arrivals;
 mod awaited;
 mod connections;
-mod counter;
 mod counts;
 mod dealing;
 mod doorbell;
