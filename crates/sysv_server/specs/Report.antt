@@ -16,7 +16,7 @@ free_blocks blocks in_use = if nat_lt LARGEST in_use then blocks else blocks - i
 abbrev pub numbers_of : Counted → Admission → List ℕ
 numbers_of counted admission =
     admission.started
-    ∷ admission.accepted - counted.over
+    ∷ (admission.accepted - counted.over)
     ∷ counted.at_once
     ∷ admission.accepted
     ∷ from_bool admission.has_waiting
