@@ -28,6 +28,8 @@ enum {
     FIRST_MICROSECONDS = 2000, /* how long a single recv may wait for a reply */
     HELLO_MILLISECONDS = 250,  /* how long a call whose wait has ended still waits for its hello */
     LEAVE_SECONDS = 60,        /* how long it waits for the end of its session */
+    FIRST_PAUSE = 20,          /* milliseconds between the first two tries to connect to a server */
+    LONGEST_PAUSE = 500,       /* and between two later ones */
 };
 
 /* Tells whether a descriptor still is the file that it was. */
@@ -49,6 +51,7 @@ struct connection {
     bool has_fixed_ids;      /* these two can't change any more */
     atomic_int slots;        /* of the reply to the hello */
     const char *_Atomic why; /* a call failed with EIO */
+    atomic_bool was_sent;    /* the whole request of that call */
     int unconnected;         /* the errno for which no connection was made, or 0 */
 };
 
@@ -60,6 +63,7 @@ struct call {
     long deadline;    /* of its wait; 0: there is none */
     int ended_by;     /* EINTR: a signal handler; ETIMEDOUT: the deadline; 0: nothing */
     bool has_no_end;  /* the call was left, and its session did not end */
+    bool is_sent;     /* its whole request, which is no hello */
 };
 
 /* The connections of all threads, so that a child of fork can close its copies of them. */
@@ -268,6 +272,7 @@ static int broken(struct connection *connection, const struct call *call, const 
     }
     end_session(connection);
     connection->why = why;
+    connection->was_sent = call->is_sent;
     return EIO;
 }
 
@@ -525,6 +530,7 @@ static int exchange(struct connection *connection, struct frame *frame, struct c
     size_t sent = write_request(connection->fd, frame);
     if (sent < frame->length)
         return unsent(connection, call, sent);
+    call->is_sent = frame->operation != HELLO;
     ssize_t got = read_reply(connection, frame, call);
     if (got <= 0)
         return unanswered(connection, frame, call, got);
@@ -776,12 +782,31 @@ int ask(struct connection *opened, struct frame *frame, bool may_wait, int milli
     int error = make_call(connection, frame, &call);
     if (error == EIO && !opened)
         say_once(connection->why);
-    if (error == EIO && opened && connection == &single)
+    if (error == EIO && opened && connection == &single) {
         opened->why = single.why;
+        opened->was_sent = single.was_sent;
+    }
     give_back(connection, &single);
     pthread_setcancelstate(cancel_state, NULL);
     errno = errno_before;
     return error;
+}
+
+/* Begins a session within a time. Returns 0 or an errno, that of the connect if it failed. */
+static int begin_opened(struct connection *connection, struct call *call)
+{
+    int error = make_ready(connection, call);
+    return error == EIO && connection->unconnected != 0 ? connection->unconnected : error;
+}
+
+/* The call that begins a session. It is no cancellation point. */
+static struct call beginning(const struct peer *peer, int milliseconds_at_most)
+{
+    return (struct call){.process = getpid(),
+        .may_wait = true,
+        .ends_by_signals = peer->ends_by_signals,
+        .cancel_state = PTHREAD_CANCEL_DISABLE,
+        .deadline = deadline_in(milliseconds_at_most)};
 }
 
 int connection_open(const struct peer *peer, int milliseconds_at_most, struct connection **opened)
@@ -792,17 +817,11 @@ int connection_open(const struct peer *peer, int milliseconds_at_most, struct co
         return EMFILE;
     connection->is_opened = true;
     connection->in_use = false;
-    struct call call = {.process = getpid(),
-        .may_wait = true,
-        .ends_by_signals = peer->ends_by_signals,
-        .cancel_state = PTHREAD_CANCEL_DISABLE,
-        .deadline = deadline_in(milliseconds_at_most)};
+    struct call call = beginning(peer, milliseconds_at_most);
     int cancel_state;
     pthread_setcancelstate(PTHREAD_CANCEL_DISABLE, &cancel_state);
-    int error = make_ready(connection, &call);
+    int error = begin_opened(connection, &call);
     pthread_setcancelstate(cancel_state, NULL);
-    if (error == EIO && connection->unconnected != 0)
-        error = connection->unconnected;
     if (error == 0)
         *opened = connection;
     else
@@ -820,3 +839,40 @@ void connection_close(struct connection *connection)
 int connection_slots(const struct connection *connection) { return connection->slots; }
 
 const char *connection_why(const struct connection *connection) { return connection->why; }
+
+bool connection_was_sent(const struct connection *connection) { return connection->was_sent; }
+
+/* Whether no server listens, or one ended while the session began. Another one may start. */
+static bool has_no_server(const struct connection *connection, int error)
+{
+    return error == ENOENT || error == ECONNREFUSED
+           || (error == EIO && connection->unconnected == 0);
+}
+
+/* Waits before the next try, within the time of the call. Returns false if that is over or a signal
+ * handler ran. */
+static bool pause_before_retry(struct call *call, int pause)
+{
+    int left = time_left(call);
+    if (left == 0)
+        return false;
+    if (poll(NULL, 0, left < 0 || pause < left ? pause : left) < 0 && errno == EINTR)
+        note_signal(call);
+    return call->ended_by == 0;
+}
+
+int connection_retry(struct connection *connection, int milliseconds_at_most)
+{
+    if (atomic_exchange(&connection->in_use, true))
+        return EBUSY;
+    struct call call = beginning(connection->peer, milliseconds_at_most);
+    int cancel_state, error, pause = FIRST_PAUSE;
+    pthread_setcancelstate(PTHREAD_CANCEL_DISABLE, &cancel_state);
+    end_session(connection);
+    while ((error = begin_opened(connection, &call)) != 0 && has_no_server(connection, error)
+           && pause_before_retry(&call, pause))
+        pause = 2 * pause < LONGEST_PAUSE ? 2 * pause : LONGEST_PAUSE;
+    pthread_setcancelstate(cancel_state, NULL);
+    atomic_store(&connection->in_use, false);
+    return call.ended_by != 0 ? call.ended_by : error;
+}

@@ -35,6 +35,13 @@ int connection_slots(const struct connection *connection);
 /* Why the last call that failed with EIO did so, or NULL. */
 const char *connection_why(const struct connection *connection);
 
+/* Whether the server can have read the whole request of that call. */
+bool connection_was_sent(const struct connection *connection);
+
+/* Ends the session, and begins another one. Waits at most that long for a server that does not
+ * listen yet; -1 is no limit. Returns 0, or an errno: EBUSY if another thread is in a call. */
+int connection_retry(struct connection *connection, int milliseconds_at_most);
+
 /* Sends a request and reads its reply into the same frame, over a connection that was opened, or
  * over the thread's own for NULL. Returns 0, or the errno of the call. A call that `may_wait` is a
  * cancellation point while it waits for its reply. If a signal handler runs meanwhile, it fails

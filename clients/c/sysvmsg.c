@@ -85,6 +85,16 @@ EXPORTED const char *sysvmsg_reason(const struct sysvmsg *server)
     return why ? why : "";
 }
 
+EXPORTED int sysvmsg_unknown(const struct sysvmsg *server)
+{
+    return server ? connection_was_sent(server->connection) : outcome(EFAULT);
+}
+
+EXPORTED int sysvmsg_retry(struct sysvmsg *server, int milliseconds)
+{
+    return outcome(server ? connection_retry(server->connection, milliseconds) : EFAULT);
+}
+
 EXPORTED int sysvmsg_get(struct sysvmsg *server, int key, int flags)
 {
     int id = -1;

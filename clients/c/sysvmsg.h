@@ -73,8 +73,18 @@ void sysvmsg_close(struct sysvmsg *server);
 int sysvmsg_slots(const struct sysvmsg *server);
 
 /* Why the last call that failed with EIO did so: the session ended, or the server sent no valid
- * reply. It is not known whether such a call took effect. The next call begins another session. */
+ * reply. The next call begins another session. */
 const char *sysvmsg_reason(const struct sysvmsg *server);
+
+/* Returns 1 if it is not known whether that call took effect, and 0 if it did nothing: the server
+ * cannot have read the whole request. */
+int sysvmsg_unknown(const struct sysvmsg *server);
+
+/* Ends the session, and begins another one. If no server listens, it waits for one, at most that
+ * many milliseconds. Fails with the errors of sysvmsg_open, and with EBUSY if another thread is in
+ * a call. If the server was restarted, its queues have to be found again: their identifiers may be
+ * those of other queues. */
+int sysvmsg_retry(struct sysvmsg *server, int milliseconds);
 
 /* Returns the identifier of the queue of a key. */
 int sysvmsg_get(struct sysvmsg *server, int key, int flags);

@@ -18,7 +18,7 @@ _sysvmsg_words() {
     ipcrm) echo "-q -Q --all --wait $credentials --help --version" ;;
     snd) echo "--stdin --lines --type --nowait --wait $credentials --help --version" ;;
     rcv)
-        echo "--type --upto --except --size --nowait --noerror --wait --count --ahead --follow --show-type --raw --create --mode"
+        echo "--type --upto --except --size --nowait --noerror --wait --count --ahead --follow --purge --show-type --raw --create --mode"
         echo "--zero --json $credentials --help --version"
         ;;
     help) echo "$_sysvmsg_commands" ;;

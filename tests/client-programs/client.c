@@ -311,6 +311,42 @@ static void try_cancel(void)
     sysvmsg_close(server);
 }
 
+/* Asks the script for something. */
+static void ask_script(const char *what)
+{
+    puts(what);
+    fflush(stdout);
+}
+
+/* The server is killed while a call waits, and another one starts. */
+static void try_restart(void)
+{
+    struct sysvmsg *server = open_server();
+    struct worker worker = {server, sysvmsg_get(server, KEY, SYSVMSG_CREAT | 0600), 0};
+    struct sigaction action = {.sa_handler = note};
+    pthread_t thread;
+    CHECK(worker.queue == 0 && sysvmsg_unknown(server) == 0);
+    CHECK(pthread_create(&thread, NULL, wait_for_message, &worker) == 0);
+    sleep_micros(300000);
+    CHECK(sysvmsg_retry(server, 1000) == -1 && errno == EBUSY);
+    ask_script("kill");
+    CHECK(pthread_join(thread, NULL) == 0 && sysvmsg_unknown(server) == 1);
+    CHECK(sysvmsg_retry(server, 300) == -1 && (errno == ENOENT || errno == ECONNREFUSED));
+    CHECK(send_text(server, worker.queue, 1, "x", 10000) == -1 && errno == EIO);
+    CHECK(sysvmsg_unknown(server) == 0);
+    CHECK(sigaction(SIGALRM, &action, NULL) == 0);
+    alarm(1);
+    CHECK(sysvmsg_retry(server, SYSVMSG_NO_LIMIT) == -1 && errno == EINTR);
+    ask_script("start");
+    CHECK(sysvmsg_retry(server, 20000) == 0);
+    CHECK(sysvmsg_get(server, KEY, 0) == -1 && errno == ENOENT);
+    CHECK(sysvmsg_get(server, KEY + 1, SYSVMSG_CREAT | 0600) == worker.queue);
+    CHECK(send_text(server, worker.queue, 1, "kept", 10000) == 0);
+    CHECK(sysvmsg_retry(server, 1000) == 0);
+    CHECK(receives(server, worker.queue, 0, "kept"));
+    sysvmsg_close(server);
+}
+
 /* The only place of the server is taken. */
 static void try_no_place(void)
 {
@@ -367,6 +403,10 @@ static void try_no_connection(void)
     errno = 0;
     CHECK(sysvmsg_slots(NULL) == -1 && errno == EFAULT);
     CHECK(sysvmsg_reason(NULL)[0] == 0);
+    errno = 0;
+    CHECK(sysvmsg_unknown(NULL) == -1 && errno == EFAULT);
+    errno = 0;
+    CHECK(sysvmsg_retry(NULL, 0) == -1 && errno == EFAULT);
     sysvmsg_close(NULL);
 }
 
@@ -390,7 +430,7 @@ int main(int count, char **words)
     } parts[] = {{"limits", try_limits}, {"races", try_races}, {"threads", try_threads},
         {"fork", try_fork}, {"signal", try_signal}, {"cancel", try_cancel},
         {"no-place", try_no_place}, {"no-server", try_no_server}, {"faults", try_faults},
-        {"no-connection", try_no_connection}, {"many", try_many}};
+        {"no-connection", try_no_connection}, {"many", try_many}, {"restart", try_restart}};
     if (count < 3)
         return 2;
     path = words[2];

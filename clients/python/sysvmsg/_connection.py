@@ -5,11 +5,12 @@ from __future__ import annotations
 import os
 import socket
 import struct
+import time
 from types import TracebackType
 from typing import Iterator, List, Optional, Tuple, Type, TypeVar, Union, cast
 
-from ._errors import Invalid, Removed, TimedOut
-from ._session import LONGEST, Pending, Place, Session, deadline_in, time_left
+from ._errors import NOT_MADE, ConnectionLost, Invalid, Removed, TimedOut
+from ._session import LONGEST, Pauses, Pending, Place, Session, deadline_in, time_left
 from ._wire import (
     BODY_MAX, NOWAIT, Message, Request, Row, Stat, get_request, rcv_request, set_request, wait_flag,
 )  # fmt: skip
@@ -36,7 +37,8 @@ def identity(uid: Optional[int], gid: Optional[int], pid: Optional[int]) -> Requ
 class Connection:
     """A connection to a server. `connect` makes one."""
 
-    def __init__(self, path: Path, hello: Request[Optional[int]], version: int, wait: Optional[float]) -> None:
+    def __init__(self, path: Path, hello: Request[Optional[int]], version: int, wait: Optional[float],
+                 retry: Optional[float]) -> None:
         self.path = os.fspath(path)
         self.version = version
         #: The number of queues that the server can have, or None in version 1.
@@ -44,8 +46,10 @@ class Connection:
         #: The result of a call that took effect although an exception, such as KeyboardInterrupt, ended its wait.
         self.unclaimed: Optional[object] = None
         self._hello = hello
+        self._retry = retry
+        self._is_closed = False
         self._place = Place(self.path)
-        self._session = self._open(deadline_in(wait))
+        self._session = self._await_server(wait, deadline_in(retry))
 
     def __enter__(self) -> Connection:
         return self
@@ -56,6 +60,7 @@ class Connection:
 
     def close(self) -> None:
         """Ends the session. In a child of fork it only closes the child's copy of the socket."""
+        self._is_closed = True
         self._session.close()
 
     def get(self, key: int, *, create: bool = False, exclusive: bool = False, mode: int = 0o600) -> int:
@@ -136,8 +141,18 @@ class Connection:
     def pipeline(self) -> Pipeline:
         """Several requests in flight."""
         with self._place.alone():
-            self._resume(None)
+            self._resume(None, deadline_in(self._retry))
             return Pipeline(self._session)
+
+    def _await_server(self, wait: Optional[float], limit: Optional[float]) -> Session:
+        """Opens a session. Until the limit of time, it waits for a server that does not listen yet."""
+        pauses = Pauses(limit)
+        while True:
+            try:
+                return self._open(deadline_in(wait))
+            except (FileNotFoundError, ConnectionRefusedError, ConnectionLost) as error:
+                pause = pauses.after(error)
+            time.sleep(pause)
 
     def _open(self, deadline: Optional[float]) -> Session:
         peer = socket.socket(socket.AF_UNIX, socket.SOCK_STREAM)
@@ -146,6 +161,8 @@ class Connection:
                 # (a connect that does not block fails at once if the server's queue of connections is full)
                 peer.setsockopt(socket.SOL_SOCKET, socket.SO_SNDTIMEO, send_limit(time_left(deadline)))
             self._connect(peer)
+            if self._retry is not None:
+                self._place.begin(peer)
             session = Session(peer, self.version, self._place)
             hello = session.start(self._hello)
             while not hello.done:
@@ -168,25 +185,46 @@ class Connection:
             error.filename = self.path
             raise
 
-    def _resume(self, deadline: Optional[float]) -> None:
-        """Opens another session if the last one was left."""
-        if self._session.is_over and self._session.was_left:
-            self._session = self._open(deadline)
+    def _resume(self, deadline: Optional[float], limit: Optional[float]) -> None:
+        """Opens another session if the last one was left, or was lost and a server may be waited for."""
+        is_left = self._session.was_left or limit is not None
+        if self._session.is_over and is_left and not self._is_closed:
+            self._session = self._reopen(deadline, limit)
+
+    def _reopen(self, deadline: Optional[float], limit: Optional[float]) -> Session:
+        """Opens a session for a call."""
+        try:
+            return self._await_server(None if deadline is None else time_left(deadline), limit)
+        except (FileNotFoundError, ConnectionRefusedError) as error:
+            if self._retry is None:
+                raise
+            self._place.is_lost = True
+            raise ConnectionLost("there is no server", NOT_MADE).of(None, self.path, None, None) from error
 
     def _call(self, request: Request[T], wait: Optional[float]) -> T:
-        """Makes a call over the session that is kept, or over one of its own if another thread uses that."""
+        """Makes a call. One that names no queue by its identifier waits for a server if the last one was lost."""
         deadline = deadline_in(wait if wait is not None and wait > 0 else None)
+        limit = deadline_in(self._retry) if request.queue is None else None
+        while True:
+            try:
+                return self._call_once(request, deadline, limit)
+            except ConnectionLost as lost:
+                if self._is_closed or limit is None or time_left(limit) <= 0 or lost.outcome != NOT_MADE:
+                    raise
+
+    def _call_once(self, request: Request[T], deadline: Optional[float], limit: Optional[float]) -> T:
+        """Makes a call over the session that is kept, or over one of its own if another thread uses that."""
         self._place.check_process()
         if not self._place.lock.acquire(blocking=False):
-            return self._call_apart(request, deadline)
+            return self._call_apart(request, deadline, limit)
         try:
-            self._resume(deadline)
+            self._resume(deadline, limit)
             return self._make(self._session, request, deadline)
         finally:
             self._place.lock.release()
 
-    def _call_apart(self, request: Request[T], deadline: Optional[float]) -> T:
-        session = self._open(deadline)
+    def _call_apart(self, request: Request[T], deadline: Optional[float], limit: Optional[float]) -> T:
+        session = self._reopen(deadline, limit)
         try:
             return self._make(session, request, deadline)
         finally:
@@ -270,12 +308,16 @@ class Pipeline:
 
 
 def connect(path: Path, *, uid: Optional[int] = None, gid: Optional[int] = None, pid: Optional[int] = None,
-            version: int = 2, wait: Optional[float] = None) -> Connection:
+            version: int = 2, wait: Optional[float] = None, retry: Optional[float] = None) -> Connection:
     """Connects to the server at a path, as this process's effective user and group or as the given ones. The server
     does not check them.
 
     With `wait`, it raises `TimedOut` if the server does not serve this client within that many seconds. It raises
     FileNotFoundError or ConnectionRefusedError if there is no server, and PermissionError if the socket's mode forbids
     it.
+
+    With `retry`, it waits for a server at most that many seconds before it raises one of the first two. After the
+    connection is lost, `get`, `row`, `rows` and `pipeline` wait that long for a server and connect again. Calls that
+    name a queue found before raise `ConnectionLost`: another server's queues have the same identifiers.
     """
-    return Connection(path, identity(uid, gid, pid), version, wait)
+    return Connection(path, identity(uid, gid, pid), version, wait, retry)

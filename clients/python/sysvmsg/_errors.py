@@ -7,16 +7,22 @@ from typing import Dict, Optional, Tuple, Type, TypeVar, cast
 
 E = TypeVar("E", bound="Error")
 
+ANSWERED = "answered"  # the server replied that the call failed
+NOT_MADE = "not made"  # the call did nothing, so it can be made again
+UNKNOWN = "unknown"  # the call took effect or did nothing
+
 
 class Error(OSError):
     """A call that failed. `name` is the name of the error, and `errno` the system's number for it.
 
-    `call` is the name of the call, `path` the path of the server, `queue` the identifier of the queue, and `key` its
-    key. An attribute that is not known is None. Errors can be pickled.
+    `outcome` is what became of the call: `ANSWERED`, `NOT_MADE` or `UNKNOWN`. `call` is the name of the call, `path` the
+    path of the server, `queue` the identifier of the queue, and `key` its key. An attribute that is not known is None.
+    Errors can be pickled.
     """
 
     name = "EIO"
     sentence = ""
+    outcome = UNKNOWN
 
     def __init__(self, why: str = "") -> None:
         self.why = why or self.sentence
@@ -53,6 +59,8 @@ def _restored(kind: Type[E], why: str, call: Optional[str], path: Optional[str],
 
 class QueueError(Error):
     """A call that the server refused."""
+
+    outcome = ANSWERED
 
 
 class NotPermitted(QueueError, PermissionError):
@@ -143,6 +151,7 @@ class TimedOut(Error, TimeoutError):
     """The time of a call was over. The call did nothing."""
 
     name = "ETIMEDOUT"
+    outcome = NOT_MADE
     sentence = "the time was over; the call did nothing"
 
 
@@ -150,14 +159,23 @@ class NotMade(Error, ConnectionError):
     """A request in a pipeline behind a call that was given up. It did nothing."""
 
     name = "ECANCELED"
+    outcome = NOT_MADE
     sentence = "a call before this one was given up; this one did nothing"
 
 
 class ConnectionLost(Error, ConnectionError):
-    """The session ended without a reply, or the server does not end it. It is not known whether the call took effect."""
+    """The session ended without a reply, or the server does not end it. `outcome` is `NOT_MADE` if the server cannot have
+    read the whole request, and else `UNKNOWN`."""
 
     name = "ECONNRESET"
     sentence = "the session is over"
+
+    def __init__(self, why: str = "", outcome: str = UNKNOWN) -> None:
+        super().__init__(why)
+        self.outcome = outcome
+
+    def __reduce__(self) -> Tuple[object, ...]:
+        return (*super().__reduce__(), {"outcome": self.outcome})
 
 
 class ProtocolError(Error, ConnectionError):

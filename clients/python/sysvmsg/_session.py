@@ -12,8 +12,10 @@ from collections import deque
 from contextlib import contextmanager
 from typing import Callable, Deque, Dict, Generator, Generic, Iterator, Optional, Type, TypeVar, cast
 
-from ._errors import ConnectionLost, Error, ForkedConnection, InUse, Invalid, NotMade, ProtocolError, QueueError, TimedOut
-from ._wire import GET, PRIVATE, REPLY_MAX, Request, read_reply
+from ._errors import (
+    NOT_MADE, ConnectionLost, Error, ForkedConnection, InUse, Invalid, NotMade, ProtocolError, QueueError, TimedOut,
+)  # fmt: skip
+from ._wire import GET, HELLO, PRIVATE, REPLY_MAX, Request, Row, read_reply
 
 T = TypeVar("T")
 
@@ -21,6 +23,8 @@ LONGEST = 1_000_000.0  # how many seconds the system waits at once
 LEAVE = 60.0  # how many seconds the server may take to end a session whose call was given up
 _READ = 65536
 _KEYS = 4096  # how many keys of queues are kept for errors
+_QUEUES = 65536  # how many identifiers of queues are kept: as many as a server has queues at most
+_PAUSES = 0.02, 0.5  # the first and the longest time between two tries to connect to a server
 
 # A computation that waits for the socket. It yields the deadline of each wait, and is told whether the wait ended before.
 Steps = Generator[Optional[float], bool, None]
@@ -53,6 +57,16 @@ def time_left(deadline: float) -> float:
     return max(0.0, deadline - time.monotonic())
 
 
+def _server_of(peer: socket.socket, path: str) -> object:
+    """What tells a server from one that was at the path before: the process that listens, and the socket's file."""
+    process = peer.getsockopt(socket.SOL_SOCKET, socket.SO_PEERCRED, 12)
+    try:
+        file = os.stat(path)
+    except OSError:
+        return process, None
+    return process, (file.st_dev, file.st_ino)
+
+
 class Place:
     """What the sessions of a connection have in common: its server, its process and its lock."""
 
@@ -63,6 +77,27 @@ class Place:
         self.lock = threading.Lock()
         #: The keys of the queues that were found, for errors.
         self.keys: Dict[int, int] = {}
+        #: Whether a session ended that was neither left nor closed here.
+        self.is_lost = False
+        #: What tells the server from another one at the same path.
+        self._server: object = None
+        #: The identifiers that this server is known to have, or None if no other server was seen.
+        self._queues: Optional[Dict[int, None]] = None
+
+    def begin(self, peer: socket.socket) -> None:
+        """Notes the server of a new session. If the last session was lost, or this server is another one, identifiers
+        that were found before may be those of other queues, or of none."""
+        server = _server_of(peer, self.path)
+        if self.is_lost or self._server not in (None, server):
+            self._queues = {}
+            self.keys.clear()
+        self.is_lost, self._server = False, server
+
+    def check_queue(self, request: Request[T]) -> None:
+        """Refuses an identifier that was found before the last session was lost."""
+        if self._queues is not None and request.queue is not None and request.queue not in self._queues:
+            why = "the queue was found before the connection was lost; find it again"
+            raise self.explain(ConnectionLost(why, NOT_MADE), request)
 
     def check_process(self) -> None:
         """Refuses a child of fork: it would take the replies of its parent."""
@@ -90,11 +125,23 @@ class Place:
             raise ProtocolError("the reply has no number of slots").of("hello", self.path, None, None)
         return slots
 
-    def note_key(self, request: Request[T], result: object) -> None:
+    def note(self, request: Request[T], result: object) -> None:
+        """Notes the queue that a call has found."""
+        if isinstance(result, Row):
+            self._note_queue(result.id)
+        elif request.operation == GET:
+            self._note_queue(cast(int, result))
         if request.operation == GET and request.key != PRIVATE:
             if len(self.keys) >= _KEYS:
                 self.keys.clear()
             self.keys[cast(int, result)] = cast(int, request.key)
+
+    def _note_queue(self, queue: int) -> None:
+        if self._queues is not None:
+            self._queues.pop(queue, None)
+            self._queues[queue] = None
+            if len(self._queues) > _QUEUES:
+                del self._queues[next(iter(self._queues))]
 
     def explain(self, error: Error, request: Request[T]) -> Error:
         """The error, with the call that it is of."""
@@ -102,12 +149,29 @@ class Place:
         return error.of(request.call, self.path, key, request.queue)
 
 
+class Pauses:
+    """The pauses between tries to connect to a server that may not listen yet."""
+
+    def __init__(self, limit: Optional[float]) -> None:
+        self._limit = limit
+        self._next, self._longest = _PAUSES
+
+    def after(self, error: BaseException) -> float:
+        """How many seconds to wait after a try that failed. Raises its error if the time is over."""
+        if self._limit is None or time_left(self._limit) <= 0:
+            raise error
+        pause = min(self._next, time_left(self._limit))
+        self._next = min(2 * self._next, self._longest)
+        return pause
+
+
 class Pending(Generic[T]):
     """A request of a pipeline, whose reply may be still to come."""
 
-    def __init__(self, session: Session, request: Request[T]) -> None:
+    def __init__(self, session: Session, request: Request[T], end: int) -> None:
         self._session = session
         self._request = request
+        self._end = end  # where it ends in the bytes of the session's requests
         self._value: Optional[T] = None
         self._error: Optional[BaseException] = None
         self.done = False
@@ -131,6 +195,10 @@ class Pending(Generic[T]):
         self.done = True
 
     def _fail(self, error: Error) -> None:
+        # (a hello changes nothing)
+        is_unsent = self._end > self._session.sent or self._request.operation == HELLO
+        if is_unsent and isinstance(error, ConnectionLost):
+            error.outcome = NOT_MADE
         self._error = self._session.place.explain(error, self._request)
         self.done = True
 
@@ -144,6 +212,7 @@ class Session:
         self.version = version
         self.place = place
         self.output = bytearray()
+        self.sent = 0  # the bytes of requests that were sent
         self.input = bytearray()
         self.pending: Deque[Pending[object]] = deque()
         self.is_over = False
@@ -153,11 +222,12 @@ class Session:
     def start(self, request: Request[T]) -> Pending[T]:
         self.place.check_process()
         if self.is_over:
-            raise self.place.explain(ConnectionLost(), request)
+            raise self.place.explain(ConnectionLost(outcome=NOT_MADE), request)
+        self.place.check_queue(request)
         if request.is_too_long:
             raise self.place.explain(Invalid(), request)
-        pending = Pending(self, request)
         self.output += request.frame(self.version)
+        pending = Pending(self, request, self.sent + len(self.output))
         self.pending.append(cast("Pending[object]", pending))
         return pending
 
@@ -238,7 +308,9 @@ class Session:
             if events & ~select.POLLOUT:
                 self._take(self.peer.recv(_READ))
             elif self.output:
-                del self.output[: self.peer.send(self.output)]
+                count = self.peer.send(self.output)
+                self.sent += count
+                del self.output[:count]
         except (BlockingIOError, InterruptedError):
             pass
         except ConnectionResetError as error:
@@ -255,6 +327,7 @@ class Session:
             if self.input or (self.pending and not self.was_left):
                 self._end(ConnectionLost, "the server closed the connection")
             else:
+                self.place.is_lost |= not self.was_left
                 self.close()
             return
         self.input += data
@@ -275,7 +348,7 @@ class Session:
     def _read_one(self, pending: Pending[object]) -> None:
         try:
             pending._read(read_reply(self._read, pending._request.operation, self.version))
-            self.place.note_key(pending._request, pending._value)
+            self.place.note(pending._request, pending._value)
         except QueueError as refused:
             pending._fail(refused)
         except ProtocolError as error:
@@ -286,6 +359,7 @@ class Session:
     def _end(self, kind: Type[Error], why: str) -> None:
         """Ends the session. Requests without a reply fail."""
         self.was_left = False
+        self.place.is_lost = True
         self.close()
         self._fail_pending(kind, why)
 

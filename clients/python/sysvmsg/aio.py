@@ -24,8 +24,8 @@ from types import TracebackType
 from typing import AsyncIterator, Coroutine, Generator, Optional, Type, TypeVar, cast
 
 from ._connection import Path, identity
-from ._errors import Invalid, Removed, TimedOut
-from ._session import Place, Session, Steps, deadline_in, time_left
+from ._errors import NOT_MADE, ConnectionLost, Invalid, Removed, TimedOut
+from ._session import Pauses, Place, Session, Steps, deadline_in, time_left
 from ._wire import BODY_MAX, Message, Request, Row, Stat, get_request, rcv_request, set_request, wait_flag
 
 T = TypeVar("T")
@@ -80,7 +80,7 @@ async def _whole(steps: Coroutine[object, object, None]) -> None:
 class Connection:
     """A connection to a server. `connect` makes one."""
 
-    def __init__(self, path: Path, hello: Request[Optional[int]], version: int) -> None:
+    def __init__(self, path: Path, hello: Request[Optional[int]], version: int, retry: Optional[float]) -> None:
         self.path = os.fspath(path)
         self.version = version
         #: The number of queues that the server can have, or None in version 1.
@@ -88,6 +88,8 @@ class Connection:
         #: The result of a call that took effect although its task was cancelled.
         self.unclaimed: Optional[object] = None
         self._hello = hello
+        self._retry = retry
+        self._is_closed = False
         self._place = Place(self.path)
         self._session: Optional[Session] = None
         self._is_used = False
@@ -101,6 +103,7 @@ class Connection:
 
     def close(self) -> None:
         """Ends the session. No task may be in a call."""
+        self._is_closed = True
         if self._session is not None:
             self._session.close()
 
@@ -166,14 +169,26 @@ class Connection:
             slot += 1
 
     async def _begin(self, wait: Optional[float]) -> Connection:
-        self._session = await self._open(deadline_in(wait))
+        self._session = await self._await_server(wait, deadline_in(self._retry))
         return self
+
+    async def _await_server(self, wait: Optional[float], limit: Optional[float]) -> Session:
+        """Opens a session. Until the limit of time, it waits for a server that does not listen yet."""
+        pauses = Pauses(limit)
+        while True:
+            try:
+                return await self._open(deadline_in(wait))
+            except (FileNotFoundError, ConnectionRefusedError, ConnectionLost) as error:
+                pause = pauses.after(error)
+            await asyncio.sleep(pause)
 
     async def _open(self, deadline: Optional[float]) -> Session:
         peer = socket.socket(socket.AF_UNIX, socket.SOCK_STREAM)
         try:
             session = Session(peer, self.version, self._place)
             await self._connect(peer, deadline)
+            if self._retry is not None:
+                self._place.begin(peer)
             hello = session.start(self._hello)
             while not hello.done:
                 # (no call was made yet, so nothing can be lost)
@@ -201,22 +216,49 @@ class Connection:
     def _late(self, why: str) -> TimedOut:
         return TimedOut(why).of("hello", self.path, None, None)
 
+    async def _reopen(self, deadline: Optional[float], limit: Optional[float]) -> Session:
+        """Opens a session for a call."""
+        try:
+            return await self._await_server(None if deadline is None else time_left(deadline), limit)
+        except (FileNotFoundError, ConnectionRefusedError) as error:
+            if self._retry is None:
+                raise
+            self._place.is_lost = True
+            raise ConnectionLost("there is no server", NOT_MADE).of(None, self.path, None, None) from error
+
     async def _call(self, request: Request[T], wait: Optional[float]) -> T:
-        """Makes a call over the session that is kept, or over one of its own if another task uses that."""
+        """Makes a call. One that names no queue by its identifier waits for a server if the last one was lost."""
         deadline = deadline_in(wait if wait is not None and wait > 0 else None)
+        limit = deadline_in(self._retry) if request.queue is None else None
+        while True:
+            try:
+                return await self._call_once(request, deadline, limit)
+            except ConnectionLost as lost:
+                if self._is_closed or limit is None or time_left(limit) <= 0 or lost.outcome != NOT_MADE:
+                    raise
+
+    async def _call_once(self, request: Request[T], deadline: Optional[float], limit: Optional[float]) -> T:
+        """Makes a call over the session that is kept, or over one of its own if another task uses that."""
         self._place.check_process()
         if self._is_used:
-            return await self._call_apart(request, deadline)
+            return await self._call_apart(request, deadline, limit)
         self._is_used = True
         try:
-            if self._session is None or self._session.is_over and self._session.was_left:
-                self._session = await self._open(deadline)
-            return await self._make(self._session, request, deadline)
+            return await self._make(await self._present(deadline, limit), request, deadline)
         finally:
             self._is_used = False
 
-    async def _call_apart(self, request: Request[T], deadline: Optional[float]) -> T:
-        session = await self._open(deadline)
+    async def _present(self, deadline: Optional[float], limit: Optional[float]) -> Session:
+        """The session that is kept, or another one if it was left, or was lost and a server may be waited for."""
+        if self._session is None:
+            self._session = await self._open(deadline)
+        is_left = self._session.was_left or limit is not None
+        if self._session.is_over and is_left and not self._is_closed:
+            self._session = await self._reopen(deadline, limit)
+        return self._session
+
+    async def _call_apart(self, request: Request[T], deadline: Optional[float], limit: Optional[float]) -> T:
+        session = await self._reopen(deadline, limit)
         try:
             return await self._make(session, request, deadline)
         finally:
@@ -255,6 +297,6 @@ class Connecting:
 
 
 def connect(path: Path, *, uid: Optional[int] = None, gid: Optional[int] = None, pid: Optional[int] = None,
-            version: int = 2, wait: Optional[float] = None) -> Connecting:
+            version: int = 2, wait: Optional[float] = None, retry: Optional[float] = None) -> Connecting:
     """`sysvmsg.connect`. Its result is awaited, or used in `async with`."""
-    return Connecting(Connection(path, identity(uid, gid, pid), version), wait)
+    return Connecting(Connection(path, identity(uid, gid, pid), version, retry), wait)

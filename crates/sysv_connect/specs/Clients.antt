@@ -31,7 +31,8 @@ use Rattle.sysv_connect.specs.declared.how.How.{How}
 use Rattle.sysv_connect.specs.Bodies.{with_text}
 use Rattle.sysv_connect.specs.Ends.{Fails, Succeeds, SucceedsIf}
 use Rattle.sysv_connect.specs.declared.batches.Way.{Way}
-use Rattle.sysv_connect.specs.declared.batches.Way.TheVariants.{Stream, Lines, Clear, Once}
+use Rattle.sysv_connect.specs.declared.batches.Way.TheVariants.{Stream, Purge, Lines, Clear, Once}
+use Rattle.sysv_connect.specs.Purge.{Purges}
 
 -- A client received messages, and the program succeeds exactly if that had no fault.
 abbrev pub Receives : Receiving → ExitCode → (left rest taken more shown after : Option (List ℕ)) → Type 0
@@ -129,6 +130,8 @@ abbrev pub IsDone : Way → Cred → Task → How → ExitCode →
     (left rest taken more fed unfed shown after : Option (List ℕ)) → Type 0
 IsDone (Stream receiving) cred task how exit left rest taken more fed unfed shown after =
     Receives receiving exit left rest taken more shown after × (unfed ≡ fed)
+IsDone (Purge receiving) cred task how exit left rest taken more fed unfed shown after =
+    Purges receiving exit left rest taken more shown after × (unfed ≡ fed)
 IsDone (Lines sending) cred task how exit left rest taken more fed unfed shown after =
     SendsLines sending exit left rest taken more fed unfed × (after ≡ shown)
 IsDone Clear cred task how exit left rest taken more fed unfed shown after =

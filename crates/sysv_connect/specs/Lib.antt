@@ -8,3 +8,4 @@ pub mod Clients
 pub mod Visits
 pub mod Telling
 pub mod Patience
+pub mod Purge

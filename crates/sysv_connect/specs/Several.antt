@@ -11,7 +11,8 @@ use Rattle.sysv_clients.specs.declared.stream.Receiving.{Receiving}
 use Rattle.sysv_model.specs.declared.cred.Cred.{Cred}
 use Rattle.sysv_connect.specs.declared.how.How.{How}
 use Rattle.sysv_connect.specs.declared.batches.Way.{Way}
-use Rattle.sysv_connect.specs.declared.batches.Way.TheVariants.{Stream, Lines, Clear, Once}
+use Rattle.sysv_connect.specs.declared.batches.Way.TheVariants.{Stream, Purge, Lines, Clear, Once}
+use Rattle.sysv_connect.specs.Purge.{purging_of}
 
 -- The number of messages by the number that is stated, if one is, and whether all are wanted.
 abbrev pub count_by : Option ℕ → Bool → ℕ
@@ -44,7 +45,8 @@ is_of_stream receipt how =
 -- How a task with these options is done.
 abbrev pub way_by : Cred → Task → How → Way
 way_by cred (Receive receipt) how =
-    if is_of_stream receipt how then Stream (receiving_of cred receipt how) else Once
+    if how.purge then Purge (purging_of cred receipt)
+    else if is_of_stream receipt how then Stream (receiving_of cred receipt how) else Once
 way_by cred (Send key text mtype nowait) how =
     if how.lines then Lines (record { cred = cred; key = key; mtype = mtype; nowait = nowait }) else Once
 way_by cred (Remove All) how = Clear

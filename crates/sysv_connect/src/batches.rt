@@ -13,6 +13,7 @@ use crate::how::How;
 use crate::link::{Link, Unlinked, linked};
 use crate::patience::Patience;
 use crate::place::{Leave, Place};
+use crate::purge::purging;
 use crate::screen::Screen;
 use crate::sentence::Detail;
 use crate::teller::{Left, Teller};
@@ -38,6 +39,8 @@ const NO_ROOM: ClientFault = ClientFault::Refused(Errno::EAGAIN);
 pub(crate) enum Way {
     /// By a client that receives messages and shows them as a stream.
     Stream(Receiving),
+    /// By a client that receives messages until there is none, and shows their number.
+    Purge(Receiving),
     /// By a client that sends each line of an input as a message.
     Lines(Sending),
     /// By a client that removes all queues.
@@ -51,6 +54,7 @@ pub(crate) fn way_of(cred: Cred, task: &Task<'_>, how: &How) -> Way
     ensures { result ≡ way_by cred task.now how.now }
 {
     match *task {
+        Task::Receive(receipt) if how.purge => Way::Purge(purging(cred, receipt)),
         Task::Receive(receipt) if is_stream(&receipt, how) => {
             Way::Stream(receiving(cred, receipt, how))
         }

@@ -19,6 +19,7 @@ use crate::input::{Unread, read_body};
 use crate::link::{Link, Unlinked, linked};
 use crate::patience::Patience;
 use crate::place::{Leave, Place};
+use crate::purge::purge_at;
 use crate::room::look;
 use crate::screen::{Screen, put};
 use crate::sentence::Detail;
@@ -82,6 +83,10 @@ pub fn run_as<I: Read, P: Place, S: Write>(
     let patience = Patience::of(&command.task, how.wait);
     match way_of(command.cred, &command.task, how) {
         Way::Stream(receiving) => receive_at(rt, place, &teller, &receiving, patience, screen),
+        Way::Purge(receiving) => {
+            let patience = Patience::of(&Task::Receive(receiving.receipt), how.wait);
+            purge_at(rt, place, &teller, &receiving, patience, screen)
+        }
         Way::Lines(sending) => send_at(rt, input, place, &teller, &sending, patience),
         Way::Clear => remove_at(rt, place, &teller, command.cred, patience),
         Way::Once => run_one(rt, input, place, &teller, command, how, screen),

@@ -11,6 +11,8 @@ pub struct How {
     pub lines: bool,
     /// Whether a `rcv` receives messages until it is ended.
     pub follow: bool,
+    /// Whether a `rcv` takes messages until there is none, and shows only their number.
+    pub purge: bool,
     /// The number of messages that a `rcv` receives.
     pub count: Option<u32>,
     /// The number of receives that a `rcv` has on their way.

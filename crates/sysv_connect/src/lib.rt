@@ -13,6 +13,7 @@ mod link;
 mod patience;
 mod place;
 mod plain;
+mod purge;
 mod room;
 mod screen;
 mod sentence;

@@ -37,6 +37,7 @@ pub record HasHow (words : List Row) (how : How) : Type 0 where
   pub from_input : HasFlag words (codes "stdin") how.from_input
   pub lines : HasFlag words (codes "lines") how.lines
   pub follow : HasFlag words (codes "follow") how.follow
+  pub purge : HasFlag words (codes "purge") how.purge
   pub count : HasMaybe IsNat32 (word_of words (codes "count")) how.count
   pub ahead : HasMaybe IsAhead (word_of words (codes "ahead")) how.ahead
   pub wait : HasMaybe IsTime (word_of words (codes "wait")) how.wait

@@ -288,6 +288,7 @@ fn how_of(words: &ArgMatches<'_>) -> Result<How, Bad>
         from_input: has_flag(words, "stdin"),
         lines: has_flag(words, "lines"),
         follow: has_flag(words, "follow"),
+        purge: has_flag(words, "purge"),
         count: number_if(words, "count", COUNT)?,
         ahead: ahead_of(words)?,
         wait: time_if(words, "wait")?,

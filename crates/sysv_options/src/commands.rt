@@ -280,6 +280,11 @@ Example:
         ),
         ("follow", Form::Flag, "Receives messages until interrupted"),
         (
+            "purge",
+            Form::Flag,
+            "Takes all messages and prints only their number",
+        ),
+        (
             "show-type",
             Form::Flag,
             "Prints the type and a tab before the body",
@@ -337,7 +342,7 @@ Example:
             required: false,
         },
         Group {
-            of: &["count", "follow"],
+            of: &["count", "follow", "purge"],
             required: false,
         },
         Group {
@@ -345,7 +350,7 @@ Example:
             required: false,
         },
         Group {
-            of: &["raw", "zero", "json"],
+            of: &["raw", "zero", "json", "purge"],
             required: false,
         },
         Group {

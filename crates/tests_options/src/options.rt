@@ -37,6 +37,7 @@ const PLAIN: How = How {
     from_input: false,
     lines: false,
     follow: false,
+    purge: false,
     count: None,
     ahead: None,
     wait: None,

@@ -1,4 +1,5 @@
-//! Tests of buffers, of workers and of the words that wake a sleeper, by one thread and by several.
+//! Tests of buffers, of workers, and of the words that wake a sleeper and tell it of changes, by one
+//! thread and by several.
 #![tactic(auto)]
 
 #[cfg(test)]
@@ -11,5 +12,7 @@ mod examples;
 mod growths;
 #[cfg(test)]
 mod parts;
+#[cfg(test)]
+mod told;
 #[cfg(test)]
 mod workers;

@@ -62,6 +62,7 @@ const PLAIN: How = How {
     from_input: false,
     lines: false,
     follow: false,
+    purge: false,
     count: None,
     ahead: None,
     wait: None,
@@ -188,6 +189,33 @@ fn a_receive_that_waits_too_long_is_left(rt: HostRuntime) {
     let exit = run(&rt, &mut dialogue, &mut input, RECEIVE_ANY, &how);
     assert_is(&rt, exit, ExitCode::from(3));
     dialogue.assert_shown(&rt, b"sysvmsg: ENOMSG\n", 0);
+}
+
+/// `msgget` of key 7 without flags, and a receive of no bytes from identifier 64, with IPC_NOWAIT and
+/// MSG_NOERROR.
+const FIND: &[u8] = b"\0\0\0\x0a\x02\x01\0\0\0\x07\0\0\0\0";
+
+const TAKE: &[u8] = b"\0\0\0\x16\x02\x03\0\0\0\x40\0\0\0\0\0\0\0\0\0\0\0\0\0\0\x18\0";
+
+/// A message of type 5 without a body, and ENOMSG.
+const TAKEN: &[u8] = b"\0\0\0\x0b\x02\x03\0\0\0\0\0\0\0\0\x05";
+
+const NO_MORE: &[u8] = b"\0\0\0\x03\x02\x03\x2a";
+
+#[test]
+fn a_queue_is_emptied(rt: HostRuntime) {
+    let replies = [WELCOME, GOT, TAKEN, TAKEN, NO_MORE];
+    let mut dialogue = Dialogue::new(&rt, rt.alloc(), &replies);
+    let mut input = Tape::new(&rt, rt.alloc());
+    let how = How {
+        purge: true,
+        ..PLAIN
+    };
+    let exit = run(&rt, &mut dialogue, &mut input, RECEIVE_ANY, &how);
+    assert_is(&rt, exit, ExitCode::SUCCESS);
+    let requests = [HELLO, FIND, TAKE, TAKE, TAKE];
+    dialogue.assert_requests(&rt, rt.alloc(), &requests);
+    dialogue.assert_shown(&rt, b"2\n", 0);
 }
 
 #[test]
