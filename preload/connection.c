@@ -697,6 +697,8 @@ static struct connection *take_place(const struct peer *peer)
         each->fd = -1;
         each->peer = peer;
         each->is_opened = false;
+        each->why = NULL;
+        each->was_sent = false;
         return each;
     }
     return NULL;

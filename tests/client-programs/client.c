@@ -343,6 +343,10 @@ static void try_restart(void)
     CHECK(sysvmsg_get(server, KEY + 1, SYSVMSG_CREAT | 0600) == worker.queue);
     CHECK(send_text(server, worker.queue, 1, "kept", 10000) == 0);
     CHECK(sysvmsg_retry(server, 1000) == 0);
+    CHECK(sysvmsg_reason(server)[0] != 0);
+    sysvmsg_close(server);
+    server = open_server();
+    CHECK(sysvmsg_reason(server)[0] == 0 && sysvmsg_unknown(server) == 0);
     CHECK(receives(server, worker.queue, 0, "kept"));
     sysvmsg_close(server);
 }
