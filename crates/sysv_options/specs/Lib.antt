@@ -2,6 +2,7 @@
 pub mod Asked
 pub mod Words
 pub mod Who
+pub mod Process
 pub mod Tasks
 pub mod Servers
 pub mod Requests

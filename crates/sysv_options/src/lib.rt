@@ -4,7 +4,9 @@
 
 mod asked;
 mod commands;
+mod process;
 mod who;
 
 pub use asked::{Asked, Serving, SocketFile, no_text, read_words};
-pub use who::{Surroundings, Who, credentials, own, telling, wants_me, wants_stderr};
+pub use process::{NoWords, Process, surroundings};
+pub use who::{Surroundings, Who, credentials, telling};

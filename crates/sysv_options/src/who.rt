@@ -2,8 +2,6 @@
 ghost use Rattle.std.specs.Prelude.{◌≡◌};
 ghost use Rattle.sysv_options.specs.Who.{cred_by, stated_by, told_by};
 
-use std::env;
-use std::env::Env;
 use sysv_connect::Telling;
 use sysv_model::Cred;
 
@@ -42,12 +40,6 @@ const USUAL: Cred = Cred {
     pid: 1,
 };
 
-/// The environment variable that has the effect of `--me` if its value is 1.
-const ME: &str = "SYSVMSG_ME";
-
-/// The environment variable that has the effect of `--stderr` if its value is 1.
-const STDERR: &str = "SYSVMSG_STDERR";
-
 /// Returns the credentials that a client states: those of the words, and for the others those of
 /// the process, if the words or the environment want them, or the usual ones.
 pub fn credentials(who: &Who, around: &Surroundings) -> Cred
@@ -83,32 +75,5 @@ fn cred_of(who: &Who, usual: Cred) -> Cred
         uid: who.uid.unwrap_or(usual.uid),
         gid: who.gid.unwrap_or(usual.gid),
         pid: who.pid.unwrap_or(usual.pid),
-    }
-}
-
-/// Returns whether the environment wants the IDs of this process.
-pub fn wants_me(rt: &(impl Env + AllocGlobal)) -> bool {
-    is_one(rt, ME)
-}
-
-/// Returns whether the environment wants faults on standard error.
-pub fn wants_stderr(rt: &(impl Env + AllocGlobal)) -> bool {
-    is_one(rt, STDERR)
-}
-
-/// Returns whether an environment variable has the value 1.
-fn is_one(rt: &(impl Env + AllocGlobal), name: &str) -> bool {
-    match env::var(rt, name) {
-        Ok(value) => value.as_str() == "1",
-        Err(_) => false,
-    }
-}
-
-/// Returns the effective user and group of this process, and its ID.
-pub fn own() -> Cred {
-    Cred {
-        uid: libc::geteuid(),
-        gid: libc::getegid(),
-        pid: libc::getpid().unsigned_abs(),
     }
 }

@@ -3,6 +3,8 @@ use Rattle.std.specs.Prelude.{◌≡◌, ⊤, ℕ, Bool, List, [], ◌∷◌, �
 use Rattle.std.specs.Fmt.{decimal}
 use Rattle.std.specs.Io.KnownBytes.{Appends}
 use Rattle.sysv_server.specs.Serving.{EndsOn, HasReason, limits_in}
+use Rattle.sysv_engine.specs.declared.fault.ServeFault.{ServeFault}
+use Rattle.sysv_engine.specs.declared.fault.ServeFault.TheVariants as faults
 use Rattle.sysv_engine.specs.declared.terms.Ended.{Ended}
 use Rattle.sysv_server.specs.declared.host.Reason.{Reason}
 use Rattle.sysv_server.specs.declared.host.Reason.TheVariants.{Full, InputOver, NoSocket, Accept}
@@ -15,6 +17,14 @@ abbrev pub sums_line : Sums → List ℕ
 sums_line sums =
     codes "sessions " ++ decimal sums.sessions ++ codes " taken " ++ decimal sums.taken ++ codes " written "
     ++ decimal sums.written ++ codes " lost " ++ decimal sums.lost ++ 10 ∷ []
+
+-- What is printed of a server that did not serve to its end. A thread that cannot be started lacks memory
+-- or is one too many.
+abbrev pub words_of : ServeFault → List ℕ
+words_of faults.NoMemory = codes "no memory"
+words_of faults.Thread = codes "no memory"
+words_of faults.Worn = codes "the buffer is worn out"
+words_of faults.Missed = codes "connections were missed"
 
 -- A server accepted no more connections because it was to accept no more, if it gives this reason.
 abbrev pub IsMeantToEnd : Option Reason → Type 0

@@ -19,7 +19,9 @@ use Rattle.sysv_connect.specs.Visits.{Visited}
 use Rattle.sysv_model.specs.declared.cred.Cred.{Cred}
 use Rattle.sysv_options.specs.declared.asked.Asked.{Asked}
 use Rattle.sysv_options.specs.declared.asked.Asked.TheVariants.{Script, Serve, Look, Client}
+use Rattle.sysv_options.specs.declared.process.NoWords.{NoWords}
 use Rattle.sysv_options.specs.declared.who.Surroundings.{Surroundings}
+use Rattle.sysv_options.specs.Process.{AreTold, Told, Unread, Words}
 use Rattle.sysv_options.specs.Requests.{IsMeant}
 use Rattle.sysv_options.specs.Who.{stated_by, told_by}
 use Rattle.sysvmsg.specs.Ends.{HasServedAll}
@@ -75,7 +77,19 @@ module _ {P R W : Type 0} (remaining : R → Option (List ℕ)) (contents : W �
       ((asked : Asked) × IsMeant words asked × Answers asked exit fed shown after contact)
       ⊎ DoesNothing shown after contact
 
-  -- The same, with the exit status and the screen alone.
-  abbrev pub EndsBy : List (List ℕ) → ExitCode → (fed shown after : Option (List ℕ)) → Type 0
-  EndsBy words exit fed shown after =
-      (contact : Contact P (Link R W)) × AnswersWords words exit fed shown after contact
+  -- Either that, for words that can be read; or the words cannot be read, and the program failed and has
+  -- shown nothing on the screen.
+  abbrev pub AnswersTold : (Told → Type 0) → ExitCode → (fed shown after : Option (List ℕ)) →
+      Contact P (Link R W) → Type 0
+  AnswersTold Tells exit fed shown after contact =
+      ((words : List (List ℕ)) × Tells (Words words) × AnswersWords words exit fed shown after contact)
+      ⊎ ((why : NoWords) × Tells (Unread why) × Fails exit × DoesNothing shown after contact)
+
+module _ {P R W : Type 0} (remaining : R → Option (List ℕ)) (contents : W → Option (List ℕ))
+    (incoming outgoing : P → List ℕ → Option (List ℕ)) (Refuses : P → List ℕ → Error → Type 0) where
+  -- The program ran in a process, which learned its words and its surroundings from the system. `Tells` is
+  -- what the system may tell it.
+  abbrev pub EndsIn : (Told → Type 0) → P → ExitCode → (fed shown after : Option (List ℕ)) → Type 0
+  EndsIn Tells place exit fed shown after =
+      (around : Surroundings) × AreTold Tells around × (contact : Contact P (Link R W))
+      × AnswersTold remaining contents incoming outgoing Refuses around place Tells exit fed shown after contact

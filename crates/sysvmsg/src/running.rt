@@ -1,9 +1,9 @@
 //! What the program does, by its words, its surroundings and its streams.
-ghost use Rattle.std.specs.Prelude.{◌≡◌, IfOk, OnErr, map, string_bytes};
+ghost use Rattle.std.specs.Prelude.{◌≡◌, map, string_bytes};
 ghost use Rattle.clap.specs.Values.{kind_of};
 ghost use Rattle.sysv_connect.specs.Ends.{Fails, Succeeds};
 ghost use Rattle.sysv_options.specs.Asked.{IsWithinLimits};
-ghost use Rattle.sysvmsg.specs.Running.{Answers, AnswersWords, DoesNothing, EndsBy, IsHelp};
+ghost use Rattle.sysvmsg.specs.Running.{Answers, AnswersWords, EndsIn, IsHelp};
 
 use crate::scripts::answer_script;
 use crate::serving::serve_at;
@@ -20,51 +20,65 @@ use sysv_clients::Command;
 use sysv_connect::{
     Contact, How, Link, Looking, Place, Screen, Telling, Visit, look_at, run_as, say,
 };
-use sysv_options::{Asked, Surroundings, credentials, no_text, read_words, telling};
+use sysv_options::{
+    Asked, NoWords, Process, Surroundings, credentials, no_text, read_words, surroundings, telling,
+};
 
 /// The exit status if the command line is not valid.
 const NOT_UNDERSTOOD: u8 = 2;
 
-/// Why the words of the command line cannot be read.
-#[derive(Clone, Copy, PartialEq, Eq, Debug)]
-pub(crate) enum NoWords {
-    /// Memory was refused for them.
-    NoMemory,
-    /// One is not UTF-8.
-    NoText,
+/// Runs the program in this process, with the words and the surroundings that the system tells it.
+/// It reads `input`, connects through `place` and shows on `screen`. Returns the exit status.
+pub(crate) fn exit_of<
+    Own: Process,
+    R: Files + Net + Threads + Wait + Sync + Print + Eprint + AllocGlobal + Clone + Drop,
+    I: Read + AsRawFd + Drop,
+    P: Place,
+    S: Write,
+>(process: &Own, rt: &R, input: I, place: P, screen: &mut Screen<S>) -> ExitCode
+    ensures { EndsIn P.Input.remaining P.Output.contents P.incoming P.outgoing P.refuses
+        (Own.tells process.now) place result (I.remaining input)
+        (S.contents screen.old.writer) (S.contents screen.new.writer) }
+{
+    let around = surroundings(process);
+    match process.words() {
+        Ok(words) => run(rt, words.as_slice(), &around, input, place, screen).exit,
+        Err(why) => refuse(rt, why, &around),
+    }
+}
+
+/// Tells why the words of the command line cannot be read. Returns the status of that.
+fn refuse(rt: &(impl Print + Eprint + AllocGlobal), why: NoWords, around: &Surroundings) -> ExitCode
+    ensures { Fails result }
+{
+    match why {
+        NoWords::NoMemory => say(rt, "no memory"),
+        NoWords::NoText => {
+            let asked = telling(Telling::Line, around);
+            tell(rt, &no_text(rt.alloc()), asked)
+        }
+    }
 }
 
 /// Runs the program with these words, the first of which is its name. A client connects to its
 /// server through `place`.
-pub(crate) fn run<
+fn run<
     R: Files + Net + Threads + Wait + Sync + Print + Eprint + AllocGlobal + Clone + Drop,
     I: Read + AsRawFd + Drop,
     P: Place,
     S: Write,
 >(
     rt: &R,
-    words: &Result<Vec<String>, NoWords>,
+    words: &[String],
     around: &Surroundings,
     input: I,
     place: P,
     screen: &mut Screen<S>,
 ) -> Visit<P, Link<P::Input, P::Output>>
-    ensures words { IfOk words.now (λ words. AnswersWords P.Input.remaining P.Output.contents
-        P.incoming P.outgoing P.refuses around.now place (map string_bytes words.items)
-        result.exit (I.remaining input) (S.contents screen.old.writer)
-        (S.contents screen.new.writer) result.contact) }
-    ensures none { OnErr words.now (Fails result.exit × DoesNothing P.Input.remaining
-        P.Output.contents P.incoming P.outgoing P.refuses around.now place
-        (S.contents screen.old.writer) (S.contents screen.new.writer) result.contact) }
+    ensures { AnswersWords P.Input.remaining P.Output.contents P.incoming P.outgoing P.refuses
+        around.now place (map string_bytes words.now) result.exit (I.remaining input)
+        (S.contents screen.old.writer) (S.contents screen.new.writer) result.contact }
 {
-    let words = match words {
-        Ok(words) => words.as_slice(),
-        Err(NoWords::NoMemory) => return unused(say(rt, "no memory"), place),
-        Err(NoWords::NoText) => {
-            let asked = telling(Telling::Line, around);
-            return unused(tell(rt, &no_text(rt.alloc()), asked), place);
-        }
-    };
     match read_words(rt.alloc(), words) {
         Ok(asked) => answer(rt, asked, around, input, place, screen),
         Err(error) => {
@@ -72,29 +86,6 @@ pub(crate) fn run<
             unused(tell(rt, &error, asked), place)
         }
     }
-}
-
-/// Runs the program as `run` does, and returns the exit status alone.
-pub(crate) fn exit_of<
-    R: Files + Net + Threads + Wait + Sync + Print + Eprint + AllocGlobal + Clone + Drop,
-    I: Read + AsRawFd + Drop,
-    P: Place,
-    S: Write,
->(
-    rt: &R,
-    words: &Result<Vec<String>, NoWords>,
-    around: &Surroundings,
-    input: I,
-    place: P,
-    screen: &mut Screen<S>,
-) -> ExitCode
-    ensures words { IfOk words.now (λ words. EndsBy P.Input.remaining P.Output.contents
-        P.incoming P.outgoing P.refuses around.now place (map string_bytes words.items) result
-        (I.remaining input) (S.contents screen.old.writer) (S.contents screen.new.writer)) }
-    ensures none { OnErr words.now (Fails result
-        × (S.contents screen.new.writer ≡ S.contents screen.old.writer)) }
-{
-    run(rt, words, around, input, place, screen).exit
 }
 
 /// Ends without a use of the place.

@@ -1,10 +1,10 @@
 //! The server.
-ghost use Rattle.std.specs.Prelude.{IfOk};
+ghost use Rattle.std.specs.Prelude.{◌≡◌, IfOk};
 ghost use Rattle.std.specs.Io.KnownBytes.{Appends};
 ghost use Rattle.sysv_connect.specs.Ends.{Fails, SucceedsOnlyIf};
 ghost use Rattle.sysv_options.specs.Asked.{HasLimits};
 ghost use Rattle.sysv_server.specs.Serving.{HasReason};
-ghost use Rattle.sysvmsg.specs.Ends.{EndsWithin, HasServed, HasServedAll, sums_line};
+ghost use Rattle.sysvmsg.specs.Ends.{EndsWithin, HasServed, HasServedAll, sums_line, words_of};
 
 use crate::room::room;
 use crate::socket::listen_at;
@@ -146,7 +146,7 @@ pub(crate) fn serve_at<
         Ok(ended) => end(rt, &ended, reason, screen),
         Err(fault) => {
             explain(rt, fault, &serving.terms);
-            fail(screen, "no memory")
+            fail(screen, words_of(fault))
         }
     }
 }
@@ -212,6 +212,17 @@ fn end<R: Eprint + AllocGlobal, S: Write>(
                 ExitCode::from(FAULT)
             }
         }
+    }
+}
+
+/// Returns what is printed of why a server did not serve to its end.
+fn words_of(fault: ServeFault) -> &'static str
+    ensures { result.now ≡ words_of fault }
+{
+    match fault {
+        ServeFault::NoMemory | ServeFault::Thread => "no memory",
+        ServeFault::Worn => "the buffer is worn out",
+        ServeFault::Missed => "connections were missed",
     }
 }
 

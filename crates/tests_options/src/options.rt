@@ -1,14 +1,13 @@
 //! The requests that command lines make, and the credentials that a client states.
 use crate::parts::{assert_is, assert_that};
 use clap::Error;
-use std::env;
 use std::process::Abort;
 use sysv_clients::{Form, Receipt, Target, Task};
 use sysv_connect::{How, Looking, Telling};
 use sysv_model::Cred;
 use sysv_options::{
-    Asked, Serving, SocketFile, Surroundings, Who, credentials, no_text, own, read_words, telling,
-    wants_me, wants_stderr,
+    Asked, NoWords, Process, Serving, SocketFile, Surroundings, Who, credentials, no_text,
+    read_words, surroundings, telling,
 };
 use sysv_server::{MAX_CLIENTS, Patience, Terms};
 
@@ -334,17 +333,65 @@ fn faults_are_told_as_the_words_and_the_environment_want(rt: HostRuntime) {
     }
 }
 
-/// Returns whether an environment variable has the value 1.
-fn is_one(rt: &(impl env::Env + AllocGlobal), name: &str) -> bool {
-    match env::var(rt, name) {
-        Ok(value) => value.as_str() == "1",
-        Err(_) => false,
+/// A process whose environment has the value 1 for one variable.
+#[derive(Clone, Copy)]
+struct Known {
+    variable: &'static str,
+}
+
+impl Process for Known {
+    ghost use Rattle.std.specs.Prelude.{⊤};
+
+    ghost tells = { λ _ _. ⊤ };
+
+    fn words(&self) -> Result<Vec<String>, NoWords> {
+        Err(NoWords::NoText)
+    }
+
+    fn has_one(&self, name: &str) -> bool {
+        name == self.variable
+    }
+
+    fn user(&self) -> u32 {
+        11
+    }
+
+    fn group(&self) -> u32 {
+        12
+    }
+
+    fn number(&self) -> u32 {
+        13
+    }
+
+    fn is_terminal(&self) -> bool {
+        true
+    }
+
+    fn open_files(&self) -> Option<u64> {
+        Some(14)
     }
 }
 
 #[test]
-fn the_environment_and_the_process_are_read(rt: HostRuntime) {
-    assert_is(&rt, wants_me(&rt), is_one(&rt, "SYSVMSG_ME"));
-    assert_is(&rt, wants_stderr(&rt), is_one(&rt, "SYSVMSG_STDERR"));
-    assert_that(&rt, own().pid > 0);
+fn surroundings_are_those_that_the_process_is_told(rt: HostRuntime) {
+    let own = Cred {
+        uid: 11,
+        gid: 12,
+        pid: 13,
+    };
+    for (variable, wants_me, wants_stderr) in [
+        ("SYSVMSG_ME", true, false),
+        ("SYSVMSG_STDERR", false, true),
+        ("SYSVMSG", false, false),
+    ] {
+        let wanted = Surroundings {
+            wants_me,
+            wants_stderr,
+            is_terminal: true,
+            own,
+            open_files: Some(14),
+        };
+        assert_is(&rt, surroundings(&Known { variable }), wanted);
+    }
 }

@@ -1,0 +1,59 @@
+//! The process that the program runs in. Each method makes one call of the system, of which no
+//! contract says what it returns.
+use crate::room::open_files;
+use std::env::Env;
+use std::io::IsTerminal;
+use std::{env, io};
+use sysv_options::{NoWords, Process};
+
+/// The process that the program runs in.
+#[derive(Clone, Copy)]
+pub(crate) struct System<'a> {
+    /// The runtime, which knows its words, its environment and its streams.
+    pub(crate) rt: &'a HostRuntime,
+}
+
+impl Process for System<'_> {
+    ghost use Rattle.std.specs.Prelude.{⊤};
+
+    ghost tells = { λ _ _. ⊤ };
+
+    fn words(&self) -> Result<Vec<String>, NoWords> {
+        let words = match env::args(self.rt) {
+            Ok(words) => words,
+            Err(why) if why.kind() == io::ErrorKind::OutOfMemory => return Err(NoWords::NoMemory),
+            Err(_) => return Err(NoWords::NoText),
+        };
+        match words.collect::<Vec<String>>(self.rt.alloc()) {
+            Ok(words) => Ok(words),
+            Err(_) => Err(NoWords::NoMemory),
+        }
+    }
+
+    fn has_one(&self, name: &str) -> bool {
+        match env::var(self.rt, name) {
+            Ok(value) => value.as_str() == "1",
+            Err(_) => false,
+        }
+    }
+
+    fn user(&self) -> u32 {
+        libc::geteuid()
+    }
+
+    fn group(&self) -> u32 {
+        libc::getegid()
+    }
+
+    fn number(&self) -> u32 {
+        libc::getpid().unsigned_abs()
+    }
+
+    fn is_terminal(&self) -> bool {
+        self.rt.stdout().is_terminal()
+    }
+
+    fn open_files(&self) -> Option<u64> {
+        open_files()
+    }
+}
