@@ -1,5 +1,8 @@
 //! What a worker counts for those who look at the server.
+ghost use Rattle.std.specs.Prelude.{◌≡◌, IfSome};
+ghost use Rattle.sysv_engine.specs.Counting.{HasKinds, IsCounted, MovesOn, moved_first, word_by};
 
+use crate::counter::{Added, Counter, Kind};
 use std::alloc::Global;
 use std::sync::atomic::{AtomicU64, Ordering};
 use sysv_keys::SLOTS;
@@ -15,11 +18,11 @@ pub(crate) struct Counts {
     parked: Vec<AtomicU64>,
     /// The number of messages placed at each slot, and then the number of those taken there.
     moved: Vec<AtomicU64>,
-    /// The numbers of messages that sessions which are over took, and of those written and lost.
-    written: AtomicU64,
-    lost: AtomicU64,
+    /// The number of messages that sessions which are over wrote, and of those that they lost.
+    written: Counter,
+    lost: Counter,
     /// The number of blocks that calls of the worker reserved and did not release, modulo 2^64.
-    in_use: AtomicU64,
+    in_use: Counter,
 }
 
 /// What the workers have counted at a slot.
@@ -71,19 +74,23 @@ impl Moved {
     /// Adds the message of this notification, if it is of one. Returns whether it moved as the
     /// others did; else it is not added.
     #[inline(always)]
-    pub(crate) fn add(&mut self, notification: Notification) -> bool {
+    pub(crate) fn add(&mut self, notification: Notification) -> bool
+        ensures { MovesOn (word_by notification) self.old result self.new }
+    {
         let Some(word) = word_of(notification) else {
             return true;
         };
         if word != self.word {
             return false;
         }
-        self.count = self.count.wrapping_add(1);
+        self.count = self.count.saturating_add(1);
         true
     }
 
     /// Returns the message of this notification alone, if it is of one.
-    pub(crate) fn first(notification: Notification) -> Moved {
+    pub(crate) fn first(notification: Notification) -> Moved
+        ensures { result ≡ moved_first (word_by notification) }
+    {
         match word_of(notification) {
             Some(word) => Moved { word, count: 1 },
             None => Moved::NONE,
@@ -94,7 +101,9 @@ impl Moved {
 /// Returns the word of the receives that a message which was placed may end, or of the sends that
 /// one which was taken may end.
 #[inline(always)]
-fn word_of(notification: Notification) -> Option<usize> {
+fn word_of(notification: Notification) -> Option<usize>
+    ensures { result ≡ word_by notification }
+{
     match notification {
         Notification::Arrived { slot, .. } => Some(slot),
         Notification::Freed { slot, .. } => Some(room_word(slot)),
@@ -104,13 +113,15 @@ fn word_of(notification: Notification) -> Option<usize> {
 
 impl Counts {
     /// Allocates the counts of a worker. Returns `None` if memory is refused.
-    pub(crate) fn open(alloc: Global) -> Option<Counts> {
+    pub(crate) fn open(alloc: Global) -> Option<Counts>
+        ensures { IfSome result HasKinds }
+    {
         Some(Counts {
             parked: zeros(alloc, WORDS)?,
             moved: zeros(alloc, BLOCKS_WORD)?,
-            written: AtomicU64::new(0),
-            lost: AtomicU64::new(0),
-            in_use: AtomicU64::new(0),
+            written: Counter::new(Kind::Written),
+            lost: Counter::new(Kind::Lost),
+            in_use: Counter::new(Kind::InUse),
         })
     }
 
@@ -122,10 +133,10 @@ impl Counts {
     }
 
     /// Counts blocks that calls of the worker reserved, less those that they released.
-    pub(crate) fn count_blocks(&self, more: u64) {
-        if more != 0 {
-            self.in_use.fetch_add(more, Ordering::SeqCst);
-        }
+    pub(crate) fn count_blocks(&self, more: u64) -> Added
+        ensures { IsCounted self.now.in_use more result }
+    {
+        self.in_use.add(more)
     }
 
     /// Counts messages that moved.
@@ -138,13 +149,15 @@ impl Counts {
         }
     }
 
-    /// Counts the messages of a session that is over.
-    pub(crate) fn end(&self, tally: &Tally) {
-        if tally.taken() == 0 {
-            return;
-        }
-        self.written.fetch_add(tally.written(), Ordering::SeqCst);
-        self.lost.fetch_add(tally.lost(), Ordering::SeqCst);
+    /// Counts the messages of a session that is over: those that it wrote, and those that it lost.
+    pub(crate) fn end(&self, tally: &Tally) -> (Added, Added)
+        ensures written { IsCounted self.now.written tally.now.written result.0 }
+        ensures lost { IsCounted self.now.lost tally.now.lost result.1 }
+    {
+        (
+            self.written.add(tally.written()),
+            self.lost.add(tally.lost()),
+        )
     }
 
     /// Adds what was counted at a slot.
@@ -162,11 +175,9 @@ impl Counts {
             self.add_slot(slot, &mut sum.slots);
         }
         sum.for_blocks = sum.for_blocks.wrapping_add(read(&self.parked, BLOCKS_WORD));
-        sum.written = sum
-            .written
-            .wrapping_add(self.written.load(Ordering::SeqCst));
-        sum.lost = sum.lost.wrapping_add(self.lost.load(Ordering::SeqCst));
-        sum.in_use = sum.in_use.wrapping_add(self.in_use.load(Ordering::SeqCst));
+        sum.written = sum.written.wrapping_add(self.written.read());
+        sum.lost = sum.lost.wrapping_add(self.lost.read());
+        sum.in_use = sum.in_use.wrapping_add(self.in_use.read());
     }
 }
 
