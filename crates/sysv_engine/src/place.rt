@@ -276,6 +276,14 @@ impl<'a, R: Wait, T: NonBlocking> Place<'a, R, T> {
         }
     }
 
+    /// Returns whether there is a client that is idle.
+    pub(crate) fn is_idle(&self) -> bool {
+        match &self.client {
+            Some(client) => is_idle(client),
+            None => false,
+        }
+    }
+
     /// Returns whether the client has more to do, but the place is not in the line of those that
     /// have.
     pub(crate) fn wants_turn(&self) -> bool {
@@ -317,6 +325,15 @@ impl<'a, R: Wait, T: NonBlocking> Place<'a, R, T> {
     pub(crate) fn due(&self) -> Option<Moment> {
         self.times.due()
     }
+}
+
+/// Returns whether a client has no request under way: no call is parked, nothing was read that has
+/// no reply, and its connection has taken all replies.
+fn is_idle<T: NonBlocking>(client: &Client<T>) -> bool {
+    client.waiting().is_none()
+        && !client.is_within_request()
+        && !client.has_unsent()
+        && !client.has_more()
 }
 
 /// Has a client learn what a watch reports of its connection.

@@ -98,11 +98,13 @@ impl<'a, 'c, R: Wait> Serving<'a, 'c, R> {
         worker.is_empty() && self.server.is_finished()
     }
 
-    /// Waits for events, and serves each client that has some.
+    /// Waits for events, and serves each client that has some. Closes idle clients first, if they are
+    /// to be closed.
     fn round<T: NonBlocking, W: Watch<T>>(&self, worker: &mut Worker<'a, R, T, W>)
         ensures { KeepsAll T.incoming T.outgoing T.closes worker.old.places.items
             worker.new.places.items }
     {
+        self.close_idle(worker);
         let has_come = self.rest(worker);
         self.note_ready(worker);
         worker.begin_looks();
@@ -447,6 +449,38 @@ impl<'a, 'c, R: Wait> Serving<'a, 'c, R> {
         }
     }
 
+    /// Closes each client that is idle, if these are to be closed.
+    fn close_idle<T: NonBlocking, W: Watch<T>>(&self, worker: &mut Worker<'a, R, T, W>)
+        ensures { KeepsAll T.incoming T.outgoing T.closes worker.old.places.items
+            worker.new.places.items }
+    {
+        if !self.server.closes_idle() {
+            return;
+        }
+        for place in 0..worker.places.len() {
+            self.close_if_idle(worker, place);
+        }
+    }
+
+    /// Closes a client that is idle, unless something has come for it that was not read yet.
+    fn close_if_idle<T: NonBlocking, W: Watch<T>>(
+        &self,
+        worker: &mut Worker<'a, R, T, W>,
+        place: usize,
+    )
+        ensures { KeepsAll T.incoming T.outgoing T.closes worker.old.places.items
+            worker.new.places.items }
+    {
+        if !worker.is_idle(place) {
+            return;
+        }
+        self.report(worker, &Ready::unasked(place));
+        if worker.is_idle(place) {
+            worker.cut(place, Limit::Drain);
+            self.settle(worker, place);
+        }
+    }
+
     /// Closes all clients, since the time for an orderly end is over.
     fn cut_all<T: NonBlocking, W: Watch<T>>(&self, worker: &mut Worker<'a, R, T, W>)
         ensures { KeepsAll T.incoming T.outgoing T.closes worker.old.places.items
@@ -454,9 +488,21 @@ impl<'a, 'c, R: Wait> Serving<'a, 'c, R> {
     {
         for place in 0..worker.places.len() {
             if worker.is_taken(place) {
-                worker.cut(place, Limit::Drain);
-                self.settle(worker, place);
+                self.cut_one(worker, place);
             }
+        }
+    }
+
+    /// Closes a client, since the time for an orderly end is over, and counts its parked call.
+    fn cut_one<T: NonBlocking, W: Watch<T>>(&self, worker: &mut Worker<'a, R, T, W>, place: usize)
+        ensures { KeepsAll T.incoming T.outgoing T.closes worker.old.places.items
+            worker.new.places.items }
+    {
+        let waits = worker.key(place).is_some();
+        worker.cut(place, Limit::Drain);
+        self.settle(worker, place);
+        if waits && !worker.is_taken(place) {
+            self.server.count_cut_call();
         }
     }
 }

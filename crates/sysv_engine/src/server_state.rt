@@ -58,8 +58,12 @@ pub struct ServerState {
     /// taken.
     dealt: AtomicU64,
     taken: AtomicU64,
+    /// Whether clients that are idle are to be closed.
+    closes_idle: AtomicBool,
     /// Whether all clients are to be closed.
     is_cut: AtomicBool,
+    /// The number of parked calls of clients that were closed for that.
+    cut_calls: AtomicU64,
     /// The number of sessions that are over.
     over: AtomicU64,
     /// Whether the memory of a session was refused.
@@ -100,7 +104,9 @@ impl ServerState {
             finished: AtomicBool::new(false),
             dealt: AtomicU64::new(0),
             taken: AtomicU64::new(0),
+            closes_idle: AtomicBool::new(false),
             is_cut: AtomicBool::new(false),
+            cut_calls: AtomicU64::new(0),
             over: AtomicU64::new(0),
             starved: AtomicBool::new(false),
             is_awaited: AtomicBool::new(false),
@@ -328,9 +334,24 @@ impl ServerState {
             && self.taken.load(Ordering::SeqCst) >= self.dealt.load(Ordering::SeqCst)
     }
 
+    /// Returns whether clients that are idle are to be closed.
+    pub(crate) fn closes_idle(&self) -> bool {
+        self.closes_idle.load(Ordering::SeqCst)
+    }
+
     /// Returns whether all clients are to be closed.
     pub(crate) fn is_cut(&self) -> bool {
         self.is_cut.load(Ordering::SeqCst)
+    }
+
+    /// Counts a call of a client that was closed while it was parked, since all are to be closed.
+    pub(crate) fn count_cut_call(&self) {
+        self.cut_calls.fetch_add(1, Ordering::SeqCst);
+    }
+
+    /// Returns the number of calls that waited when `drain` cut their sessions off.
+    pub fn cut_calls(&self) -> u64 {
+        self.cut_calls.load(Ordering::SeqCst)
     }
 
     /// Counts a session of a worker that is over.
@@ -388,12 +409,17 @@ impl ServerState {
     }
 
     /// Waits for the sessions, of which this many were accepted, and cuts those off that are still
-    /// there when the time for an orderly end is over. Returns whether it cut any off.
-    pub fn drain(&self, accepted: u64) -> bool {
+    /// there when the time for an orderly end is over. If it `closes_idle`, it first closes those
+    /// without a request. Returns whether it cut any off when the time was over.
+    pub fn drain(&self, accepted: u64, closes_idle: bool) -> bool {
         let Some(deadline) = Moment::after(self.drain) else {
             return false;
         };
         self.await_turn(true);
+        if closes_idle {
+            self.closes_idle.store(true, Ordering::SeqCst);
+            self.ring_all();
+        }
         for _ in 0..u64::MAX {
             self.hush();
             if self.is_empty(accepted) {

@@ -298,6 +298,14 @@ impl<'a, R: Wait, T: NonBlocking, W: Watch<T>> Worker<'a, R, T, W> {
         }
     }
 
+    /// Returns whether there is a client at the place that is idle.
+    pub(crate) fn is_idle(&self, place: usize) -> bool {
+        match self.places.get(place) {
+            Some(there) => there.is_idle(),
+            None => false,
+        }
+    }
+
     /// Returns what the parked call of the client waits for, if there is one.
     pub(crate) fn key(&self, place: usize) -> Option<Key> {
         self.places.get(place)?.key()

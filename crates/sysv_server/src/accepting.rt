@@ -220,10 +220,11 @@ impl<L: Listens, I: Input + Drop, H: Host> Arrivals<SocketStream> for Accepting<
                 Some(socket)
             }
             Err(why) => {
+                let closes_idle = why.is_input_over();
                 self.reason = Some(why);
                 self.listener.close();
                 self.desk = Desk::closed();
-                if self.server.drain(self.accepted) {
+                if self.server.drain(self.accepted, closes_idle) {
                     self.host.note(Notice::Cut);
                 }
                 None

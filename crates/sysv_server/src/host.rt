@@ -30,6 +30,9 @@ pub enum Notice {
     NoMemory,
     /// The time for an orderly end is over, and the sessions that are left are cut off.
     Cut,
+    /// The sessions are over, and this number of calls waited when their sessions were cut off. It
+    /// is told at the end, if there were any.
+    CallsCut(u64),
 }
 
 /// Why a server accepted no more connections.
@@ -43,6 +46,16 @@ pub enum Reason {
     NoSocket(io::Error),
     /// An accept failed.
     Accept(io::Error),
+}
+
+impl Reason {
+    /// Returns whether the input has ended or could not be read.
+    pub(crate) fn is_input_over(&self) -> bool {
+        match self {
+            Reason::InputOver => true,
+            Reason::Full | Reason::NoSocket(_) | Reason::Accept(_) => false,
+        }
+    }
 }
 
 /// The host of a server that has its listener. It drops what it is told.

@@ -104,6 +104,9 @@ impl<R: Files + Net + Eprint + AllocGlobal + Clone + Drop> Host for Reporter<'_,
             Notice::Cut => {
                 let _ = eprintln!(*rt; "sysvmsg: the sessions that are left are cut off");
             }
+            Notice::CallsCut(calls) => {
+                let _ = eprintln!(*rt; "sysvmsg: calls that waited and were cut off: {calls}");
+            }
         }
     }
 }
