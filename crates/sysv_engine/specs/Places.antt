@@ -81,6 +81,11 @@ pub record Seated (B T : Type 0) : Type 0 where
 abbrev pub view_of : {B T : Type 0} → Seated B T → View B
 view_of place = record { pass = place.pass; sums = place.sums; refused = place.refused; book = place.book }
 
+-- The client is idle: no call is parked, nothing that was read is still to be taken up, and its
+-- connection has taken all replies.
+abbrev pub IsIdle : {T : Type 0} → Sitting T → Type 0
+IsIdle client = (client.parked ≡ None) × (length client.input ≡ 0) × (length client.dialogue.unsent.bytes ≡ 0)
+
 -- The place, taken by this client.
 abbrev pub taken_by : {B T : Type 0} → Sitting T → Seated B T → Seated B T
 taken_by client place = record {

@@ -134,6 +134,7 @@ where
             sums,
             refused,
             removed,
+            cut: server.cut_calls(),
             closed,
         }),
         Err(why) => Err(why),

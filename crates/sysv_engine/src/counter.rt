@@ -12,6 +12,8 @@ pub(crate) enum Kind {
     Lost,
     /// Blocks in use.
     InUse,
+    /// Calls that waited when an orderly end cut their sessions off.
+    CutOff,
 }
 
 /// A number, modulo 2^64, which begins at 0.

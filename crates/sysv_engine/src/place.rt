@@ -1,10 +1,10 @@
 //! The places of a server: each serves one client after another.
-ghost use Rattle.std.specs.Prelude.{◌≡◌, ◌+◌, None, Some, IfSome, is_some, true};
+ghost use Rattle.std.specs.Prelude.{◌≡◌, ◌+◌, None, Some, IfSome, IsSomeAnd, is_some, true};
 ghost use Rattle.sysv_service.specs.Seats.{AreOf};
 ghost use Rattle.sysv_seats.specs.Sits.{Keeps, is_finished};
 ghost use Rattle.sysv_engine.specs.Added.{added, capped, nothing, one_session};
 ghost use Rattle.sysv_engine.specs.Handled.{one_refused};
-ghost use Rattle.sysv_engine.specs.Places.{KeepsPlace, TakesIn, taken_by};
+ghost use Rattle.sysv_engine.specs.Places.{IsIdle, KeepsPlace, TakesIn, taken_by};
 
 use crate::awaited::key_of;
 use crate::moment::Moment;
@@ -276,8 +276,20 @@ impl<'a, R: Wait, T: NonBlocking> Place<'a, R, T> {
         }
     }
 
+    /// Ends the client if it is idle and there is a limit for an orderly end.
+    pub(crate) fn cut_idle(&mut self)
+        ensures keeps { KeepsPlace T.incoming T.outgoing T.closes self.old self.new }
+        ensures stays { (IsSomeAnd self.old.client IsIdle → ⊥) → self.new ≡ self.old }
+    {
+        if self.is_idle() {
+            self.cut(Limit::Drain);
+        }
+    }
+
     /// Returns whether there is a client that is idle.
-    pub(crate) fn is_idle(&self) -> bool {
+    pub(crate) fn is_idle(&self) -> bool
+        ensures { result ≡ true → IsSomeAnd self.now.client IsIdle }
+    {
         match &self.client {
             Some(client) => is_idle(client),
             None => false,
@@ -327,10 +339,12 @@ impl<'a, R: Wait, T: NonBlocking> Place<'a, R, T> {
     }
 }
 
-/// Returns whether a client has no request under way: no call is parked, nothing was read that has
-/// no reply, and its connection has taken all replies.
-fn is_idle<T: NonBlocking>(client: &Client<T>) -> bool {
-    client.waiting().is_none()
+/// Returns whether a client is idle: no call is parked, nothing was read that has no reply, its
+/// connection has taken all replies, and nothing is known to be there to be read.
+fn is_idle<T: NonBlocking>(client: &Client<T>) -> bool
+    ensures { result ≡ true → IsIdle client.now }
+{
+    client.parked().is_none()
         && !client.is_within_request()
         && !client.has_unsent()
         && !client.has_more()

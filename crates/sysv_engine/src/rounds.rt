@@ -475,10 +475,8 @@ impl<'a, 'c, R: Wait> Serving<'a, 'c, R> {
             return;
         }
         self.report(worker, &Ready::unasked(place));
-        if worker.is_idle(place) {
-            worker.cut(place, Limit::Drain);
-            self.settle(worker, place);
-        }
+        worker.cut_idle(place);
+        self.settle(worker, place);
     }
 
     /// Closes all clients, since the time for an orderly end is over.
@@ -493,7 +491,8 @@ impl<'a, 'c, R: Wait> Serving<'a, 'c, R> {
         }
     }
 
-    /// Closes a client, since the time for an orderly end is over, and counts its parked call.
+    /// Closes a client, since the time for an orderly end is over, and counts its call if one is
+    /// parked.
     fn cut_one<T: NonBlocking, W: Watch<T>>(&self, worker: &mut Worker<'a, R, T, W>, place: usize)
         ensures { KeepsAll T.incoming T.outgoing T.closes worker.old.places.items
             worker.new.places.items }

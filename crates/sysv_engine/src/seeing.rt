@@ -67,6 +67,7 @@ where
             sums,
             refused,
             removed,
+            cut: server.cut_calls(),
             closed,
         }),
         Err(why) => Err(why),

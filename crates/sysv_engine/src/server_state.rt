@@ -2,9 +2,11 @@
 //! connections.
 ghost use Rattle.std.specs.Prelude.{◌≡◌, ◌≤◌, IfSome, vec_len};
 ghost use Rattle.sysv_keys.specs.declared.identifier.TheConstants.{SLOTS as slot_count};
-ghost use Rattle.sysv_engine.specs.Counting.{IsNothing};
+ghost use Rattle.sysv_engine.specs.Counting.{IsCounted, IsNothing};
+ghost use Rattle.sysv_engine.specs.declared.counter.Kind.TheVariants.{CutOff};
 
 use crate::alarm::{Alarm, Rest};
+use crate::counter::{Added, Counter, Kind};
 use crate::counts::{Counted, Counts, Moved, SlotCounts, zeros};
 use crate::doorbell::Doorbell;
 use crate::moment::{Moment, NO_DESCRIPTOR, await_doorbell};
@@ -63,7 +65,7 @@ pub struct ServerState {
     /// Whether all clients are to be closed.
     is_cut: AtomicBool,
     /// The number of parked calls of clients that were closed for that.
-    cut_calls: AtomicU64,
+    cut_calls: Counter,
     /// The number of sessions that are over.
     over: AtomicU64,
     /// Whether the memory of a session was refused.
@@ -91,6 +93,7 @@ impl ServerState {
         ensures workers { IfSome result (λ both. vec_len both.0.posts ≡ workers) }
         ensures rests { IfSome result (λ both. vec_len both.1 ≡ workers) }
         ensures at_once { IfSome result (λ both. both.0.at_once ≡ at_once) }
+        ensures cut { IfSome result (λ both. both.0.cut_calls.kind ≡ CutOff) }
     {
         let turn = Doorbell::open()?;
         let (posts, rests) = open_posts(alloc, workers)?;
@@ -106,7 +109,7 @@ impl ServerState {
             taken: AtomicU64::new(0),
             closes_idle: AtomicBool::new(false),
             is_cut: AtomicBool::new(false),
-            cut_calls: AtomicU64::new(0),
+            cut_calls: Counter::new(Kind::CutOff),
             over: AtomicU64::new(0),
             starved: AtomicBool::new(false),
             is_awaited: AtomicBool::new(false),
@@ -344,14 +347,17 @@ impl ServerState {
         self.is_cut.load(Ordering::SeqCst)
     }
 
-    /// Counts a call of a client that was closed while it was parked, since all are to be closed.
-    pub(crate) fn count_cut_call(&self) {
-        self.cut_calls.fetch_add(1, Ordering::SeqCst);
+    /// Counts a call that was parked when its client was closed, since all clients are to be closed.
+    pub(crate) fn count_cut_call(&self) -> Added
+        ensures { IsCounted self.now.cut_calls 1 result }
+    {
+        self.cut_calls.add(1)
     }
 
-    /// Returns the number of calls that waited when `drain` cut their sessions off.
-    pub fn cut_calls(&self) -> u64 {
-        self.cut_calls.load(Ordering::SeqCst)
+    /// Returns the number of calls that were parked when their clients were closed, since all
+    /// clients were to be closed.
+    pub(crate) fn cut_calls(&self) -> u64 {
+        self.cut_calls.read()
     }
 
     /// Counts a session of a worker that is over.
@@ -409,8 +415,8 @@ impl ServerState {
     }
 
     /// Waits for the sessions, of which this many were accepted, and cuts those off that are still
-    /// there when the time for an orderly end is over. If it `closes_idle`, it first closes those
-    /// without a request. Returns whether it cut any off when the time was over.
+    /// there when the time for an orderly end is over. If it `closes_idle`, the workers close idle
+    /// clients until then. Returns whether it cut any off. It does nothing if there is no such time.
     pub fn drain(&self, accepted: u64, closes_idle: bool) -> bool {
         let Some(deadline) = Moment::after(self.drain) else {
             return false;

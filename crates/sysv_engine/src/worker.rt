@@ -384,6 +384,18 @@ impl<'a, R: Wait, T: NonBlocking, W: Watch<T>> Worker<'a, R, T, W> {
         }
     }
 
+    /// Ends the client if it is idle and there is a limit for an orderly end.
+    #[tactic(auto, using(crate::proofs::PlaceLists::keeps_at))]
+    pub(crate) fn cut_idle(&mut self, place: usize)
+        ensures keeps { KeepsAll T.incoming T.outgoing T.closes self.old.places.items
+            self.new.places.items }
+        ensures agenda { self.new.agenda ≡ self.old.agenda }
+    {
+        if let Some(there) = self.places.get_mut(place) {
+            there.cut_idle();
+        }
+    }
+
     /// Ends the client because its time is over, if it may be cut off under that limit.
     #[tactic(auto, using(crate::proofs::PlaceLists::keeps_at))]
     pub(crate) fn cut_late(&mut self, place: usize)

@@ -1,4 +1,6 @@
 //! The program that a server runs in.
+ghost use Rattle.std.specs.Prelude.{◌≡◌, ◌≢◌, true, false};
+
 use std::io;
 use std::os::unix::net::UnixListener;
 
@@ -30,9 +32,6 @@ pub enum Notice {
     NoMemory,
     /// The time for an orderly end is over, and the sessions that are left are cut off.
     Cut,
-    /// The sessions are over, and this number of calls waited when their sessions were cut off. It
-    /// is told at the end, if there were any.
-    CallsCut(u64),
 }
 
 /// Why a server accepted no more connections.
@@ -50,7 +49,10 @@ pub enum Reason {
 
 impl Reason {
     /// Returns whether the input has ended or could not be read.
-    pub(crate) fn is_input_over(&self) -> bool {
+    pub(crate) fn is_input_over(&self) -> bool
+        ensures over { result ≡ true → self.now ≡ Reason.InputOver }
+        ensures other { result ≡ false → self.now ≢ Reason.InputOver }
+    {
         match self {
             Reason::InputOver => true,
             Reason::Full | Reason::NoSocket(_) | Reason::Accept(_) => false,

@@ -8,7 +8,7 @@ ghost use Rattle.sysv_seats.specs.Limits.{limits_for};
 ghost use Rattle.sysv_server.specs.declared.serving.TheConstants.{MAX_CLIENTS};
 
 use crate::accepting::Accepting;
-use crate::host::{Host, Notice, Quiet, Reason};
+use crate::host::{Host, Quiet, Reason};
 use crate::listening::{Hosted, Input, Lent, Listens, Reading, input_of};
 use crate::terms::Terms;
 use std::alloc::Global;
@@ -236,19 +236,10 @@ fn run<L: Listens, I: Input + Drop, H: Host, R: Threads + Wait + Net + Sync>(
         &server,
         stats,
     );
-    tell_cut_calls(&server, host);
     let (left, why) = source.into_parts();
     given_back(left);
     *reason = why;
     outcome
-}
-
-/// Tells the host how many calls waited when their sessions were cut off, if there were any.
-fn tell_cut_calls(server: &ServerState, host: &impl Host) {
-    let calls = server.cut_calls();
-    if calls > 0 {
-        host.note(Notice::CallsCut(calls));
-    }
 }
 
 /// Uses the reference once more. This use ties it to the parameter that lent it.

@@ -1,5 +1,5 @@
 -- How a server ends (this project's programs).
-use Rattle.std.specs.Prelude.{◌≡◌, ⊤, ℕ, Bool, List, [], ◌∷◌, ◌++◌, codes, Option, None, Some}
+use Rattle.std.specs.Prelude.{◌≡◌, ⊤, ℕ, Bool, true, false, List, [], ◌∷◌, ◌++◌, codes, Option, None, Some}
 use Rattle.std.specs.Fmt.{decimal}
 use Rattle.std.specs.Io.KnownBytes.{Appends}
 use Rattle.sysv_server.specs.Serving.{EndsOn, HasReason, limits_in}
@@ -12,11 +12,17 @@ use Rattle.sysv_engine.specs.declared.sums.Sums.{Sums}
 use Rattle.sysv_server.specs.declared.terms.Terms.{Terms}
 use Rattle.sysvmsg.specs.Room.{places_within}
 
--- The line with the sums of a server.
-abbrev pub sums_line : Sums → List ℕ
-sums_line sums =
+-- The line with the sums of a server. That of a server that may have an input also has the number of
+-- calls that its end cut off.
+abbrev pub sums_of : Sums → List ℕ
+sums_of sums =
     codes "sessions " ++ decimal sums.sessions ++ codes " taken " ++ decimal sums.taken ++ codes " written "
-    ++ decimal sums.written ++ codes " lost " ++ decimal sums.lost ++ 10 ∷ []
+    ++ decimal sums.written ++ codes " lost " ++ decimal sums.lost
+
+abbrev pub sums_line : (has_input : Bool) → Ended → List ℕ
+sums_line false ended = sums_of ended.sums ++ 10 ∷ []
+sums_line true ended =
+    sums_of ended.sums ++ codes " cut " ++ decimal ended.cut ++ 10 ∷ []
 
 -- What is printed of a server that did not serve to its end. A thread that cannot be started lacks memory
 -- or is one too many.
@@ -37,9 +43,9 @@ IsMeantToEnd None = ⊤
 -- A server that accepted no more connections for this reason was to accept no more, memory was
 -- refused for none of its sessions, and the line with its sums was printed whole, and nothing else
 -- was.
-abbrev pub HasServed : Ended → Option Reason → (shown after : Option (List ℕ)) → Type 0
-HasServed ended reason shown after =
-    IsMeantToEnd reason × (ended.refused ≡ 0) × Appends shown after (sums_line ended.sums)
+abbrev pub HasServed : (has_input : Bool) → Ended → Option Reason → (shown after : Option (List ℕ)) → Type 0
+HasServed has_input ended reason shown after =
+    IsMeantToEnd reason × (ended.refused ≡ 0) × Appends shown after (sums_line has_input ended)
 
 -- A server on these terms ended so, under this limit of open files. It had as many places as the terms
 -- have sessions at once, or as many as there are descriptors for. It cut off clients only under the
@@ -58,4 +64,4 @@ pub record HasServedAll (limit : Option ℕ) (has_input : Bool) (terms : Terms) 
   pub reason : Option Reason
   pub ends : EndsWithin limit terms ended
   pub meant : HasReason has_input terms.sessions ended.sums.sessions reason
-  pub served : HasServed ended reason shown after
+  pub served : HasServed has_input ended reason shown after

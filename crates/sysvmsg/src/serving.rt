@@ -104,9 +104,6 @@ impl<R: Files + Net + Eprint + AllocGlobal + Clone + Drop> Host for Reporter<'_,
             Notice::Cut => {
                 let _ = eprintln!(*rt; "sysvmsg: the sessions that are left are cut off");
             }
-            Notice::CallsCut(calls) => {
-                let _ = eprintln!(*rt; "sysvmsg: calls that waited and were cut off: {calls}");
-            }
         }
     }
 }
@@ -146,7 +143,7 @@ pub(crate) fn serve_at<
 {
     let mut reason = None;
     match run_server(rt, input, serving, limit, &mut reason) {
-        Ok(ended) => end(rt, &ended, reason, screen),
+        Ok(ended) => end(rt, &ended, serving.until_eof, reason, screen),
         Err(fault) => {
             explain(rt, fault, &serving.terms);
             fail(screen, words_of(fault))
@@ -182,19 +179,19 @@ fn run_server<
     serve_listener(rt, rt.alloc(), host, input, terms, reason)
 }
 
-/// Prints how a server ended that accepted no more connections for this reason. If an accept
-/// failed, that is reported on standard error. The server fails also if memory was refused for a
-/// session.
+/// Prints how a server ended, which may have had an input, and which accepted no more connections
+/// for this reason. If an accept failed, that is reported on standard error. The server fails also
+/// if memory was refused for a session.
 fn end<R: Eprint + AllocGlobal, S: Write>(
     rt: &R,
     ended: &Ended,
+    has_input: bool,
     reason: Option<Reason>,
     screen: &mut S,
 ) -> ExitCode
-    ensures { SucceedsOnlyIf (HasServed ended.now reason (S.contents screen.old)
+    ensures { SucceedsOnlyIf (HasServed has_input ended.now reason (S.contents screen.old)
         (S.contents screen.new)) result }
 {
-    let sums = &ended.sums;
     match reason {
         Some(Reason::NoSocket(why)) if why.kind() == ErrorKind::OutOfMemory => {
             fail(screen, "no memory")
@@ -204,11 +201,11 @@ fn end<R: Eprint + AllocGlobal, S: Write>(
             if takes_line() {
                 complain(rt, "cannot accept", &why, "");
             }
-            tell(screen, sums);
+            tell(screen, ended, has_input);
             ExitCode::from(FAULT)
         }
         Some(Reason::Full | Reason::InputOver) | None => {
-            let told = tell(screen, sums);
+            let told = tell(screen, ended, has_input);
             if ended.refused == 0 {
                 told
             } else {
@@ -256,21 +253,31 @@ fn fail<S: Write>(screen: &mut S, fault: &str) -> ExitCode
     ExitCode::from(FAULT)
 }
 
-/// Prints the sums.
-fn tell<S: Write>(screen: &mut S, sums: &Sums) -> ExitCode
+/// Prints the sums, and for a server that may have had an input the number of calls that its end
+/// cut off.
+fn tell<S: Write>(screen: &mut S, ended: &Ended, has_input: bool) -> ExitCode
     ensures { SucceedsOnlyIf (Appends (S.contents screen.old) (S.contents screen.new)
-        (sums_line sums.now)) result }
+        (sums_line has_input ended.now)) result }
 {
     let Sums {
         sessions,
         taken,
         written,
         lost,
-    } = *sums;
-    match writeln!(
-        screen,
-        "sessions {sessions} taken {taken} written {written} lost {lost}"
-    ) {
+    } = ended.sums;
+    let cut = ended.cut;
+    let told = if has_input {
+        writeln!(
+            screen,
+            "sessions {sessions} taken {taken} written {written} lost {lost} cut {cut}"
+        )
+    } else {
+        writeln!(
+            screen,
+            "sessions {sessions} taken {taken} written {written} lost {lost}"
+        )
+    };
+    match told {
         Ok(()) => ExitCode::SUCCESS,
         Err(_) => ExitCode::from(FAULT),
     }

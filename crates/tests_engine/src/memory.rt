@@ -81,12 +81,13 @@ fn count(books: &[Replies], replies: &[u8]) -> usize {
 }
 
 /// Asserts that the server ended after this number of sessions, in which one message was written,
-/// and removed one queue.
+/// removed one queue, and cut off no call.
 fn assert_ended(rt: &impl Abort, ended: Ended, sessions: u64) {
     let wanted = Ended {
         sums: sums(sessions, 1, 0),
         refused: 0,
         removed: Ok(1),
+        cut: 0,
         closed: EMPTY,
     };
     assert_is(rt, ended, wanted);

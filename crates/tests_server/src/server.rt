@@ -545,6 +545,7 @@ fn the_queue_that_the_last_session_made_is_removed(rt: HostRuntime) {
         sums: sums(2, 0, 0),
         refused: 0,
         removed: Ok(1),
+        cut: 0,
         closed: EMPTY,
     };
     ends_as(&rt, rt.alloc(), 1, Clients::Leaving, end);
@@ -556,6 +557,7 @@ fn a_server_shows_its_state(rt: HostRuntime) {
         sums: sums(2, 1, 0),
         refused: 0,
         removed: Ok(1),
+        cut: 0,
         closed: EMPTY,
     };
     ends_as(&rt, rt.alloc(), 2, Clients::Looking, end);
@@ -567,6 +569,7 @@ fn no_queue_is_left(rt: HostRuntime) {
         sums: sums(5, 0, 0),
         refused: 0,
         removed: Ok(0),
+        cut: 0,
         closed: EMPTY,
     };
     ends_as(&rt, rt.alloc(), 40, Clients::Commanding, end);
