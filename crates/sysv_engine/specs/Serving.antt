@@ -14,12 +14,24 @@ use Rattle.sysv_workers.specs.declared.workers.TheConstants.{MAX_WORKERS}
 use Rattle.sysv_engine.specs.declared.fault.ServeFault.{ServeFault}
 use Rattle.sysv_engine.specs.declared.fault.ServeFault.TheVariants.{NoMemory, Thread, Worn, Missed}
 use Rattle.sysv_engine.specs.declared.sums.Sums.{Sums}
+use Rattle.sysv_engine.specs.declared.terms.Patience.{Patience}
+use Rattle.sysv_engine.specs.declared.terms.Setting.{Setting}
 use Rattle.sysv_engine.specs.Added.{nothing}
 use Rattle.sysv_engine.specs.Desks.{Desk, InTeam, AreServedInOrder, all_connections}
 use Rattle.sysv_engine.specs.Handled.{Shift, sums_of, refused_of, told_in}
 use Rattle.sysv_engine.specs.Looking.{HiresBy}
 use Rattle.sysv_engine.specs.OneRun.{Lived}
 use Rattle.sysv_seats.specs.Untold.{Closing}
+
+-- A server ran with this number of workers, which let a client take this long, and with this number of seconds
+-- after which its orderly end was to cut sessions off, 0 for never. That the seconds pass is not stated.
+abbrev pub RunsWith : (workers : ℕ) → Patience → (drain : ℕ) → Setting → Type 0
+RunsWith workers patience drain setting =
+    (setting.workers ≡ workers) × (setting.patience ≡ patience) × (setting.drain ≡ drain)
+
+-- A client may take as long as it likes.
+abbrev pub unbounded : Patience
+unbounded = record { idle = 0; stall = 0 }
 
 -- A pass of these gates that holds no chain, with the sums of no sessions.
 abbrev pub IsNew : Gates → Pass → Sums → ℕ → Type 0

@@ -5,7 +5,7 @@ ghost use Rattle.sysv_workers.specs.declared.workers.TheConstants.{MAX_WORKERS};
 ghost use Rattle.sysv_service.specs.Seats.{AreOf};
 ghost use Rattle.sysv_engine.specs.Added.{IsBalanced};
 ghost use Rattle.sysv_engine.specs.Headline.{ServesConnections};
-ghost use Rattle.sysv_engine.specs.Serving.{FaultOf, HasLived, HiredFrom, LeavesConnections, WorkedFrom};
+ghost use Rattle.sysv_engine.specs.Serving.{FaultOf, HasLived, HiredFrom, LeavesConnections, RunsWith, WorkedFrom, unbounded};
 
 use crate::alarm::Rest;
 use crate::dealing::{Dealing, shares};
@@ -66,6 +66,8 @@ where
     ensures ok { IfOk result (λ ended. ServesConnections T.incoming T.outgoing T.closes S.gives
         false blocks source.old books.old.items ended source.new books.new.items) }
     ensures balance { IfOk result (λ ended. IsBalanced ended.sums) }
+    ensures setting { IfOk result (λ ended.
+        RunsWith workers unbounded 0 ended.setting) }
     ensures err { IfErr result (λ why. LeavesConnections T.incoming T.outgoing T.closes S.gives
         (HasLived false blocks) source.old books.old.items why source.new books.new.items) }
 {
@@ -117,9 +119,12 @@ where
     ensures ok { IfOk result (λ ended. ServesConnections T.incoming T.outgoing T.closes S.gives
         false blocks source.old books.old.items ended source.new books.new.items) }
     ensures balance { IfOk result (λ ended. IsBalanced ended.sums) }
+    ensures setting { IfOk result (λ ended.
+        RunsWith (vec_len watches) server.now.patience server.now.drain ended.setting) }
     ensures err { IfErr result (λ why. LeavesConnections T.incoming T.outgoing T.closes S.gives
         (HasLived false blocks) source.old books.old.items why source.new books.new.items) }
 {
+    let setting = server.setting(watches.len());
     let Ok((service, mut pass)) = Service::open(alloc, blocks) else {
         return Err(ServeFault::NoMemory);
     };
@@ -136,6 +141,7 @@ where
             removed,
             cut: server.cut_calls(),
             closed,
+            setting,
         }),
         Err(why) => Err(why),
     }

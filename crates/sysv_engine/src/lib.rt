@@ -48,5 +48,5 @@ pub use rows::Rows;
 pub use seeing::serve_arrivals;
 pub use server_state::ServerState;
 pub use sums::Sums;
-pub use terms::{Ended, Patience};
+pub use terms::{Ended, Patience, Setting};
 pub use watch::{Polled, Ready, Watch, watches};

@@ -6,7 +6,7 @@ ghost use Rattle.sysv_service.specs.Seats.{AreOf};
 ghost use Rattle.sysv_engine.specs.Added.{IsBalanced};
 ghost use Rattle.sysv_engine.specs.Headline.{ServesConnections};
 ghost use Rattle.sysv_engine.specs.Looks.{Looks};
-ghost use Rattle.sysv_engine.specs.Serving.{HasLived, HiredFrom, LeavesConnections, WorkedFrom};
+ghost use Rattle.sysv_engine.specs.Serving.{HasLived, HiredFrom, LeavesConnections, RunsWith, WorkedFrom};
 
 use crate::alarm::Rest;
 use crate::arrivals::Arrivals;
@@ -50,9 +50,12 @@ where
     ensures ok { IfOk result (λ ended. ServesConnections T.incoming T.outgoing T.closes S.gives
         reads blocks source.old books.old.items ended source.new books.new.items) }
     ensures balance { IfOk result (λ ended. IsBalanced ended.sums) }
+    ensures setting { IfOk result (λ ended.
+        RunsWith (vec_len watches) server.now.patience server.now.drain ended.setting) }
     ensures err { IfErr result (λ why. LeavesConnections T.incoming T.outgoing T.closes S.gives
         (HasLived reads blocks) source.old books.old.items why source.new books.new.items) }
 {
+    let setting = server.setting(watches.len());
     let Ok((service, mut pass)) = Service::open(alloc, blocks) else {
         return Err(ServeFault::NoMemory);
     };
@@ -69,6 +72,7 @@ where
             removed,
             cut: server.cut_calls(),
             closed,
+            setting,
         }),
         Err(why) => Err(why),
     }

@@ -3,6 +3,7 @@
 ghost use Rattle.std.specs.Prelude.{◌≡◌, ◌≤◌, IfSome, vec_len};
 ghost use Rattle.sysv_keys.specs.declared.identifier.TheConstants.{SLOTS as slot_count};
 ghost use Rattle.sysv_engine.specs.Counting.{IsCounted, IsNothing};
+ghost use Rattle.sysv_engine.specs.Serving.{RunsWith};
 ghost use Rattle.sysv_engine.specs.declared.counter.Kind.TheVariants.{CutOff};
 
 use crate::alarm::{Alarm, Rest};
@@ -10,7 +11,7 @@ use crate::counter::{Added, Counter, Kind};
 use crate::counts::{Counted, Counts, Moved, SlotCounts, zeros};
 use crate::doorbell::Doorbell;
 use crate::moment::{Moment, NO_DESCRIPTOR, await_doorbell};
-use crate::terms::Patience;
+use crate::terms::{Patience, Setting};
 use crossbeam_queue::ArrayQueue;
 use std::alloc::Global;
 use std::sync::Wait;
@@ -94,6 +95,8 @@ impl ServerState {
         ensures rests { IfSome result (λ both. vec_len both.1 ≡ workers) }
         ensures at_once { IfSome result (λ both. both.0.at_once ≡ at_once) }
         ensures cut { IfSome result (λ both. both.0.cut_calls.kind ≡ CutOff) }
+        ensures patience { IfSome result (λ both. both.0.patience ≡ patience) }
+        ensures drain { IfSome result (λ both. both.0.drain ≡ drain) }
     {
         let turn = Doorbell::open()?;
         let (posts, rests) = open_posts(alloc, workers)?;
@@ -126,8 +129,21 @@ impl ServerState {
     }
 
     /// Returns how long a client may take.
-    pub(crate) fn patience(&self) -> Patience {
+    pub(crate) fn patience(&self) -> Patience
+        ensures { result ≡ self.now.patience }
+    {
         self.patience
+    }
+
+    /// Returns what a server with this number of workers runs with.
+    pub(crate) fn setting(&self, workers: usize) -> Setting
+        ensures { RunsWith workers self.now.patience self.now.drain result }
+    {
+        Setting {
+            workers,
+            patience: self.patience,
+            drain: self.drain,
+        }
     }
 
     /// Returns the descriptor of a worker's doorbell, or a negative number.

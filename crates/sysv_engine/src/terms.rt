@@ -1,4 +1,5 @@
 //! How long a client may take, and the result of a server.
+ghost use Rattle.std.specs.Prelude.{◌≡◌};
 
 use crate::sums::Sums;
 use sysv_model::Errno;
@@ -19,6 +20,37 @@ impl Patience {
     pub const UNBOUNDED: Patience = Patience { idle: 0, stall: 0 };
 }
 
+/// What a server that has ended ran with. Only this crate makes a value of this type.
+#[derive(Clone, Copy, PartialEq, Eq, Debug)]
+pub struct Setting {
+    pub(crate) workers: usize,
+    pub(crate) patience: Patience,
+    pub(crate) drain: u32,
+}
+
+impl Setting {
+    /// Returns the number of workers.
+    pub fn workers(self) -> usize
+        ensures { result ≡ self.entry.workers }
+    {
+        self.workers
+    }
+
+    /// Returns how long a client might take.
+    pub fn patience(self) -> Patience
+        ensures { result ≡ self.entry.patience }
+    {
+        self.patience
+    }
+
+    /// Returns the number of seconds after which an orderly end was to cut sessions off, 0 for never.
+    pub fn drain(self) -> u32
+        ensures { result ≡ self.entry.drain }
+    {
+        self.drain
+    }
+}
+
 /// How a server ended.
 #[derive(Clone, Copy, PartialEq, Eq, Debug)]
 pub struct Ended {
@@ -34,4 +66,6 @@ pub struct Ended {
     /// What was left of its service when it was closed, after these queues were removed. No gate is
     /// held. The pool has all its blocks, if fewer than 2^62 turns were made at each object.
     pub closed: Closed,
+    /// What it ran with.
+    pub setting: Setting,
 }

@@ -2,7 +2,7 @@
 -- of places, all at one service. Each place has a pass of its own and serves one client after another,
 -- and there is one session for each connection.
 use Rattle.std.specs.Prelude.{◌≡◌, ◌≢◌, ◌≤◌, ◌+◌, ◌^◌, ⊤, ℕ, Bool, true, false, List, [], Option, Some, None, Result}
-use Rattle.std.specs.Prelude.{length}
+use Rattle.std.specs.Prelude.{length, min}
 use Rattle.std.specs.declared.io.Error.{Error}
 use Rattle.std.specs.List.{AllByRecursion}
 use Rattle.std.specs.List.Sorted.{IsPermutation}
@@ -18,10 +18,11 @@ use Rattle.sysv_engine.specs.declared.fault.ServeFault.{ServeFault}
 use Rattle.sysv_engine.specs.declared.fault.ServeFault.TheVariants.{NoMemory, Thread, Worn, Missed}
 use Rattle.sysv_engine.specs.declared.sums.Sums.{Sums}
 use Rattle.sysv_engine.specs.declared.terms.Ended.{Ended}
+use Rattle.sysv_engine.specs.declared.terms.Setting.{Setting}
 use Rattle.sysv_engine.specs.Desks.{Desk, Sat, AreServedInOrder, all_connections}
 use Rattle.sysv_engine.specs.Handled.{Shift, cut_off_of, refused_of, sums_of, told_in}
 use Rattle.sysv_engine.specs.OneRun.{Lived}
-use Rattle.sysv_engine.specs.Serving.{HasLived, LeavesBooks}
+use Rattle.sysv_engine.specs.Serving.{HasLived, LeavesBooks, RunsWith}
 use Rattle.sysv_workers.specs.declared.workers.TheConstants.{MAX_WORKERS}
 use Rattle.sysv_server.specs.Listening.{HasFailed, IsOver, added}
 use Rattle.sysv_server.specs.declared.host.Reason.{Reason}
@@ -45,6 +46,11 @@ SatOnSockets = Sat untold untold closing_sockets
 -- The limits under which a server on these terms may cut off its clients: those that the terms have.
 abbrev pub limits_in : Terms → Limits
 limits_in terms = limits_for terms.patience.idle terms.patience.stall terms.drain
+
+-- A server on these terms ran with as many workers as they have, or as many as it could have clients, and
+-- with the limits of time that they have.
+abbrev pub RanOn : Terms → Setting → Type 0
+RanOn terms setting = RunsWith (min terms.workers terms.at_once) terms.patience terms.drain setting
 
 -- A server on a listener, with this number of places. It ran no more sessions than the maximum, if the
 -- maximum is not 0. Each session was on a connection of its own. Each place had its connections in the

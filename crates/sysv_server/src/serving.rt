@@ -3,7 +3,7 @@ ghost use Rattle.std.specs.Prelude.{◌≡◌, ◌≤◌, false, IfErr, IfOk, If
 ghost use Rattle.sysv_model.specs.declared.limits.TheConstants.{MIN_BLOCKS, MAX_BLOCKS};
 ghost use Rattle.sysv_workers.specs.declared.workers.TheConstants.{MAX_WORKERS};
 ghost use Rattle.sysv_engine.specs.Added.{IsBalanced};
-ghost use Rattle.sysv_server.specs.Serving.{EndsFrom, EndsOn, FailsFrom, FailsOn, HasCause, HasReason, ServesOn, limits_in};
+ghost use Rattle.sysv_server.specs.Serving.{EndsFrom, EndsOn, FailsFrom, FailsOn, HasCause, HasReason, RanOn, ServesOn, limits_in};
 ghost use Rattle.sysv_seats.specs.Limits.{limits_for};
 ghost use Rattle.sysv_server.specs.declared.serving.TheConstants.{MAX_CLIENTS};
 
@@ -132,6 +132,7 @@ pub fn serve_listener<I: Read + AsRawFd + Drop, H: Host + Drop, R: Threads + Wai
     ensures exact { IfOk result (λ ended.
         HasReason (is_some input) terms.sessions ended.sums.sessions reason.new) }
     ensures balance { IfOk result (λ ended. IsBalanced ended.sums) }
+    ensures setting { IfOk result (λ ended. RanOn terms ended.setting) }
     ensures err { IfErr result (FailsOn terms.stats terms.blocks terms.at_once terms.sessions) }
 {
     let mut socket = Hosted::new(&host);
@@ -172,6 +173,7 @@ pub fn serve_from<L: Listens, I: Input + Drop, H: Host, R: Threads + Wait + Net 
     ensures exact { IfOk result (λ ended. HasCause I.reads L.fails (is_some input)
         terms.sessions ended.sums.sessions reason.new) }
     ensures balance { IfOk result (λ ended. IsBalanced ended.sums) }
+    ensures setting { IfOk result (λ ended. RanOn terms ended.setting) }
     ensures err { IfErr result (λ why. FailsFrom L.accepted terms.stats terms.blocks terms.at_once
         terms.sessions listener.old why listener.new) }
 {
@@ -198,6 +200,7 @@ fn run<L: Listens, I: Input + Drop, H: Host, R: Threads + Wait + Net + Sync>(
     ensures exact { IfOk result (λ ended. HasCause I.reads L.fails (is_some input)
         terms.sessions ended.sums.sessions reason.new) }
     ensures balance { IfOk result (λ ended. IsBalanced ended.sums) }
+    ensures setting { IfOk result (λ ended. RanOn terms ended.setting) }
     ensures err { IfErr result (λ why. FailsFrom L.accepted terms.stats terms.blocks terms.at_once
         terms.sessions listener.old why listener.new) }
 {

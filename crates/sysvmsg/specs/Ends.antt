@@ -1,11 +1,13 @@
 -- How a server ends (this project's programs).
-use Rattle.std.specs.Prelude.{◌≡◌, ⊤, ℕ, Bool, true, false, List, [], ◌∷◌, ◌++◌, codes, Option, None, Some}
+use Rattle.std.specs.Prelude.{◌≡◌, ⊤, ℕ, Bool, true, false, List, [], ◌∷◌, ◌++◌, codes, Option, None, Some, min}
 use Rattle.std.specs.Fmt.{decimal}
 use Rattle.std.specs.Io.KnownBytes.{Appends}
 use Rattle.sysv_server.specs.Serving.{EndsOn, HasReason, limits_in}
 use Rattle.sysv_engine.specs.declared.fault.ServeFault.{ServeFault}
 use Rattle.sysv_engine.specs.declared.fault.ServeFault.TheVariants as faults
 use Rattle.sysv_engine.specs.declared.terms.Ended.{Ended}
+use Rattle.sysv_engine.specs.declared.terms.Setting.{Setting}
+use Rattle.sysv_engine.specs.Serving.{RunsWith}
 use Rattle.sysv_server.specs.declared.host.Reason.{Reason}
 use Rattle.sysv_server.specs.declared.host.Reason.TheVariants.{Full, InputOver, NoSocket, Accept}
 use Rattle.sysv_engine.specs.declared.sums.Sums.{Sums}
@@ -55,6 +57,13 @@ EndsWithin limit terms ended =
     EndsOn terms.stats terms.blocks (places_within limit terms.stats terms.workers terms.at_once) terms.sessions
     (limits_in terms) ended
 
+-- A server on these terms ran with as many workers as they have, or as many as it had places under this
+-- limit of open files, and with the limits of time that they have.
+abbrev pub RanWithin : Option ℕ → Terms → Setting → Type 0
+RanWithin limit terms setting =
+    RunsWith (min terms.workers (places_within limit terms.stats terms.workers terms.at_once)) terms.patience
+    terms.drain setting
+
 -- A server that may have an input served on these terms until the input was over or the maximum
 -- number of sessions was reached, and the sums of its sessions were printed. It did so under this limit of
 -- open files.
@@ -63,5 +72,6 @@ pub record HasServedAll (limit : Option ℕ) (has_input : Bool) (terms : Terms) 
   pub ended : Ended
   pub reason : Option Reason
   pub ends : EndsWithin limit terms ended
+  pub setting : RanWithin limit terms ended.setting
   pub meant : HasReason has_input terms.sessions ended.sums.sessions reason
   pub served : HasServed has_input ended reason shown after

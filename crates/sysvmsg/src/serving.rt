@@ -4,7 +4,7 @@ ghost use Rattle.std.specs.Io.KnownBytes.{Appends};
 ghost use Rattle.sysv_connect.specs.Ends.{Fails, SucceedsOnlyIf};
 ghost use Rattle.sysv_options.specs.Asked.{HasLimits};
 ghost use Rattle.sysv_server.specs.Serving.{HasReason};
-ghost use Rattle.sysvmsg.specs.Ends.{EndsWithin, HasServed, HasServedAll, sums_line, words_of};
+ghost use Rattle.sysvmsg.specs.Ends.{EndsWithin, HasServed, HasServedAll, RanWithin, sums_line, words_of};
 
 use crate::room::room;
 use crate::socket::listen_at;
@@ -165,6 +165,7 @@ fn run_server<
 ) -> Result<Ended, ServeFault>
     requires { HasLimits serving.now }
     ensures ends { IfOk result (EndsWithin limit serving.now.terms) }
+    ensures setting { IfOk result (λ ended. RanWithin limit serving.now.terms ended.setting) }
     ensures meant { IfOk result (λ ended. HasReason serving.now.until_eof
         serving.now.terms.sessions ended.sums.sessions reason.new) }
 {

@@ -7,7 +7,7 @@ use std::alloc::Global;
 use std::process::Abort;
 use std::sync::Wait;
 use std::thread::Threads;
-use sysv_engine::{Ended, serve_connections};
+use sysv_engine::{Ended, Patience, serve_connections};
 use sysv_seats::{MemoryStream, Replies, Step};
 use sysv_workers::Source;
 use tests_kit::worked::{ANSWERS, SESSION};
@@ -89,8 +89,11 @@ fn assert_ended(rt: &impl Abort, ended: Ended, sessions: u64) {
         removed: Ok(1),
         cut: 0,
         closed: EMPTY,
+        setting: ended.setting,
     };
     assert_is(rt, ended, wanted);
+    assert_is(rt, ended.setting.patience(), Patience::UNBOUNDED);
+    assert_is(rt, ended.setting.drain(), 0);
 }
 
 /// Asserts that these replies, one after another, were written to one connection in these books.

@@ -461,14 +461,16 @@ fn ended<R: Threads + Wait + Net + Files + Abort + Clock + Sync>(
     )
 }
 
-/// Asserts that the server ends this way and that its clients had the right replies. Tries again if
-/// memory or a thread was refused before a session began.
-fn ends_as<R: Threads + Wait + Net + Files + Abort + Clock + Sync>(
+/// Asserts that a server with these many clients at once ends with these sums, after it has removed
+/// this number of queues, and that its clients had the right replies. Tries again if memory or a
+/// thread was refused before a session began.
+fn ends_with<R: Threads + Wait + Net + Files + Abort + Clock + Sync>(
     rt: &R,
     alloc: Global,
     at_once: u32,
     clients: Clients,
-    end: Ended,
+    all: Sums,
+    removed: u32,
 )
     requires { (1 ≤ at_once) × (at_once ≤ 16384) }
 {
@@ -476,21 +478,47 @@ fn ends_as<R: Threads + Wait + Net + Files + Abort + Clock + Sync>(
         blocks: 128,
         workers: 4,
         at_once,
-        sessions: end.sums.sessions,
+        sessions: all.sessions,
         patience: Patience {
             idle: 60,
-            stall: 60,
+            stall: 61,
         },
-        drain: 60,
+        drain: 62,
         stats: matches!(clients, Clients::Looking),
     };
     let first = ended(rt, alloc, terms, clients);
     if matches!(&first.0.0, Err(ServeFault::NoMemory | ServeFault::Thread)) {
-        let second = ended(rt, alloc, terms, clients);
-        assert_is(rt, second, ((Ok(end), true), true));
+        assert_end(rt, ended(rt, alloc, terms, clients), terms, all, removed);
     } else {
-        assert_is(rt, first, ((Ok(end), true), true));
+        assert_end(rt, first, terms, all, removed);
     }
+}
+
+/// Asserts that a server on these terms ended with these sums because all its connections were
+/// accepted, after it had removed this number of queues, and that its clients had the right replies.
+fn assert_end(
+    rt: &impl Abort,
+    run: ((Result<Ended, ServeFault>, bool), bool),
+    terms: Terms,
+    all: Sums,
+    removed: u32,
+) {
+    let ((end, is_full), are_right) = run;
+    assert_is(rt, (is_full, are_right), (true, true));
+    let end = end.expect(rt, "a server that ends");
+    let wanted = Ended {
+        sums: all,
+        refused: 0,
+        removed: Ok(removed),
+        cut: 0,
+        closed: EMPTY,
+        setting: end.setting,
+    };
+    assert_is(rt, end, wanted);
+    let workers = terms.workers.min(terms.at_once) as usize;
+    assert_is(rt, end.setting.workers(), workers);
+    assert_is(rt, end.setting.patience(), terms.patience);
+    assert_is(rt, end.setting.drain(), terms.drain);
 }
 
 /// Returns the sums of this number of sessions, with these numbers of messages written and lost.
@@ -541,38 +569,17 @@ fn sessions_of_both_versions(rt: HostRuntime) {
 
 #[test]
 fn the_queue_that_the_last_session_made_is_removed(rt: HostRuntime) {
-    let end = Ended {
-        sums: sums(2, 0, 0),
-        refused: 0,
-        removed: Ok(1),
-        cut: 0,
-        closed: EMPTY,
-    };
-    ends_as(&rt, rt.alloc(), 1, Clients::Leaving, end);
+    ends_with(&rt, rt.alloc(), 1, Clients::Leaving, sums(2, 0, 0), 1);
 }
 
 #[test]
 fn a_server_shows_its_state(rt: HostRuntime) {
-    let end = Ended {
-        sums: sums(2, 1, 0),
-        refused: 0,
-        removed: Ok(1),
-        cut: 0,
-        closed: EMPTY,
-    };
-    ends_as(&rt, rt.alloc(), 2, Clients::Looking, end);
+    ends_with(&rt, rt.alloc(), 2, Clients::Looking, sums(2, 1, 0), 1);
 }
 
 #[test]
 fn no_queue_is_left(rt: HostRuntime) {
-    let end = Ended {
-        sums: sums(5, 0, 0),
-        refused: 0,
-        removed: Ok(0),
-        cut: 0,
-        closed: EMPTY,
-    };
-    ends_as(&rt, rt.alloc(), 40, Clients::Commanding, end);
+    ends_with(&rt, rt.alloc(), 40, Clients::Commanding, sums(5, 0, 0), 0);
 }
 
 #[test]
