@@ -106,37 +106,37 @@ put_cause breaks version outcome given old new Bound replied put = absurd put
 put_cause breaks version outcome given old new Reset replied put = absurd put
 
 -- What is read of the input stops the client for a reason in the input.
-ends_cause : (breaks : Breaks) (caller : Option (Version × Cred)) (requests : ℕ) (why : End)
+ends_cause : (breaks : Breaks) (newest : Version) (caller : Option (Version × Cred)) (requests : ℕ) (why : End)
     (left rest : Option (List ℕ)) (text : List ℕ) (is_end : Bool) → is_early why is_end ≡ false →
-    EndsHere caller requests why left rest text → MayEnd breaks why
-ends_cause breaks caller requests Ended left rest text is_end late here = tt
-ends_cause breaks caller requests NoMemory left rest text is_end late here = tt
-ends_cause breaks caller requests NoHello left rest text is_end late here = tt
-ends_cause breaks caller requests (Fault Truncated) left rest text is_end late here = tt
-ends_cause breaks caller requests (Fault TooLong) left rest text is_end late here = tt
-ends_cause breaks caller requests (Fault BadOp) left rest text is_end late here = tt
-ends_cause breaks caller requests (Fault BadField) left rest text is_end late here = tt
-ends_cause breaks caller requests (Fault Read) left rest text is_end late here = absurd (cc late)
-ends_cause breaks None requests Write left rest text is_end late here = absurd here.0
-ends_cause breaks (Some caller) requests Write left rest text is_end late (inl bound) =
+    EndsHere newest caller requests why left rest text → MayEnd breaks why
+ends_cause breaks newest caller requests Ended left rest text is_end late here = tt
+ends_cause breaks newest caller requests NoMemory left rest text is_end late here = tt
+ends_cause breaks newest caller requests NoHello left rest text is_end late here = tt
+ends_cause breaks newest caller requests (Fault Truncated) left rest text is_end late here = tt
+ends_cause breaks newest caller requests (Fault TooLong) left rest text is_end late here = tt
+ends_cause breaks newest caller requests (Fault BadOp) left rest text is_end late here = tt
+ends_cause breaks newest caller requests (Fault BadField) left rest text is_end late here = tt
+ends_cause breaks newest caller requests (Fault Read) left rest text is_end late here = absurd (cc late)
+ends_cause breaks newest None requests Write left rest text is_end late here = absurd here.0
+ends_cause breaks newest (Some caller) requests Write left rest text is_end late (inl bound) =
     absurd (let other : Write ≡ Bound = bound.1 in cc other)
-ends_cause breaks (Some caller) requests Write left rest text is_end late (inr read) = absurd read.1
-ends_cause breaks caller requests Bound left rest text is_end late here = tt
-ends_cause breaks None requests Left left rest text is_end late here = absurd here.0
-ends_cause breaks (Some caller) requests Left left rest text is_end late (inl bound) =
+ends_cause breaks newest (Some caller) requests Write left rest text is_end late (inr read) = absurd read.1
+ends_cause breaks newest caller requests Bound left rest text is_end late here = tt
+ends_cause breaks newest None requests Left left rest text is_end late here = absurd here.0
+ends_cause breaks newest (Some caller) requests Left left rest text is_end late (inl bound) =
     absurd (let other : Left ≡ Bound = bound.1 in cc other)
-ends_cause breaks (Some caller) requests Left left rest text is_end late (inr read) = absurd read.1
-ends_cause breaks None requests Reset left rest text is_end late here = absurd here.0
-ends_cause breaks (Some caller) requests Reset left rest text is_end late (inl bound) =
+ends_cause breaks newest (Some caller) requests Left left rest text is_end late (inr read) = absurd read.1
+ends_cause breaks newest None requests Reset left rest text is_end late here = absurd here.0
+ends_cause breaks newest (Some caller) requests Reset left rest text is_end late (inl bound) =
     absurd (let other : Reset ≡ Bound = bound.1 in cc other)
-ends_cause breaks (Some caller) requests Reset left rest text is_end late (inr read) = absurd read.1
+ends_cause breaks newest (Some caller) requests Reset left rest text is_end late (inr read) = absurd read.1
 
 pub taken_cause : (breaks : Breaks) (old new : Session) (result : Result TakenUp End) (why : End)
     (left rest : Option (List ℕ)) (text : List ℕ) (is_end : Bool) → result ≡ Err why → is_early why is_end ≡ false →
     TakesUp old new result left rest text → MayEnd breaks why
 taken_cause breaks old new result why left rest text is_end is late takes =
     let here = subst (λ (r : Result TakenUp End). TakesUp old new r left rest text) is takes in
-    ends_cause breaks old.caller old.requests why left rest text is_end late here.1
+    ends_cause breaks old.newest old.caller old.requests why left rest text is_end late here.1
 
 -- A client that may be closed ends its session for a reason that there is.
 reported_cause : (breaks : Breaks) (why : End) (bytes : List ℕ) → MayEnd breaks why →
