@@ -41,8 +41,8 @@ impl Model for Conversation {
 }
 
 impl Conversation {
-    /// Returns a conversation that has taken up nothing. It reads versions up to `newest`. Allocates
-    /// nothing.
+    /// Returns a conversation that has taken up nothing. It reads versions up to `newest`.
+    /// Allocates nothing.
     pub fn open(alloc: Global, newest: Version) -> Conversation
         ensures newest { result.session.newest ≡ newest }
         ensures caller { result.session.caller ≡ None }

@@ -28,8 +28,8 @@ use sysv_wire::{Request, Version, one_answer_to_requests, one_request};
 /// the next request is read.
 ///
 /// The session has the version of its hello, 1 or 2. In version 2 the reply to the hello states the
-/// number of slots. A request that cannot be read, a request of another version and a later hello end the
-/// session without a reply. So does a call that its client leaves while it waits.
+/// number of slots. A request that cannot be read, a request of another version and a later hello
+/// end the session without a reply. So does a call that its client leaves while it waits.
 ///
 /// Memory for two bodies is allocated before anything is read. If it is refused, the session ends
 /// with `NoMemory`, and the reader, the writer and the handler are unchanged.
@@ -39,9 +39,9 @@ pub fn serve<R: Read, W: Write, K: Handler>(
     writer: &mut W,
     handler: &mut K,
 ) -> Served
-    ensures serves { Serves Version.Two K.meaning (K.slots handler.old) result handler.old handler.new
-        (R.remaining reader.old) (R.remaining reader.new) (W.contents writer.old)
-        (W.contents writer.new) }
+    ensures serves { Serves Version.Two K.meaning (K.slots handler.old) result
+        handler.old handler.new (R.remaining reader.old) (R.remaining reader.new)
+        (W.contents writer.old) (W.contents writer.new) }
     // The session ends as its input determines, unless it is cut short.
     ensures only { (input : List ℕ) (parse : Parse) → R.remaining reader.old ≡ Some input →
         Takes Version.Two input parse → Follows parse result }
@@ -74,7 +74,8 @@ pub fn serve_instrumented<R: Read, W: Write, K: Handler>(
     writer: &mut Instrumented<'_, W>,
     handler: &mut K,
 ) -> Served
-    ensures serves { Serves Version.Two K.meaning (K.slots handler.old) result handler.old handler.new
+    ensures serves { Serves Version.Two K.meaning (K.slots handler.old) result
+        handler.old handler.new
         (R.remaining (stream_of reader.old)) (R.remaining (stream_of reader.new))
         (W.contents (stream_of writer.old)) (W.contents (stream_of writer.new)) }
     // The session ends as its input determines, unless it is cut short.
@@ -111,8 +112,8 @@ fn serve_next<R: Read, W: Write, K: Handler>(
     ensures serves { (newest : Versions) (start : K) (left taken : Option (List ℕ)) →
         HandedOver newest K.meaning slots session.old start handler.old left
         (R.remaining (stream_of reader.old)) taken (W.contents (stream_of writer.old)) →
-        Proceeds newest K.meaning slots result session.old.requests session.new start handler.new left
-        (R.remaining (stream_of reader.new)) taken (W.contents (stream_of writer.new)) }
+        Proceeds newest K.meaning slots result session.old.requests session.new start handler.new
+        left (R.remaining (stream_of reader.new)) taken (W.contents (stream_of writer.new)) }
     ensures memory { IfErr result (λ why. why ≢ End.NoMemory) }
     ensures reader { KeepsStream reader.old reader.new (ends_by_read result) }
     ensures writer { KeepsStream writer.old writer.new (ends_by_write result) }

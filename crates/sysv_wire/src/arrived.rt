@@ -65,7 +65,8 @@ pub fn frame_in_up_to(newest: Version, bytes: &[u8]) -> FrameIn
 /// Returns the number of bytes with which the first part of the request that is not checked yet is
 /// whole: the length field, the version and the operation, or the whole request.
 fn needed(newest: Version, bytes: &[u8]) -> Result<usize, Fault>
-    ensures ok { IfOk result (λ n. EndsWithin newest n bytes.now ⊎ HoldsRequest newest n bytes.now) }
+    ensures ok { IfOk result (λ n.
+        EndsWithin newest n bytes.now ⊎ HoldsRequest newest n bytes.now) }
     ensures err { IfErr result (λ fault. HoldsFault newest fault bytes.now) }
 {
     if bytes.len() < LENGTH_BYTES {

@@ -40,14 +40,14 @@ pub fn one_answer_to_replies()
     ensures { (newest : Version) → OneAnswerToReplies newest }
 {}
 
-/// States that at most one result of `frame_in_up_to` fits the same bytes: `Whole` if a request's frame
-/// begins them, `Refused` if they alone cause a fault, and otherwise `More`.
+/// States that at most one result of `frame_in_up_to` fits the same bytes: `Whole` if a request's
+/// frame begins them, `Refused` if they alone cause a fault, and otherwise `More`.
 pub fn one_frame()
     ensures { (newest : Version) → OneFrame newest }
 {}
 
-/// States that the result of `frame_in_up_to` stays the same if bytes follow: `More` until `least` bytes
-/// have arrived, and `Whole` and `Refused` always.
+/// States that the result of `frame_in_up_to` stays the same if bytes follow: `More` until `least`
+/// bytes have arrived, and `Whole` and `Refused` always.
 pub fn frame_stays()
     ensures { (newest : Version) → FrameStays newest }
 {}

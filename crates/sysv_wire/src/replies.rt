@@ -30,8 +30,8 @@ const MAX_FIELDS: usize = 66;
 const MAX_REST: usize = 8200;
 
 /// Checks the head of a reply that a reader with this newest version reads: the version, then the
-/// operation, and then the length, which must be one that the operation has with this error. Returns
-/// the version, the operation and the number of bytes after the error.
+/// operation, and then the length, which must be one that the operation has with this error.
+/// Returns the version, the operation and the number of bytes after the error.
 fn judge(
     newest: Version,
     length: u32,

@@ -1,4 +1,4 @@
-//! Frames of version 3, whose bytes were worked out by hand, and readers with another newest version.
+//! Frames of version 3, worked out by hand, and readers with each newest version.
 use crate::parts::{assert_at, assert_holds, assert_is, open_body};
 use bitflags::Flags as Set;
 use std::process::Abort;
