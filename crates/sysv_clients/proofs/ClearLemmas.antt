@@ -21,7 +21,7 @@ use Rattle.sysv_model.specs.declared.errno.Errno.TheVariants as error
 use Rattle.sysv_wire.specs.declared.reply.ReplyContent.{ReplyContent}
 use Rattle.sysv_wire.specs.declared.reply.ReplyContent.TheVariants as content
 use Rattle.sysv_wire.specs.declared.request.Ask.{Ask}
-use Rattle.sysv_wire.specs.declared.request.Ask.TheVariants.{Hello, Get, Snd, Rcv, Stat, Set, Rm, Row}
+use Rattle.sysv_wire.specs.declared.request.Ask.TheVariants.{Hello, Get, Snd, Rcv, Stat, Set, Rm, Row, Hold, Done, Back}
 use Rattle.sysv_wire.specs.Replies.{error_number, reply_encoding}
 use Rattle.sysv_wire.specs.Requests.{request_encoding}
 
@@ -60,6 +60,9 @@ removed id (content.Rcv mtype) is = refl
 removed id (content.Stat stat) is = refl
 removed id content.Set is = refl
 removed id content.Rm is = refl
+removed id content.Done is = refl
+removed id content.Back is = refl
+removed id (content.Hold mtype) is = refl
 
 -- Of a request that was done nothing is reported.
 done : (ask : Ask) (answer : ReplyContent) → error_number answer ≡ 0 → refused_by ask answer ≡ []
@@ -71,6 +74,9 @@ done (Rcv id size mtype flags) answer is = refl
 done (Stat id) answer is = refl
 done (Set id to) answer is = refl
 done (Row slot) answer is = refl
+done (Hold id size mtype flags seconds) answer is = refl
+done Done answer is = refl
+done Back answer is = refl
 
 refusals_more : (calls : List Call) (one : Call) →
     refusals_of (calls ++ one ∷ []) ≡ refusals_of calls ++ refused_by one.ask one.answer

@@ -326,6 +326,9 @@ answers_receive (asks.Stat id) mtype fits = absurd (omega (arith, fits))
 answers_receive (asks.Set id to) mtype fits = absurd (omega (arith, fits))
 answers_receive (asks.Rm id) mtype fits = absurd (omega (arith, fits))
 answers_receive (asks.Row slot) mtype fits = absurd (omega (arith, fits))
+answers_receive (asks.Hold id size wanted flags seconds) mtype fits = absurd (omega (arith, fits))
+answers_receive asks.Done mtype fits = absurd (omega (arith, fits))
+answers_receive asks.Back mtype fits = absurd (omega (arith, fits))
 
 -- The maximum number of bytes that a result adds, by the number of exchanges before it.
 most_at : (place : ℕ) (ask : Ask) (answer : ReplyContent) → IsAnswer Two (op_number (op_of ask)) answer
@@ -341,23 +344,29 @@ most_at place ask content.Snd fits third = inl (omega arith)
 most_at place ask (content.Stat stat) fits third = inl (omega arith)
 most_at place ask content.Set fits third = inl (omega arith)
 most_at place ask content.Rm fits third = inl (omega arith)
+most_at place ask content.Done fits third = inl (omega arith)
+most_at place ask content.Back fits third = inl (omega arith)
+most_at place ask (content.Hold mtype) fits third = inl (omega arith)
 
 page_most_more : (place : ℕ) → page_most place + 256 ≤ page_most (place + 1)
 page_most_more place = grind (arith, nat_tests)
 
 -- A message is in the third exchange.
 third_one : (place : ℕ) (ask : Ask) (answer : ReplyContent) → IsAnswer Two (op_number (op_of ask)) answer →
-    (is_receive ask ≡ true → place ≡ 2) → gives_text answer ≡ true → place ≡ 2
-third_one place ask (content.Rcv mtype) fits third gives = third (answers_receive ask mtype fits)
-third_one place ask (content.Row row) fits third gives = absurd cc
-third_one place ask (content.Refused error) fits third gives = absurd cc
-third_one place ask content.Hello fits third gives = absurd cc
-third_one place ask (content.HelloSlots slots) fits third gives = absurd cc
-third_one place ask (content.Get id) fits third gives = absurd cc
-third_one place ask content.Snd fits third gives = absurd cc
-third_one place ask (content.Stat stat) fits third gives = absurd cc
-third_one place ask content.Set fits third gives = absurd cc
-third_one place ask content.Rm fits third gives = absurd cc
+    op_number (op_of ask) ≤ 7 → (is_receive ask ≡ true → place ≡ 2) → gives_text answer ≡ true → place ≡ 2
+third_one place ask (content.Rcv mtype) fits spoken third gives = third (answers_receive ask mtype fits)
+third_one place ask (content.Row row) fits spoken third gives = absurd cc
+third_one place ask (content.Refused error) fits spoken third gives = absurd cc
+third_one place ask content.Hello fits spoken third gives = absurd cc
+third_one place ask (content.HelloSlots slots) fits spoken third gives = absurd cc
+third_one place ask (content.Get id) fits spoken third gives = absurd cc
+third_one place ask content.Snd fits spoken third gives = absurd cc
+third_one place ask (content.Stat stat) fits spoken third gives = absurd cc
+third_one place ask content.Set fits spoken third gives = absurd cc
+third_one place ask content.Rm fits spoken third gives = absurd cc
+third_one place ask content.Done fits spoken third gives = absurd cc
+third_one place ask content.Back fits spoken third gives = absurd cc
+third_one place ask (content.Hold mtype) fits spoken third gives = absurd (omega (arith, fits, spoken))
 
 -- There is space for a message.
 pub has_room : (place : ℕ) (ask : Ask) (answer : ReplyContent) (given : List ℕ) (held : ℕ) → IsDone ask answer given
@@ -365,7 +374,7 @@ pub has_room : (place : ℕ) (ask : Ask) (answer : ReplyContent) (given : List �
     → held + 6 * 8192 + 48 ≤ 49767
 has_room place ask answer given held done third room gives =
     let at : held ≤ page_most 2 =
-    subst (λ (n : ℕ). held ≤ page_most n) (third_one place ask answer done.fits.0 third gives) room in
+    subst (λ (n : ℕ). held ≤ page_most n) (third_one place ask answer done.fits.0 done.fits.3 third gives) room in
     omega (arith, at)
 
 -- What is collected stays within its bound.

@@ -1,29 +1,39 @@
 -- A client shows what its input makes of its command.
 use Rattle.std.proofs.Common.{◌≡◌, ◌≢◌, ◌≤◌, ℕ, ℤ, pos, List, [], ◌∷◌, ◌++◌, Option, None, Some, Result, Ok, Err, refl}
-use Rattle.std.proofs.Common.{sym, ap, subst, ◌∙◌, ◌⊎◌, inl, inr, arith, append_assoc, append-nil}
-use Rattle.std.specs.Prelude.{⊤}
+use Rattle.std.proofs.Common.{zero, suc, length, map, min, sym, ap, subst, ◌∙◌, ◌⊎◌, inl, inr, arith, append_assoc}
+use Rattle.std.proofs.Common.{append-nil}
+use Rattle.std.specs.Prelude.{⊤, slice_get}
+use Rattle.std.specs.List.{AllByRecursion, range_with_len}
 use Rattle.std.specs.Io.KnownBytes.{Consumes, IsAtEnd}
 use Rattle.sysv_clients.specs.declared.command.Command.{Command}
 use Rattle.sysv_clients.specs.declared.fault.ClientFault.{ClientFault}
 use Rattle.sysv_clients.specs.declared.fault.ClientFault.TheVariants as fault
+use Rattle.sysv_clients.specs.declared.command.Making.{Making}
+use Rattle.sysv_clients.specs.declared.command.Target.TheVariants.{Id, Key, All}
+use Rattle.sysv_clients.specs.declared.command.Task.{Task}
+use Rattle.sysv_clients.specs.declared.command.Task.TheVariants.{List as Table, Show, Remove, Make, Send, Receive}
+use Rattle.sysv_clients.specs.declared.command.TheConstants.{MAX_ROWS}
+use Rattle.sysv_clients.specs.Asks.{asks_of, limit_asks, row_asks, task_asks}
 use Rattle.sysv_clients.specs.Parse.{EndsOn, IsNoReplyTo, Makes, ShowsParse, ShowsFault}
 use Rattle.sysv_clients.specs.Faults.{fault_line}
 use Rattle.sysv_clients.specs.Run.{Runs, Shows, shown_text, status_of}
 use Rattle.sysv_clients.specs.Dialogue.{EndsDialogue, Exchange, Follows, HasNoReply, IsDone, IsOther, answered_encoding}
-use Rattle.sysv_clients.specs.Dialogue.{next_ask, reply_to}
+use Rattle.sysv_clients.specs.Dialogue.{found_in, next_ask, reply_to, slots_in}
+use Rattle.sysv_model.specs.declared.cred.Cred.{Cred}
 use Rattle.sysv_model.specs.declared.errno.Errno.{Errno}
 use Rattle.sysv_model.specs.declared.errno.Errno.TheVariants.{EPERM, ENOENT, E2BIG, EAGAIN, EACCES, EEXIST, EINVAL}
 use Rattle.sysv_model.specs.declared.errno.Errno.TheVariants.{ENOSPC, ENOMSG, EIDRM, EOVERFLOW}
 use Rattle.sysv_model.specs.Errors.{number_of}
 use Rattle.sysv_wire.specs.declared.fault.Fault.{Fault}
 use Rattle.sysv_wire.specs.declared.fault.Fault.TheVariants.{Truncated, TooLong, BadOp, BadField, Read}
+use Rattle.sysv_wire.specs.declared.frame.Version.TheVariants.{Two}
 use Rattle.sysv_wire.specs.declared.reply.ReplyContent.{ReplyContent}
 use Rattle.sysv_wire.specs.declared.reply.ReplyContent.TheVariants as content
 use Rattle.sysv_wire.specs.declared.reply.Reply.{Reply}
 use Rattle.sysv_wire.specs.declared.request.Ask.{Ask}
-use Rattle.sysv_wire.specs.declared.request.Ask.TheVariants.{Hello, Get, Snd, Rcv, Stat, Set, Rm, Row}
+use Rattle.sysv_wire.specs.declared.request.Ask.TheVariants.{Row}
 use Rattle.sysv_wire.specs.Faults.{Faults}
-use Rattle.sysv_wire.specs.Frames.{op_number}
+use Rattle.sysv_wire.specs.Frames.{IsUpTo, op_number}
 use Rattle.sysv_wire.specs.OneAnswer.{OneAnswerToReplies, ReplyAt}
 use Rattle.sysv_wire.specs.OneEncoding.{OneReply}
 use Rattle.sysv_wire.specs.Replies.{FitsReply, error_number, reply_encoding}
@@ -54,8 +64,8 @@ same_refusal a b same =
 -- The reply of an exchange is at the start of the input.
 stands : (e : Exchange) (behind input : List ℕ) → IsDone e.ask e.answer e.given
     → input ≡ reply_encoding (reply_to e.ask e.answer) e.given ++ behind
-    → ReplyAt input (Ok (Some (reply_to e.ask e.answer)))
-stands e behind input done front = (e.given, behind, done.fits, front)
+    → ReplyAt Two input (Ok (Some (reply_to e.ask e.answer)))
+stands e behind input done front = (e.given, behind, done.fits, front, omega arith)
 
 error_above : (error : Errno) → number_of error ≢ 0
 error_above EPERM same = absurd (omega (arith, same))
@@ -75,9 +85,9 @@ same_ask : (command : Command) (exchanges : List Exchange) (a b : Ask) → next_
 same_ask command exchanges a b x y = let e : Some a ≡ Some b = sym x ∙ y in cc
 
 -- A reply to a request that was done is no reply with an error.
-no_refusal : (one : OneAnswerToReplies) (e : Exchange) (ask : Ask) (error : Errno) (input : List ℕ)
-    → IsDone e.ask e.answer e.given → ReplyAt input (Ok (Some (reply_to e.ask e.answer)))
-    → ReplyAt input (Ok (Some (reply_to ask (content.Refused error)))) → ⊥
+no_refusal : (one : OneAnswerToReplies Two) (e : Exchange) (ask : Ask) (error : Errno) (input : List ℕ)
+    → IsDone e.ask e.answer e.given → ReplyAt Two input (Ok (Some (reply_to e.ask e.answer)))
+    → ReplyAt Two input (Ok (Some (reply_to ask (content.Refused error)))) → ⊥
 no_refusal one e ask error input done here there =
     let same : e.answer ≡ content.Refused error = ap (λ (r : Reply). r.result)
     (one_reply (reply_to e.ask e.answer) (reply_to ask (content.Refused error)) (one input _ _ here there)) in
@@ -88,9 +98,10 @@ not_other : (ask : Ask) (answer : ReplyContent) (reply : Reply) → reply_to ask
 not_other ask answer reply same (inl version) = version (sym (ap (λ (r : Reply). r.version) same))
 not_other ask answer reply same (inr op) = op (sym (ap (λ (r : Reply). r.op) same))
 
-is_reply : (one : OneAnswerToReplies) (e : Exchange) (ask : Ask) (answer : Result (Option Reply) Fault) (input : List ℕ)
-    → ask ≡ e.ask → ReplyAt input (Ok (Some (reply_to e.ask e.answer)))
-    → ReplyAt input answer → IsNoReplyTo ask answer → ⊥
+is_reply : (one : OneAnswerToReplies Two) (e : Exchange) (ask : Ask) (answer : Result (Option Reply) Fault)
+    (input : List ℕ)
+    → ask ≡ e.ask → ReplyAt Two input (Ok (Some (reply_to e.ask e.answer)))
+    → ReplyAt Two input answer → IsNoReplyTo ask answer → ⊥
 is_reply one e ask (Ok (Some reply)) input same here there other =
     not_other e.ask e.answer reply (one_reply (reply_to e.ask e.answer) reply (one input _ _ here there))
     (subst (λ (a : Ask). IsOther a reply) same other)
@@ -100,9 +111,9 @@ is_reply one e ask (Err why) input same here there other =
     apart_fault (reply_to e.ask e.answer) why (one input _ _ here there)
 
 -- If an exchange is next, the dialogue does not end.
-goes_on : (one : OneAnswerToReplies) (command : Command) (before : List Exchange) (e : Exchange)
+goes_on : (one : OneAnswerToReplies Two) (command : Command) (before : List Exchange) (e : Exchange)
     (ended : Result ⊤ ClientFault) (input : List ℕ) → next_ask command before ≡ Some e.ask
-    → IsDone e.ask e.answer e.given → ReplyAt input (Ok (Some (reply_to e.ask e.answer)))
+    → IsDone e.ask e.answer e.given → ReplyAt Two input (Ok (Some (reply_to e.ask e.answer)))
     → EndsOn command before ended input → ⊥
 goes_on one command before e (Ok done) input next is_done here ends = let no : None ≡ Some e.ask = sym ends ∙ next in cc
 goes_on one command before e (Err (fault.Refused error)) input next is_done here ends =
@@ -124,7 +135,7 @@ pub record Agrees (command : Command) (made all before : List Exchange) (behind 
   pub follows : Follows command (before ++ made) more
   pub left : behind ≡ answered_encoding more ++ rest
 
-agree : (one : OneAnswerToReplies) (encoded : OneReply) (command : Command) (before made all whole : List Exchange)
+agree : (one : OneAnswerToReplies Two) (encoded : OneReply) (command : Command) (before made all whole : List Exchange)
     (ended : Result ⊤ ClientFault) (input behind rest : List ℕ)
     → Follows command before made → Follows command before all → input ≡ answered_encoding made ++ behind
     → input ≡ answered_encoding all ++ rest
@@ -170,7 +181,7 @@ agree one encoded command before (e ∷ es) (m ∷ ms) whole ended input behind 
 -- The first remaining exchange would be next.
 first_left : (made all before : List Exchange) (m : Exchange) (ms : List Exchange) (behind rest : List ℕ)
     → behind ≡ answered_encoding (m ∷ ms) ++ rest → IsDone m.ask m.answer m.given
-    → ReplyAt behind (Ok (Some (reply_to m.ask m.answer)))
+    → ReplyAt Two behind (Ok (Some (reply_to m.ask m.answer)))
 first_left made all before m ms behind rest left done =
     stands m (answered_encoding ms ++ rest) behind done
     (left ∙ append_assoc (reply_encoding (reply_to m.ask m.answer) m.given) (answered_encoding ms) rest)
@@ -198,9 +209,10 @@ all_asked command made all [] (Err fault.NoReply) done behind rest none parts fo
 all_asked command made all [] (Err fault.NoMemory) done behind rest none parts follows ends = absurd ends
 
 -- A reply to the request is not a lack of a reply to it.
-is_answer : (one : OneAnswerToReplies) (ask other : Ask) (told : ReplyContent) (answer : Result (Option Reply) Fault)
-    (input : List ℕ) → other ≡ ask → ReplyAt input (Ok (Some (reply_to ask told)))
-    → ReplyAt input answer → IsNoReplyTo other answer → ⊥
+is_answer : (one : OneAnswerToReplies Two) (ask other : Ask) (told : ReplyContent)
+    (answer : Result (Option Reply) Fault)
+    (input : List ℕ) → other ≡ ask → ReplyAt Two input (Ok (Some (reply_to ask told)))
+    → ReplyAt Two input answer → IsNoReplyTo other answer → ⊥
 is_answer one ask other told (Ok (Some reply)) input same here there denies =
     not_other ask told reply (one_reply (reply_to ask told) reply (one input _ _ here there))
     (subst (λ (a : Ask). IsOther a reply) same denies)
@@ -209,9 +221,10 @@ is_answer one ask other told (Ok None) input same here there denies =
 is_answer one ask other told (Err why) input same here there denies =
     apart_fault (reply_to ask told) why (one input _ _ here there)
 
-refused : (one : OneAnswerToReplies) (command : Command) (made all more : List Exchange) (ended : Result ⊤ ClientFault)
+refused : (one : OneAnswerToReplies Two) (command : Command) (made all more : List Exchange)
+    (ended : Result ⊤ ClientFault)
     (ask : Ask) (error : Errno) (behind rest : List ℕ)
-    → next_ask command made ≡ Some ask → ReplyAt behind (Ok (Some (reply_to ask (content.Refused error))))
+    → next_ask command made ≡ Some ask → ReplyAt Two behind (Ok (Some (reply_to ask (content.Refused error))))
     → all ≡ made ++ more → Follows command made more
     → behind ≡ answered_encoding more ++ rest → EndsOn command all ended rest
     → IsWhole made all (Err (fault.Refused error)) ended
@@ -221,7 +234,7 @@ refused one command made all [] (Ok done) ask error behind rest next here parts 
     absurd (no_next command made ask (ap (next_ask command) (sym (parts ∙ append-nil made)) ∙ ends) next)
 refused one command made all [] (Err (fault.Refused other)) ask error behind rest next here parts follows left ends =
     let there =
-    subst (λ (l : List ℕ). ReplyAt l (Ok (Some (reply_to ends.0 (content.Refused other))))) (sym left) ends.2 in
+    subst (λ (l : List ℕ). ReplyAt Two l (Ok (Some (reply_to ends.0 (content.Refused other))))) (sym left) ends.2 in
     let answers = ap (λ (r : Reply). r.result)
     (one_reply (reply_to ends.0 (content.Refused other)) (reply_to ask (content.Refused error))
     (one behind _ _ there here)) in
@@ -230,13 +243,13 @@ refused one command made all [] (Err fault.NoReply) ask error behind rest next h
     let asked : ends.0 ≡ ask =
     same_ask command made ends.0 ask (ap (next_ask command) (sym (parts ∙ append-nil made)) ∙ ends.2) next in
     absurd (is_answer one ask ends.0 (content.Refused error) ends.1 behind asked here
-    (subst (λ (l : List ℕ). ReplyAt l ends.1) (sym left) ends.4) ends.3)
+    (subst (λ (l : List ℕ). ReplyAt Two l ends.1) (sym left) ends.4) ends.3)
 refused one command made all [] (Err fault.NoMemory) ask error behind rest next here parts follows left ends =
     absurd ends
 
-unanswered : (one : OneAnswerToReplies) (command : Command) (made all more : List Exchange)
+unanswered : (one : OneAnswerToReplies Two) (command : Command) (made all more : List Exchange)
     (ended : Result ⊤ ClientFault) (ask : Ask) (heard : Result (Option Reply) Fault) (behind rest : List ℕ)
-    → next_ask command made ≡ Some ask → ReplyAt behind heard → IsNoReplyTo ask heard → all ≡ made ++ more
+    → next_ask command made ≡ Some ask → ReplyAt Two behind heard → IsNoReplyTo ask heard → all ≡ made ++ more
     → Follows command made more
     → behind ≡ answered_encoding more ++ rest → EndsOn command all ended rest
     → IsWhole made all (Err fault.NoReply) ended
@@ -250,7 +263,7 @@ unanswered one command made all [] (Err (fault.Refused other)) ask heard behind 
     let asked : ask ≡ ends.0 =
     same_ask command made ask ends.0 next (ap (next_ask command) (sym (parts ∙ append-nil made)) ∙ ends.1) in
     absurd (is_answer one ends.0 ask (content.Refused other) heard behind asked
-    (subst (λ (l : List ℕ). ReplyAt l (Ok (Some (reply_to ends.0 (content.Refused other))))) (sym left) ends.2) here
+    (subst (λ (l : List ℕ). ReplyAt Two l (Ok (Some (reply_to ends.0 (content.Refused other))))) (sym left) ends.2) here
     denies)
 unanswered one command made all [] (Err fault.NoReply) ask heard behind rest next here denies parts follows left ends =
     record { exchanges = parts ∙ append-nil made; ending = refl }
@@ -259,15 +272,15 @@ unanswered one command made all [] (Err fault.NoMemory) ask heard behind rest ne
 
 -- What is read is in the input, or nothing is stated because the reader failed.
 Heard : Ask → List ℕ → Type 0
-Heard ask behind = ((heard : Result (Option Reply) Fault) × ReplyAt behind heard × IsNoReplyTo ask heard) ⊎ ⊤
+Heard ask behind = ((heard : Result (Option Reply) Fault) × ReplyAt Two behind heard × IsNoReplyTo ask heard) ⊎ ⊤
 
 fault_heard : (ask : Ask) (why : Fault) (behind : List ℕ) (rest : Option (List ℕ)) →
-    Faults ReplyFault why (Some behind) rest → Heard ask behind
+    Faults (ReplyFault Two) why (Some behind) rest → Heard ask behind
 unfolding Heard
 fault_heard ask why behind None found = absurd found.1
 fault_heard ask Truncated behind (Some left) found =
     let whole : behind ≡ found.0 = found.1 ∙ ap (λ (l : List ℕ). found.0 ++ l) found.3 ∙ append-nil found.0 in
-    inl (Err Truncated, subst (λ (l : List ℕ). ReplyFault Truncated l) (sym whole) found.2, tt)
+    inl (Err Truncated, subst (λ (l : List ℕ). ReplyFault Two Truncated l) (sym whole) found.2, tt)
 fault_heard ask TooLong behind (Some left) found = inl (Err TooLong, (found.0, left, found.2, found.1), tt)
 fault_heard ask BadOp behind (Some left) found = inl (Err BadOp, (found.0, left, found.2, found.1), tt)
 fault_heard ask BadField behind (Some left) found = inl (Err BadField, (found.0, left, found.2, found.1), tt)
@@ -281,40 +294,71 @@ at_end ask behind (Some left) took ended = inl (Ok None, took ∙ ended, tt)
 
 other_reply : (ask : Ask) (behind : List ℕ) (rest : Option (List ℕ)) (reply : Reply) (text : List ℕ)
     → FitsReply reply text → IsOther ask reply → Consumes (Some behind) rest (reply_encoding reply text)
-    → Heard ask behind
+    → IsUpTo Two reply.version → Heard ask behind
 unfolding Heard
-other_reply ask behind None reply text fits differs took = absurd took
-other_reply ask behind (Some left) reply text fits differs took =
-    inl (Ok (Some reply), (text, left, fits, took), differs)
+other_reply ask behind None reply text fits differs took known = absurd took
+other_reply ask behind (Some left) reply text fits differs took known =
+    inl (Ok (Some reply), (text, left, fits, took, known), differs)
 
 heard_none : (ask : Ask) (behind : List ℕ) (rest : Option (List ℕ)) → HasNoReply ask (Some behind) rest →
     Heard ask behind
 heard_none ask behind rest (inl quiet) = at_end ask behind rest quiet.0 quiet.1
 heard_none ask behind rest (inr (inl found)) = fault_heard ask found.0 behind rest found.1
 heard_none ask behind rest (inr (inr found)) = other_reply ask behind rest found.0 found.1 found.2 found.3 found.4
+    found.5
 
-few_ops : (ask : Ask) → op_number (op_of ask) ≤ 7
-few_ops (Hello cred) = omega arith
-few_ops (Get key flags) = omega arith
-few_ops (Snd id mtype flags) = omega arith
-few_ops (Rcv id size mtype flags) = omega arith
-few_ops (Stat id) = omega arith
-few_ops (Set id to) = omega arith
-few_ops (Rm id) = omega arith
-few_ops (Row slot) = omega arith
+-- The operation is one of version 2.
+abbrev IsSpoken : Ask → Type 0
+IsSpoken ask = op_number (op_of ask) ≤ 7
 
-refusal_heard : (ask : Ask) (error : Errno) (behind : List ℕ) (rest : Option (List ℕ))
+spoken_rows : (slots : List ℕ) → AllByRecursion IsSpoken (map (λ slot. Row slot) slots)
+spoken_rows [] = tt
+spoken_rows (slot ∷ slots) = (omega arith, spoken_rows slots)
+
+spoken_limit : (owner : Cred) (making : Making) (found : ℤ) (qbytes : Option ℕ) →
+    AllByRecursion IsSpoken (limit_asks owner making found qbytes)
+spoken_limit owner making found None = tt
+spoken_limit owner making found (Some qbytes) = (omega arith, tt)
+
+spoken_task : (owner : Cred) (task : Task) (slots : ℕ) (found : ℤ) →
+    AllByRecursion IsSpoken (task_asks owner task slots found)
+unfolding row_asks
+spoken_task owner (Table format) slots found = spoken_rows (range_with_len 0 (min slots MAX_ROWS))
+spoken_task owner (Show id) slots found = (omega arith, tt)
+spoken_task owner (Remove (Id id)) slots found = (omega arith, tt)
+spoken_task owner (Remove (Key key)) slots found = (omega arith, (omega arith, tt))
+spoken_task owner (Remove All) slots found = tt
+spoken_task owner (Make making) slots found = (omega arith, spoken_limit owner making found making.qbytes)
+spoken_task owner (Send key text mtype nowait) slots found = (omega arith, (omega arith, tt))
+spoken_task owner (Receive receipt) slots found = (omega arith, (omega arith, tt))
+
+spoken_at : (asks : List Ask) (place : ℕ) (ask : Ask) → AllByRecursion IsSpoken asks → slice_get asks place ≡ Some ask →
+    IsSpoken ask
+spoken_at [] place ask all is = absurd cc
+spoken_at (first ∷ asks) zero ask all is = let same : first ≡ ask = cc in subst IsSpoken same all.0
+spoken_at (first ∷ asks) (suc place) ask all is = spoken_at asks place ask all.1 is
+
+-- A command makes only requests of version 2.
+spoken_next : (command : Command) (exchanges : List Exchange) (ask : Ask) → next_ask command exchanges ≡ Some ask →
+    IsSpoken ask
+spoken_next command exchanges ask is =
+    spoken_at (asks_of command (slots_in exchanges) (found_in exchanges)) (length exchanges) ask
+    (omega arith, spoken_task command.cred command.task (slots_in exchanges) (found_in exchanges)) is
+
+refusal_heard : (ask : Ask) (error : Errno) (behind : List ℕ) (rest : Option (List ℕ)) → IsSpoken ask
     → Consumes (Some behind) rest (reply_encoding (reply_to ask (content.Refused error)) [])
-    → ReplyAt behind (Ok (Some (reply_to ask (content.Refused error))))
-refusal_heard ask error behind None took = absurd took
-refusal_heard ask error behind (Some left) took = ([], left, (few_ops ask, tt, omega arith), took)
+    → ReplyAt Two behind (Ok (Some (reply_to ask (content.Refused error))))
+refusal_heard ask error behind None spoken took = absurd took
+refusal_heard ask error behind (Some left) spoken took =
+    ([], left, (omega (arith, spoken), tt, omega arith, omega (arith, spoken)), took, omega arith)
 
 -- A dialogue that ended with no reply or with no memory. The dialogue that was made is the whole of what
 -- the input makes, or it was cut this way.
 abbrev pub IsCut : Result ⊤ ClientFault → Type 0
 IsCut was = (was ≡ Err fault.NoReply) ⊎ (was ≡ Err fault.NoMemory)
 
-unheard : (one : OneAnswerToReplies) (command : Command) (made all more : List Exchange) (ended : Result ⊤ ClientFault)
+unheard : (one : OneAnswerToReplies Two) (command : Command) (made all more : List Exchange)
+    (ended : Result ⊤ ClientFault)
     (ask : Ask) (behind rest : List ℕ)
     → next_ask command made ≡ Some ask → Heard ask behind → all ≡ made ++ more → Follows command made more
     → behind ≡ answered_encoding more ++ rest → EndsOn command all ended rest
@@ -325,7 +369,7 @@ unheard one command made all more ended ask behind rest next (inl heard) parts f
     ends)
 unheard one command made all more ended ask behind rest next (inr failed) parts follows left ends = inr (inl refl)
 
-ends_as_made : (one : OneAnswerToReplies) (command : Command) (made all more : List Exchange)
+ends_as_made : (one : OneAnswerToReplies Two) (command : Command) (made all more : List Exchange)
     (was ended : Result ⊤ ClientFault) (behind rest : List ℕ) (left taken written : Option (List ℕ))
     → EndsDialogue command made was (Some behind) left taken written → all ≡ made ++ more → Follows command made more
     → behind ≡ answered_encoding more ++ rest → EndsOn command all ended rest → IsWhole made all was ended ⊎ IsCut was
@@ -334,7 +378,7 @@ ends_as_made one command made all more (Ok done) ended behind rest left taken wr
 ends_as_made one command made all more (Err (fault.Refused error)) ended behind rest left taken written ends parts
     follows same on =
     inl (refused one command made all more ended ends.0 error behind rest ends.2.0
-    (refusal_heard ends.0 error behind left ends.4.1) parts follows same on)
+    (refusal_heard ends.0 error behind left (spoken_next command made ends.0 ends.2.0) ends.4.1) parts follows same on)
 ends_as_made one command made all more (Err fault.NoReply) ended behind rest left taken written
     (ask, ahead, next, few, inl unwritten) parts follows same on = inr (inl refl)
 ends_as_made one command made all more (Err fault.NoReply) ended behind rest left taken written
@@ -344,7 +388,7 @@ ends_as_made one command made all more (Err fault.NoReply) ended behind rest lef
 ends_as_made one command made all more (Err fault.NoMemory) ended behind rest left taken written ends parts follows same
     on = inr (inr refl)
 
-made_of : (one : OneAnswerToReplies) (encoded : OneReply) (command : Command) (made all : List Exchange)
+made_of : (one : OneAnswerToReplies Two) (encoded : OneReply) (command : Command) (made all : List Exchange)
     (was ended : Result ⊤ ClientFault) (input : List ℕ) (unread left taken written : Option (List ℕ))
     → Follows command [] made → Consumes (Some input) unread (answered_encoding made)
     → EndsDialogue command made was unread left taken written → Makes command input all ended
@@ -382,7 +426,7 @@ shown_as_made command made all was ended status shown after shows (inr (inr cut)
     shows)))
 
 -- A client shows what its input makes of its command.
-pub shows_parse : OneAnswerToReplies → OneReply
+pub shows_parse : OneAnswerToReplies Two → OneReply
     → (command : Command) (status : ℤ) (left rest taken more shown after : Option (List ℕ))
     → Runs command status left rest taken more shown after
     → (input : List ℕ) (all : List Exchange) (ended : Result ⊤ ClientFault) → left ≡ Some input

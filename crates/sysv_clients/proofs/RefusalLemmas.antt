@@ -171,6 +171,9 @@ done_accepts (content.Rcv mtype) is = refl
 done_accepts (content.Stat stat) is = refl
 done_accepts content.Set is = refl
 done_accepts content.Rm is = refl
+done_accepts content.Done is = refl
+done_accepts content.Back is = refl
+done_accepts (content.Hold mtype) is = refl
 done_accepts (content.Row row) is = refl
 
 ends_refused : (sending : Sending) (error : Errno) (left mid rest taken more fed unsent unfed : Option (List ℕ))

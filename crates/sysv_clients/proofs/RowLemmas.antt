@@ -175,6 +175,9 @@ welcome_text cred style (content.Rcv mtype) given fits = absurd (omega (arith, f
 welcome_text cred style (content.Stat stat) given fits = absurd (omega (arith, fits))
 welcome_text cred style content.Set given fits = refl
 welcome_text cred style content.Rm given fits = refl
+welcome_text cred style content.Done given fits = refl
+welcome_text cred style content.Back given fits = refl
+welcome_text cred style (content.Hold mtype) given fits = refl
 welcome_text cred style (content.Row None) given fits = refl
 welcome_text cred style (content.Row (Some row)) given fits = absurd (omega (arith, fits.0))
 
@@ -212,6 +215,9 @@ row_answer slot slots id (content.Rcv mtype) fits = (refl, refl)
 row_answer slot slots id (content.Stat stat) fits = (refl, refl)
 row_answer slot slots id content.Set fits = (refl, refl)
 row_answer slot slots id content.Rm fits = (refl, refl)
+row_answer slot slots id content.Done fits = (refl, refl)
+row_answer slot slots id content.Back fits = (refl, refl)
+row_answer slot slots id (content.Hold mtype) fits = (refl, refl)
 
 -- The request for a row is no msgrcv.
 pub no_receive : (slot place : ℕ) → is_receive (Row slot) ≡ true → place ≡ 2

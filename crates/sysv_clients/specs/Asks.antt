@@ -18,7 +18,7 @@ use Rattle.sysv_model.specs.declared.flags.TheConstants.Flags.{IPC_CREAT, IPC_EX
 use Rattle.sysv_model.specs.declared.flags.TheConstants.Flags.{MSG_NOERROR, USER_READ, USER_WRITE}
 use Rattle.sysv_wire.specs.declared.frame.Version.TheVariants.{Two}
 use Rattle.sysv_wire.specs.declared.request.Ask.{Ask}
-use Rattle.sysv_wire.specs.declared.request.Ask.TheVariants.{Hello, Get, Snd, Rcv, Stat, Set, Rm, Row}
+use Rattle.sysv_wire.specs.declared.request.Ask.TheVariants.{Hello, Get, Snd, Rcv, Stat, Set, Rm, Row, Hold, Done, Back}
 use Rattle.sysv_wire.specs.declared.request.Request.{Request}
 
 -- A request of a client. All are of version 2.
@@ -114,6 +114,9 @@ is_receive (Stat id) = false
 is_receive (Set id to) = false
 is_receive (Rm id) = false
 is_receive (Row slot) = false
+is_receive (Hold id size mtype flags seconds) = false
+is_receive Done = false
+is_receive Back = false
 
 -- The body that a command sends.
 abbrev pub text_of : Task → List ℕ

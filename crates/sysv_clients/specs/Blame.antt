@@ -10,10 +10,12 @@ use Rattle.sysv_clients.specs.Dialogue.{Exchange, IsOther, Conversed, Converses,
 use Rattle.sysv_model.specs.declared.instrumented.Instrumented.{Instrumented}
 use Rattle.sysv_model.specs.Instrumented.{failures_after, failures_of, stream_of}
 use Rattle.sysv_wire.specs.declared.fault.Fault.{Fault}
+use Rattle.sysv_wire.specs.declared.frame.Version.TheVariants.{Two}
 use Rattle.sysv_wire.specs.declared.reply.ReplyContent.{ReplyContent}
 use Rattle.sysv_wire.specs.declared.reply.Reply.{Reply}
 use Rattle.sysv_wire.specs.declared.request.Ask.{Ask}
 use Rattle.sysv_wire.specs.Faults.{Faults, is_read}
+use Rattle.sysv_wire.specs.Frames.{IsUpTo}
 use Rattle.sysv_wire.specs.Replies.{FitsReply, reply_encoding}
 use Rattle.sysv_wire.specs.ReplyFaults.{ReplyFault}
 
@@ -23,9 +25,9 @@ use Rattle.sysv_wire.specs.ReplyFaults.{ReplyFault}
 abbrev pub Unheard : Ask → (had has : ℕ) → (left rest : Option (List ℕ)) → Type 0
 Unheard ask had has left rest =
     (Consumes left rest [] × IsAtEnd rest × (has ≡ had))
-    ⊎ ((fault : Fault) × Faults ReplyFault fault left rest × (has ≡ failures_after (is_read fault) had))
+    ⊎ ((fault : Fault) × Faults (ReplyFault Two) fault left rest × (has ≡ failures_after (is_read fault) had))
     ⊎ ((reply : Reply) × (text : List ℕ) × FitsReply reply text × IsOther ask reply
-    × Consumes left rest (reply_encoding reply text) × (has ≡ had))
+    × Consumes left rest (reply_encoding reply text) × IsUpTo Two reply.version × (has ≡ had))
 
 -- What was read as the reply, by the reader's count of failures.
 abbrev pub HeardBy : Ask → Result ReplyContent ClientFault → (had has : ℕ) → (left rest : Option (List ℕ)) → Type 0

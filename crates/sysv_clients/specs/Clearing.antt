@@ -15,7 +15,7 @@ use Rattle.sysv_model.specs.declared.errno.Errno.TheVariants as error
 use Rattle.sysv_wire.specs.declared.reply.ReplyContent.{ReplyContent}
 use Rattle.sysv_wire.specs.declared.reply.ReplyContent.TheVariants as content
 use Rattle.sysv_wire.specs.declared.request.Ask.{Ask}
-use Rattle.sysv_wire.specs.declared.request.Ask.TheVariants.{Hello, Get, Snd, Rcv, Stat, Set, Rm, Row}
+use Rattle.sysv_wire.specs.declared.request.Ask.TheVariants.{Hello, Get, Snd, Rcv, Stat, Set, Rm, Row, Hold, Done, Back}
 
 -- The clearing after the reply to the hello, which states the number of slots.
 abbrev pub begun : ReplyContent → Clearing
@@ -34,6 +34,9 @@ id_of_row (content.Rcv mtype) = None
 id_of_row (content.Stat stat) = None
 id_of_row content.Set = None
 id_of_row content.Rm = None
+id_of_row content.Done = None
+id_of_row content.Back = None
+id_of_row (content.Hold mtype) = None
 
 -- The clearing after one more reply: to a removal if a queue was found, and otherwise to the request
 -- of a row.
@@ -108,6 +111,9 @@ refused_by (Rm id) answer = refusal_in id answer
     refusal_in id (content.Stat stat) = []
     refusal_in id content.Set = []
     refusal_in id content.Rm = []
+    refusal_in id content.Done = []
+    refusal_in id content.Back = []
+    refusal_in id (content.Hold mtype) = []
 refused_by (Hello cred) answer = []
 refused_by (Get key flags) answer = []
 refused_by (Snd id mtype flags) answer = []
@@ -115,6 +121,9 @@ refused_by (Rcv id size mtype flags) answer = []
 refused_by (Stat id) answer = []
 refused_by (Set id to) answer = []
 refused_by (Row slot) answer = []
+refused_by (Hold id size mtype flags seconds) answer = []
+refused_by Done answer = []
+refused_by Back answer = []
 
 -- What is reported of these calls, in order.
 abbrev pub refusals_of : List Call → List Refusal

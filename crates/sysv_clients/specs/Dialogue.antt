@@ -16,11 +16,11 @@ use Rattle.sysv_wire.specs.declared.fault.Fault.{Fault}
 use Rattle.sysv_wire.specs.declared.frame.Version.TheVariants.{Two}
 use Rattle.sysv_wire.specs.declared.reply.ReplyContent.{ReplyContent}
 use Rattle.sysv_wire.specs.declared.reply.ReplyContent.TheVariants.{Refused, Hello, HelloSlots, Get, Snd, Rcv, Stat}
-use Rattle.sysv_wire.specs.declared.reply.ReplyContent.TheVariants.{Set, Rm, Row}
+use Rattle.sysv_wire.specs.declared.reply.ReplyContent.TheVariants.{Set, Rm, Row, Hold, Done, Back}
 use Rattle.sysv_wire.specs.declared.reply.Reply.{Reply}
 use Rattle.sysv_wire.specs.declared.request.Ask.{Ask}
 use Rattle.sysv_wire.specs.Faults.{Faults}
-use Rattle.sysv_wire.specs.Frames.{op_number}
+use Rattle.sysv_wire.specs.Frames.{IsUpTo, op_number}
 use Rattle.sysv_wire.specs.Replies.{FitsReply, error_number, content_text, reply_encoding}
 use Rattle.sysv_wire.specs.ReplyFaults.{ReplyFault}
 use Rattle.sysv_wire.specs.Requests.{op_of, request_encoding}
@@ -66,6 +66,9 @@ id_after found (Rcv mtype) = found
 id_after found (Stat stat) = found
 id_after found Set = found
 id_after found Rm = found
+id_after found Done = found
+id_after found Back = found
+id_after found (Hold mtype) = found
 id_after found (Row row) = found
 
 -- The number of slots that the reply to the hello states, 0 before it.
@@ -79,6 +82,9 @@ slots_after slots (Rcv mtype) = slots
 slots_after slots (Stat stat) = slots
 slots_after slots Set = slots
 slots_after slots Rm = slots
+slots_after slots Done = slots
+slots_after slots Back = slots
+slots_after slots (Hold mtype) = slots
 slots_after slots (Row row) = slots
 
 -- The number of slots that the reply to the hello states, after these exchanges.
@@ -136,9 +142,9 @@ IsOther ask reply = (reply.version ≢ Two) ⊎ (reply.op ≢ op_number (op_of a
 abbrev pub HasNoReply : Ask → (left rest : Option (List ℕ)) → Type 0
 HasNoReply ask left rest =
     (Consumes left rest [] × IsAtEnd rest)
-    ⊎ ((fault : Fault) × Faults ReplyFault fault left rest)
+    ⊎ ((fault : Fault) × Faults (ReplyFault Two) fault left rest)
     ⊎ ((reply : Reply) × (text : List ℕ) × FitsReply reply text × IsOther ask reply
-    × Consumes left rest (reply_encoding reply text))
+    × Consumes left rest (reply_encoding reply text) × IsUpTo Two reply.version)
 
 -- What was read as the reply to a request.
 abbrev pub Hears : Ask → Result ReplyContent ClientFault → (left rest : Option (List ℕ)) → List ℕ → Type 0

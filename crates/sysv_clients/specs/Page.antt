@@ -17,7 +17,7 @@ use Rattle.sysv_clients.specs.Dialogue.{Exchange}
 use Rattle.sysv_model.specs.declared.attributes.Row.{Row as RowOf}
 use Rattle.sysv_wire.specs.declared.reply.ReplyContent.{ReplyContent}
 use Rattle.sysv_wire.specs.declared.reply.ReplyContent.TheVariants.{Refused, Hello, HelloSlots, Get, Snd, Rcv, Stat}
-use Rattle.sysv_wire.specs.declared.reply.ReplyContent.TheVariants.{Set, Rm, Row}
+use Rattle.sysv_wire.specs.declared.reply.ReplyContent.TheVariants.{Set, Rm, Row, Hold, Done, Back}
 
 -- The line of a row.
 abbrev pub row_text : Style → RowOf → List ℕ
@@ -55,6 +55,9 @@ answer_text style (HelloSlots slots) given = []
 answer_text style Snd given = []
 answer_text style Set given = []
 answer_text style Rm given = []
+answer_text style Done given = []
+answer_text style Back given = []
+answer_text style (Hold mtype) given = []
 
 -- What is shown before the results: for `ipcs` the head of the table.
 abbrev pub task_head : Task → List ℕ
@@ -86,3 +89,6 @@ answer_most Snd = MAX_LINE
 answer_most (Stat stat) = MAX_LINE
 answer_most Set = MAX_LINE
 answer_most Rm = MAX_LINE
+answer_most Done = MAX_LINE
+answer_most Back = MAX_LINE
+answer_most (Hold mtype) = MAX_LINE

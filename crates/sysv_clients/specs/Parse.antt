@@ -9,6 +9,7 @@ use Rattle.sysv_clients.specs.Faults.{fault_line}
 use Rattle.sysv_clients.specs.Run.{Shows, shown_text, status_of}
 use Rattle.sysv_clients.specs.Dialogue.{Exchange, IsOther, Conversed, answered_encoding, next_ask, reply_to}
 use Rattle.sysv_wire.specs.declared.fault.Fault.{Fault}
+use Rattle.sysv_wire.specs.declared.frame.Version.TheVariants.{Two}
 use Rattle.sysv_wire.specs.declared.reply.ReplyContent.TheVariants.{Refused}
 use Rattle.sysv_wire.specs.declared.reply.Reply.{Reply}
 use Rattle.sysv_wire.specs.declared.request.Ask.{Ask}
@@ -25,10 +26,10 @@ IsNoReplyTo ask (Err why) = ⊤
 abbrev pub EndsOn : Command → List Exchange → Result ⊤ ClientFault → List ℕ → Type 0
 EndsOn command exchanges (Ok done) rest = next_ask command exchanges ≡ None
 EndsOn command exchanges (Err (fault.Refused error)) rest =
-    (ask : Ask) × (next_ask command exchanges ≡ Some ask) × ReplyAt rest (Ok (Some (reply_to ask (Refused error))))
+    (ask : Ask) × (next_ask command exchanges ≡ Some ask) × ReplyAt Two rest (Ok (Some (reply_to ask (Refused error))))
 EndsOn command exchanges (Err fault.NoReply) rest =
     (ask : Ask) × (answer : Result (Option Reply) Fault) × (next_ask command exchanges ≡ Some ask)
-    × IsNoReplyTo ask answer × ReplyAt rest answer
+    × IsNoReplyTo ask answer × ReplyAt Two rest answer
 EndsOn command exchanges (Err fault.NoMemory) rest = ⊥
 
 -- The input is the replies to these exchanges, and then what ends the dialogue.

@@ -77,6 +77,9 @@ accepts (content.Rcv mtype) = 1
 accepts (content.Stat stat) = 1
 accepts content.Set = 1
 accepts content.Rm = 1
+accepts content.Done = 1
+accepts content.Back = 1
+accepts (content.Hold mtype) = 1
 accepts (content.Row row) = 1
 
 -- The number of these sends that were accepted.

@@ -38,6 +38,9 @@ received_text style content.Snd given = []
 received_text style (content.Stat stat) given = []
 received_text style content.Set given = []
 received_text style content.Rm given = []
+received_text style content.Done given = []
+received_text style content.Back given = []
+received_text style (content.Hold mtype) given = []
 
 -- What is shown of these calls, in order.
 abbrev pub shown_by : Style → List Call → List ℕ

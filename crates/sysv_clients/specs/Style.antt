@@ -47,3 +47,6 @@ grows style (content.HelloSlots slots) = false
 grows style content.Snd = false
 grows style content.Set = false
 grows style content.Rm = false
+grows style content.Done = false
+grows style content.Back = false
+grows style (content.Hold mtype) = false

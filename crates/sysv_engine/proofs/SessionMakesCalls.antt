@@ -14,7 +14,7 @@ use Rattle.sysv_session.specs.declared.handler.RequestOutcome.{RequestOutcome}
 use Rattle.sysv_session.specs.Calls.{Call, Leads}
 use Rattle.sysv_wire.specs.declared.frame.Version.{Version}
 use Rattle.sysv_wire.specs.declared.request.Ask.{Ask}
-use Rattle.sysv_wire.specs.declared.request.Ask.TheVariants.{Hello, Get, Snd, Rcv, Stat, Set, Rm, Row}
+use Rattle.sysv_wire.specs.declared.request.Ask.TheVariants.{Hello, Get, Snd, Rcv, Stat, Set, Rm, Row, Hold, Done, Back}
 use Rattle.sysv_thread_laws.specs.Lifetime.{EachRunIsAtAnyMoment, call_of}
 use Rattle.sysv_steps.specs.Stepping.{no_moment}
 use Rattle.sysv_service.specs.Ran.{Pass, Ran}
@@ -41,6 +41,14 @@ one_call : (may : ℕ → Type 0) → EachRunIsAtAnyMoment may →
 one_call may any cred asked released start mid made ops state new ran works =
     working.calls cred asked released ops state new works
     (any (kind_of asked) (begin cred asked released) mid ops state new ran).0
+
+-- No call was made, and the pass is the same.
+still : (start old new : Pass) (made : List Called) → new ≡ old → Works start made old → Works start (made ++ []) new
+still start old new made is works =
+    subst (Works start (made ++ [])) (sym is) (subst (λ calls. Works start calls old) (sym (append-nil made)) works)
+
+same_log : (old new : Pass) (made : List Called) → new ≡ old → log new (made ++ []) ≡ log old made
+same_log old new made is = ap (λ (p : Pass). log p (made ++ [])) is ∙ ap (log old) (append-nil made)
 
 module _ (may : ℕ → Type 0) (may_leave : Type 0) (any : EachRunIsAtAnyMoment may)
     (unstamped : EachRunIsAtAnyMoment no_moment) (version : Version) (cred : Cred) where
@@ -159,6 +167,24 @@ module _ (may : ℕ → Type 0) (may_leave : Type 0) (any : EachRunIsAtAnyMoment
         (working.asks_row slot asked.0.0 new works asked.0.1);
     asks = λ made. ((asked.0.0, (asked.0.1, append-nil made), asked.0.2), asked.1);
   }
+  makes (Hold id size mtype flags seconds) text old outcome given new asked = record {
+    calls = [];
+    rests = tt;
+    works = λ start made works. still start old new made asked.0.0 works;
+    asks = λ made. ((same_log old new made asked.0.0, asked.0.1), asked.1);
+  }
+  makes Done text old outcome given new asked = record {
+    calls = [];
+    rests = tt;
+    works = λ start made works. still start old new made asked.0.0 works;
+    asks = λ made. ((same_log old new made asked.0.0, asked.0.1), asked.1);
+  }
+  makes Back text old outcome given new asked = record {
+    calls = [];
+    rests = tt;
+    works = λ start made works. still start old new made asked.0.0 works;
+    asks = λ made. ((same_log old new made asked.0.0, asked.0.1), asked.1);
+  }
 
 module _ (may : ℕ → Type 0) (may_leave : Type 0) (any : EachRunIsAtAnyMoment may)
     (unstamped : EachRunIsAtAnyMoment no_moment) where
@@ -175,10 +201,8 @@ module _ (may : ℕ → Type 0) (may_leave : Type 0) (any : EachRunIsAtAnyMoment
   led cred old [] new is = record {
     calls_made = [];
     rests = tt;
-    works = λ start made works.
-        subst (Works start (made ++ [])) (sym is)
-        (subst (λ calls. Works start calls old) (sym (append-nil made)) works);
-    leads = λ made. ap (λ (p : Pass). log p (made ++ [])) is ∙ ap (log old) (append-nil made);
+    works = λ start made works. still start old new made is works;
+    leads = λ made. same_log old new made is;
   }
   led cred old (call ∷ calls) new leads =
       let one = makes may may_leave any unstamped call.request.version cred call.request.ask call.text old call.outcome
@@ -201,10 +225,9 @@ module _ (may : ℕ → Type 0) (may_leave : Type 0) (any : EachRunIsAtAnyMoment
   pub each_session : EachSessionMakesCalls may may_leave
   each_session start old new made served left rest taken more works (inl stays) = (
     [],
-    subst (Works start (made ++ [])) (sym stays.handler)
-        (subst (λ calls. Works start calls old) (sym (append-nil made)) works),
+    still start old new made stays.handler works,
     inl (record {
-      handler = ap (λ (p : Pass). log p (made ++ [])) stays.handler ∙ ap (log old) (append-nil made);
+      handler = same_log old new made stays.handler;
       ends = stays.ends;
       writes = stays.writes;
       tallies = stays.tallies;

@@ -1,6 +1,6 @@
 -- The calls of a service that a session makes: one for each request, except for a request for a
--- row. Each request is answered as its call ended, or its call was left at a wait and has no reply
--- (this project's profile).
+-- row and for one that would hold a message, which is refused. Each request is answered as its call
+-- ended, or its call was left at a wait and has no reply (this project's profile).
 use Rattle.std.specs.Prelude.{◌≡◌, ℕ, List, [], ◌∷◌, ◌++◌, Option, Result}
 use Rattle.sysv_keys.specs.declared.identifier.TheConstants.{SLOTS}
 use Rattle.sysv_model.specs.declared.attributes.Row.{Row}
@@ -17,6 +17,7 @@ use Rattle.sysv_service.specs.Ran.{Pass, Ran}
 use Rattle.sysv_service.specs.Told.{TellsRow}
 use Rattle.sysv_thread_laws.specs.Working.{Works}
 use Rattle.sysv_steps.specs.Begin.{begin}
+use Rattle.sysv_wire.specs.declared.frame.Version.TheVariants.{Two}
 use Rattle.sysv_seats.specs.Asked.{ReadsReleased, ServesPassTogether}
 use Rattle.sysv_seats.specs.Requests as requests
 use Rattle.sysv_seats.specs.Requests.{Going}
@@ -54,7 +55,7 @@ makes_with may may_leave old cred request text outcome given new =
 abbrev pub ServesLog : (ℕ → Type 0) → Type 0 → Served → (old new : Log) → (left rest taken more : Option (List ℕ)) →
     Type 0
 ServesLog may may_leave served old new left rest taken more =
-    ServesTogether (makes_with may may_leave) SLOTS served old new left rest taken more
+    ServesTogether Two (makes_with may may_leave) SLOTS served old new left rest taken more
 
 -- Each session over a service makes such calls, and no other call is made with its pass: together
 -- with the calls that were made from a start up to the session, they are all that the pass made

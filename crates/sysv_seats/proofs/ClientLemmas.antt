@@ -27,6 +27,7 @@ use Rattle.sysv_session.proofs.OutboxLemmas.{each_once}
 use Rattle.sysv_service.specs.Ran.{Pass}
 use Rattle.sysv_wire.specs.declared.fault.Fault.TheVariants.{Truncated, TooLong, BadOp, BadField, Read}
 use Rattle.sysv_wire.specs.declared.frame.Version.{Version}
+use Rattle.sysv_wire.specs.declared.frame.Version.TheVariants.{Two}
 use Rattle.sysv_seats.specs.declared.parked.Parked.{Parked}
 use Rattle.sysv_seats.specs.Asked.{asks_with}
 use Rattle.sysv_seats.specs.Breaking.{Breaks, HasCause, MayEnd}
@@ -105,37 +106,37 @@ put_cause breaks version outcome given old new Bound replied put = absurd put
 put_cause breaks version outcome given old new Reset replied put = absurd put
 
 -- What is read of the input stops the client for a reason in the input.
-ends_cause : (breaks : Breaks) (caller : Option (Version × Cred)) (requests : ℕ) (why : End)
+ends_cause : (breaks : Breaks) (newest : Version) (caller : Option (Version × Cred)) (requests : ℕ) (why : End)
     (left rest : Option (List ℕ)) (text : List ℕ) (is_end : Bool) → is_early why is_end ≡ false →
-    EndsHere caller requests why left rest text → MayEnd breaks why
-ends_cause breaks caller requests Ended left rest text is_end late here = tt
-ends_cause breaks caller requests NoMemory left rest text is_end late here = tt
-ends_cause breaks caller requests NoHello left rest text is_end late here = tt
-ends_cause breaks caller requests (Fault Truncated) left rest text is_end late here = tt
-ends_cause breaks caller requests (Fault TooLong) left rest text is_end late here = tt
-ends_cause breaks caller requests (Fault BadOp) left rest text is_end late here = tt
-ends_cause breaks caller requests (Fault BadField) left rest text is_end late here = tt
-ends_cause breaks caller requests (Fault Read) left rest text is_end late here = absurd (cc late)
-ends_cause breaks None requests Write left rest text is_end late here = absurd here.0
-ends_cause breaks (Some caller) requests Write left rest text is_end late (inl bound) =
+    EndsHere newest caller requests why left rest text → MayEnd breaks why
+ends_cause breaks newest caller requests Ended left rest text is_end late here = tt
+ends_cause breaks newest caller requests NoMemory left rest text is_end late here = tt
+ends_cause breaks newest caller requests NoHello left rest text is_end late here = tt
+ends_cause breaks newest caller requests (Fault Truncated) left rest text is_end late here = tt
+ends_cause breaks newest caller requests (Fault TooLong) left rest text is_end late here = tt
+ends_cause breaks newest caller requests (Fault BadOp) left rest text is_end late here = tt
+ends_cause breaks newest caller requests (Fault BadField) left rest text is_end late here = tt
+ends_cause breaks newest caller requests (Fault Read) left rest text is_end late here = absurd (cc late)
+ends_cause breaks newest None requests Write left rest text is_end late here = absurd here.0
+ends_cause breaks newest (Some caller) requests Write left rest text is_end late (inl bound) =
     absurd (let other : Write ≡ Bound = bound.1 in cc other)
-ends_cause breaks (Some caller) requests Write left rest text is_end late (inr read) = absurd read.1
-ends_cause breaks caller requests Bound left rest text is_end late here = tt
-ends_cause breaks None requests Left left rest text is_end late here = absurd here.0
-ends_cause breaks (Some caller) requests Left left rest text is_end late (inl bound) =
+ends_cause breaks newest (Some caller) requests Write left rest text is_end late (inr read) = absurd read.1
+ends_cause breaks newest caller requests Bound left rest text is_end late here = tt
+ends_cause breaks newest None requests Left left rest text is_end late here = absurd here.0
+ends_cause breaks newest (Some caller) requests Left left rest text is_end late (inl bound) =
     absurd (let other : Left ≡ Bound = bound.1 in cc other)
-ends_cause breaks (Some caller) requests Left left rest text is_end late (inr read) = absurd read.1
-ends_cause breaks None requests Reset left rest text is_end late here = absurd here.0
-ends_cause breaks (Some caller) requests Reset left rest text is_end late (inl bound) =
+ends_cause breaks newest (Some caller) requests Left left rest text is_end late (inr read) = absurd read.1
+ends_cause breaks newest None requests Reset left rest text is_end late here = absurd here.0
+ends_cause breaks newest (Some caller) requests Reset left rest text is_end late (inl bound) =
     absurd (let other : Reset ≡ Bound = bound.1 in cc other)
-ends_cause breaks (Some caller) requests Reset left rest text is_end late (inr read) = absurd read.1
+ends_cause breaks newest (Some caller) requests Reset left rest text is_end late (inr read) = absurd read.1
 
 pub taken_cause : (breaks : Breaks) (old new : Session) (result : Result TakenUp End) (why : End)
     (left rest : Option (List ℕ)) (text : List ℕ) (is_end : Bool) → result ≡ Err why → is_early why is_end ≡ false →
     TakesUp old new result left rest text → MayEnd breaks why
 taken_cause breaks old new result why left rest text is_end is late takes =
     let here = subst (λ (r : Result TakenUp End). TakesUp old new r left rest text) is takes in
-    ends_cause breaks old.caller old.requests why left rest text is_end late here.1
+    ends_cause breaks old.newest old.caller old.requests why left rest text is_end late here.1
 
 -- A client that may be closed ends its session for a reason that there is.
 reported_cause : (breaks : Breaks) (why : End) (bytes : List ℕ) → MayEnd breaks why →
@@ -287,7 +288,7 @@ module _ {T : Type 0} (incoming outgoing : T → Option (List ℕ)) where
   read_at start origin client now sent ready = (
     prepend_known client.input (incoming client.connection),
     behind client.input (incoming client.connection),
-    stops_read (asks_with zero_moment ⊤) SLOTS client.dialogue start now (incoming origin)
+    stops_read Two (asks_with zero_moment ⊤) SLOTS client.dialogue start now (incoming origin)
         (prepend_known client.input (incoming client.connection)) sent ready,
   )
 
@@ -307,7 +308,7 @@ module _ {T : Type 0} (incoming outgoing : T → Option (List ℕ)) where
   reset_at start origin client now sent ready = (
     prepend_known client.input (incoming client.connection),
     behind client.input (incoming client.connection),
-    stops_reset (asks_with zero_moment ⊤) SLOTS client.dialogue start now (incoming origin)
+    stops_reset Two (asks_with zero_moment ⊤) SLOTS client.dialogue start now (incoming origin)
         (prepend_known client.input (incoming client.connection)) sent ready,
   )
 
@@ -329,7 +330,7 @@ module _ {T : Type 0} (incoming outgoing : T → Option (List ℕ)) where
     at = is_stopped start origin (stopped_for Write client) now sits.sent Write free.0 (
       prepend_known client.input (incoming client.connection),
       behind client.input (incoming client.connection),
-      stops_write (asks_with zero_moment ⊤) SLOTS client.dialogue start now (incoming origin)
+      stops_write Two (asks_with zero_moment ⊤) SLOTS client.dialogue start now (incoming origin)
           (prepend_known client.input (incoming client.connection)) sits.sent
           (some_bytes client.dialogue.unsent.bytes some) (is_ready start origin client now sits.sent free sits.at),
     );
@@ -346,7 +347,7 @@ module _ {T : Type 0} (incoming outgoing : T → Option (List ℕ)) where
     wrote = subst (λ (o : Option (List ℕ)). Appends (outgoing origin) o sits.sent) (sym same) sits.wrote;
     at = is_at start origin (with_input (client.input ++ bytes) (on connection client)) now sits.sent free
         (subst (λ (o : Option (List ℕ)).
-        Stands (asks_with zero_moment ⊤) SLOTS client.dialogue start now (incoming origin)
+        Stands Two (asks_with zero_moment ⊤) SLOTS client.dialogue start now (incoming origin)
         o sits.sent)
         (same_unread client.input bytes (incoming client.connection) (incoming connection) took none)
         (is_ready start origin client now sits.sent free sits.at));
@@ -363,7 +364,7 @@ module _ {T : Type 0} (incoming outgoing : T → Option (List ℕ)) where
     at = is_stopped start origin (stopped_for NoMemory (on connection client)) now sits.sent NoMemory free.0 (
       prepend_known client.input (incoming client.connection),
       behind_read client.input bytes (incoming client.connection) (incoming connection) took,
-      stops_memory (asks_with zero_moment ⊤) SLOTS client.dialogue start now (incoming origin)
+      stops_memory Two (asks_with zero_moment ⊤) SLOTS client.dialogue start now (incoming origin)
           (prepend_known client.input (incoming client.connection)) sits.sent
           (is_ready start origin client now sits.sent free sits.at),
     );
@@ -463,7 +464,7 @@ module _ {T : Type 0} (incoming outgoing : T → Option (List ℕ)) where
       parked.waiting now tt waits.waits in (
         prepend_known waits.later (incoming client.connection),
         behind waits.later (incoming client.connection),
-        leaves (asks_with zero_moment ⊤) SLOTS parked.cred parked.request waits.text [] client.dialogue start
+        leaves Two (asks_with zero_moment ⊤) SLOTS parked.cred parked.request waits.text [] client.dialogue start
             waits.before
             now (incoming origin) (prepend_known waits.later (incoming client.connection)) sent waits.asking told refl,
       )
@@ -485,13 +486,14 @@ module _ {T : Type 0} (incoming outgoing : T → Option (List ℕ)) where
       IsAt incoming outgoing start origin client now sent parked stopped →
       IsAt incoming outgoing start origin (on connection client) now sent parked stopped
   turned_at start origin client connection now sent None None same at =
-      subst (λ (o : Option (List ℕ)). Stands (asks_with zero_moment ⊤) SLOTS client.dialogue start now (incoming origin)
+      subst (λ (o : Option (List ℕ)).
+      Stands Two (asks_with zero_moment ⊤) SLOTS client.dialogue start now (incoming origin)
       (prepend_known client.input o) sent) (sym same) at
   turned_at start origin client connection now sent (Some parked) None same at = record {
     text = at.text;
     before = at.before;
     later = at.later;
-    asking = subst (λ (o : Option (List ℕ)). StandsAsking (asks_with zero_moment ⊤) SLOTS parked.cred parked.request
+    asking = subst (λ (o : Option (List ℕ)). StandsAsking Two (asks_with zero_moment ⊤) SLOTS parked.cred parked.request
         at.text client.dialogue start at.before (incoming origin) (prepend_known at.later o) sent) (sym same) at.asking;
     frame = at.frame;
     size = at.size;
@@ -590,20 +592,21 @@ module _ {T : Type 0} (incoming outgoing : T → Option (List ℕ)) where
       IsAt incoming outgoing start origin (with_sent connection n client) now
       (sent ++ take n client.dialogue.unsent.bytes) parked stopped
   drained_at start origin client connection n now sent None None fits same at =
-      sends (asks_with zero_moment ⊤) SLOTS n client.dialogue (sent_on n client.dialogue) start now (incoming origin)
+      sends Two (asks_with zero_moment ⊤) SLOTS n client.dialogue (sent_on n client.dialogue) start now
+      (incoming origin)
       (prepend_known client.input (incoming connection)) sent fits refl
       (subst (λ (o : Option (List ℕ)).
-      Stands (asks_with zero_moment ⊤) SLOTS client.dialogue start now (incoming origin)
+      Stands Two (asks_with zero_moment ⊤) SLOTS client.dialogue start now (incoming origin)
       (prepend_known client.input o) sent) (sym same) at)
   drained_at start origin client connection n now sent (Some parked) None fits same at = record {
     text = at.text;
     before = at.before;
     later = at.later;
-    asking = sends_asking (asks_with zero_moment ⊤) SLOTS parked.cred parked.request at.text n client.dialogue
+    asking = sends_asking Two (asks_with zero_moment ⊤) SLOTS parked.cred parked.request at.text n client.dialogue
         (sent_on n client.dialogue) start at.before (incoming origin) (prepend_known at.later (incoming connection))
         sent
         fits refl
-        (subst (λ (o : Option (List ℕ)). StandsAsking (asks_with zero_moment ⊤) SLOTS parked.cred parked.request
+        (subst (λ (o : Option (List ℕ)). StandsAsking Two (asks_with zero_moment ⊤) SLOTS parked.cred parked.request
         at.text client.dialogue start at.before (incoming origin) (prepend_known at.later o) sent) (sym same)
         at.asking);
     frame = at.frame;
@@ -613,7 +616,7 @@ module _ {T : Type 0} (incoming outgoing : T → Option (List ℕ)) where
   drained_at start origin client connection n now sent None (Some why) fits same at = (
     at.0,
     subst (λ (o : Option (List ℕ)). IsBehind at.0 o) (sym same) at.1,
-    sends_stopped (asks_with zero_moment ⊤) SLOTS why n client.dialogue (sent_on n client.dialogue) start now
+    sends_stopped Two (asks_with zero_moment ⊤) SLOTS why n client.dialogue (sent_on n client.dialogue) start now
         (incoming origin)
         at.0 sent fits refl at.2,
   )
@@ -654,19 +657,21 @@ module _ {T : Type 0} (incoming outgoing : T → Option (List ℕ)) where
   -- ---- the first and the last event
 
   -- A new client.
-  pub opened : (client : Sitting T) (pass : Pass) → client.dialogue.session.caller ≡ None →
+  pub opened : (client : Sitting T) (pass : Pass) → client.dialogue.session.newest ≡ Two →
+      client.dialogue.session.caller ≡ None →
       client.dialogue.session.tally ≡ record { written = 0; lost = 0 } → client.dialogue.session.requests ≡ 0 →
       client.dialogue.unsent ≡ record { bytes = []; marks = [] } → client.input ≡ [] → IsFree client →
       Sits incoming outgoing pass client.connection client pass
-  opened client pass caller tally requests unsent none free = record {
+  opened client pass limit caller tally requests unsent none free = record {
     sent = [];
     wrote = Appends-nil (outgoing client.connection);
     at = is_at pass client.connection client pass [] free
-        (subst (λ (o : Option (List ℕ)). Stands (asks_with zero_moment ⊤) SLOTS client.dialogue pass pass
+        (subst (λ (o : Option (List ℕ)). Stands Two (asks_with zero_moment ⊤) SLOTS client.dialogue pass pass
         (incoming client.connection) o [])
         (sym (ap (λ (l : List ℕ). prepend_known l (incoming client.connection)) none
         ∙ prepend_known-nil (incoming client.connection)))
-        (opens (asks_with zero_moment ⊤) SLOTS client.dialogue pass (incoming client.connection) caller tally requests
+        (opens Two (asks_with zero_moment ⊤) SLOTS client.dialogue pass (incoming client.connection) limit caller tally
+        requests
         unsent));
   }
 
@@ -693,7 +698,7 @@ module _ {T : Type 0} (incoming outgoing : T → Option (List ℕ)) where
         rest = stopped.0;
         kept = incoming client.connection;
         more = outgoing client.connection;
-        serves = ends (asks_with zero_moment ⊤) SLOTS why client.dialogue start now (incoming origin) stopped.0
+        serves = ends Two (asks_with zero_moment ⊤) SLOTS why client.dialogue start now (incoming origin) stopped.0
             (outgoing origin) (outgoing client.connection) sits.sent stopped.2 sits.wrote;
         behind = stopped.1;
         closed = done;

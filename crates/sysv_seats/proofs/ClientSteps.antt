@@ -41,6 +41,7 @@ use Rattle.sysv_wire.specs.declared.fault.Fault.TheVariants.{Truncated, TooLong,
 use Rattle.sysv_wire.specs.declared.frame.Op.{Op}
 use Rattle.sysv_wire.specs.declared.frame.Op.TheVariants as op
 use Rattle.sysv_wire.specs.declared.frame.Version.{Version}
+use Rattle.sysv_wire.specs.declared.frame.Version.TheVariants.{Two}
 use Rattle.sysv_wire.specs.declared.reply.ReplyContent.{ReplyContent}
 use Rattle.sysv_wire.specs.declared.reply.ReplyContent.TheVariants as content
 use Rattle.sysv_wire.specs.declared.request.Ask.{Ask}
@@ -141,6 +142,9 @@ no_body_at (kind.Stat id) body not is = is
 no_body_at (kind.Set id to) body not is = is
 no_body_at (kind.Rm id) body not is = is
 no_body_at (kind.Row slot) body not is = is
+no_body_at (kind.Hold id size mtype flags seconds) body not is = is
+no_body_at kind.Done body not is = is
+no_body_at kind.Back body not is = is
 
 pub no_body : (request : Request) (body : List ℕ) → IsNoSend request.ask → IsAsked request body → body ≡ []
 no_body request body not asked = no_body_at request.ask body not asked.2
@@ -215,6 +219,10 @@ asks_replied may version cred (kind.Rm id) text before outcome given after asked
     subst HasReply (sym asked.0.4) (done_has version op.Rm content.Rm asked.0.0)
 asks_replied may version cred (kind.Row slot) text before outcome given after asked =
     subst HasReply (sym asked.0.2) (row_has version asked.0.0)
+asks_replied may version cred (kind.Hold id size mtype flags seconds) text before outcome given after asked =
+    subst HasReply (sym asked.0.1) tt
+asks_replied may version cred kind.Done text before outcome given after asked = subst HasReply (sym asked.0.1) tt
+asks_replied may version cred kind.Back text before outcome given after asked = subst HasReply (sym asked.0.1) tt
 
 pub begun_replied : (may : ℕ → Type 0) (version : Version) (cred : Cred) (ask : Ask) (text : List ℕ) (before : Pass)
     (came : Progress Waiting RequestOutcome) (given : List ℕ) (after : Pass) →
@@ -360,7 +368,8 @@ module _ {T : Type 0} (incoming outgoing : T → Option (List ℕ)) where
           new.input ≡ drop size old.input →
           new.parked ≡ None → new.stopped ≡ old.stopped → Sits incoming outgoing start origin new now
       put_reply put input parked stopped =
-          let stands = puts Means SLOTS cred request text outcome given old.dialogue start before now (incoming origin)
+          let stands =
+          puts Two Means SLOTS cred request text outcome given old.dialogue start before now (incoming origin)
           (prepend_known asked.later (incoming old.connection)) asked.sent asked.asking means
           (answers request.version request.ask came given outcome is may) new.dialogue put in
           let left : new.input ≡ asked.later =
@@ -369,7 +378,7 @@ module _ {T : Type 0} (incoming outgoing : T → Option (List ℕ)) where
             sent = asked.sent;
             wrote = wrote;
             at = at_ready start origin new now asked.sent parked (stopped ∙ asked.going)
-                (subst₂ (λ (l : List ℕ) (t : T). Stands Means SLOTS new.dialogue start now (incoming origin)
+                (subst₂ (λ (l : List ℕ) (t : T). Stands Two Means SLOTS new.dialogue start now (incoming origin)
                 (prepend_known l (incoming t)) asked.sent) (sym left) (sym connection) stands);
           }
 
@@ -379,7 +388,7 @@ module _ {T : Type 0} (incoming outgoing : T → Option (List ℕ)) where
       put_none why put parked stopped =
           let rest = prepend_known asked.later (incoming old.connection) in
           let stood =
-          put_ends Means SLOTS cred request text outcome given old.dialogue start before now (incoming origin)
+          put_ends Two Means SLOTS cred request text outcome given old.dialogue start before now (incoming origin)
           rest asked.sent asked.asking means (answers request.version request.ask came given outcome is may) why
           new.dialogue put in
           record {
@@ -412,7 +421,7 @@ module _ {T : Type 0} (incoming outgoing : T → Option (List ℕ)) where
                 text = text;
                 before = before;
                 later = asked.later;
-                asking = subst₂ (λ (k : Dialogue) (t : T). StandsAsking Means SLOTS cred request text k start before
+                asking = subst₂ (λ (k : Dialogue) (t : T). StandsAsking Two Means SLOTS cred request text k start before
                     (incoming origin) (prepend_known asked.later (incoming t)) asked.sent) (sym dialogue)
                     (sym connection)
                     asked.asking;
@@ -479,14 +488,15 @@ module _ {T : Type 0} (incoming outgoing : T → Option (List ℕ)) where
         let took_more = takes_up_more old.dialogue.session new.dialogue.session (Ok (Asked cred request)) old.input
         reads.rest text
         (incoming old.connection) tt takes in
-        let stands = takes_request Means SLOTS cred request old.dialogue new.dialogue start now (incoming origin)
+        let stands = takes_request Two Means SLOTS cred request old.dialogue new.dialogue start now (incoming origin)
         (prepend_known old.input (incoming old.connection)) (prepend_known reads.rest (incoming old.connection))
         sits.sent text (ready start origin old now free sits) took_more reads.unsent in
         record {
           sent = sits.sent;
           wrote = wrote_still;
           later = reads.rest;
-          asking = subst (λ (t : T). StandsAsking Means SLOTS cred request text new.dialogue start now (incoming origin)
+          asking =
+              subst (λ (t : T). StandsAsking Two Means SLOTS cred request text new.dialogue start now (incoming origin)
               (prepend_known reads.rest (incoming t)) sits.sent) (sym stays) stands;
           frame = ap (λ (s : Sitting T). s.input) reads.same ∙ takes.3.0;
           whole = read_whole size old.input (request_encoding request text) reads.rest reads.read takes.3.0;
@@ -500,7 +510,7 @@ module _ {T : Type 0} (incoming outgoing : T → Option (List ℕ)) where
         let took_more = takes_up_more old.dialogue.session new.dialogue.session (Err why) old.input reads.rest text
         (incoming old.connection) settled (took (Err why) is) in
         let rest = prepend_known reads.rest (incoming old.connection) in
-        let stood = stops Means SLOTS why old.dialogue new.dialogue start now (incoming origin)
+        let stood = stops Two Means SLOTS why old.dialogue new.dialogue start now (incoming origin)
         (prepend_known old.input (incoming old.connection)) rest sits.sent text
         (ready start origin old now free sits) took_more reads.unsent in
         let at_new : HasStopped incoming outgoing start origin (stopped_for why new) now sits.sent why = (
@@ -518,7 +528,8 @@ module _ {T : Type 0} (incoming outgoing : T → Option (List ℕ)) where
         })
 
     -- A hello is taken up, and its reply is gathered, or memory is refused for it.
-    greeted : (version : Version) (last : Sitting T) → StandsGreeting version new.dialogue start now (incoming origin)
+    greeted : (version : Version) (last : Sitting T) →
+        StandsGreeting Two version new.dialogue start now (incoming origin)
         (prepend_known (drop size new.input) (incoming new.connection)) sits.sent →
         GreetsAs version (with_input (drop size new.input) new) last → Sits incoming outgoing start origin last now
     greeted version last stands (inl same) =
@@ -530,7 +541,7 @@ module _ {T : Type 0} (incoming outgoing : T → Option (List ℕ)) where
           wrote = wrote_still;
           at = at_ready start origin answered now sits.sent (ap (λ (s : Sitting T). s.parked) reads.same ∙ free.0)
               (ap (λ (s : Sitting T). s.stopped) reads.same ∙ free.1)
-              (greets Means SLOTS version new.dialogue answered.dialogue start now (incoming origin)
+              (greets Two Means SLOTS version new.dialogue answered.dialogue start now (incoming origin)
               (prepend_known (drop size new.input) (incoming new.connection)) sits.sent stands refl);
         })
     greeted version last stands (inr same) =
@@ -543,7 +554,7 @@ module _ {T : Type 0} (incoming outgoing : T → Option (List ℕ)) where
               (ap (λ (s : Sitting T). s.parked) reads.same ∙ free.0) refl (
                 prepend_known (drop size new.input) (incoming new.connection),
                 behind (drop size new.input) (incoming new.connection),
-                greet_ends Means SLOTS version new.dialogue start now (incoming origin)
+                greet_ends Two Means SLOTS version new.dialogue start now (incoming origin)
                     (prepend_known (drop size new.input) (incoming new.connection)) sits.sent stands,
               );
         })
@@ -556,7 +567,7 @@ module _ {T : Type 0} (incoming outgoing : T → Option (List ℕ)) where
         let took_more =
         takes_up_more old.dialogue.session new.dialogue.session (Ok (Hello version)) old.input reads.rest text
         (incoming old.connection) tt takes in
-        let stands = takes_hello Means SLOTS version old.dialogue new.dialogue start now (incoming origin)
+        let stands = takes_hello Two Means SLOTS version old.dialogue new.dialogue start now (incoming origin)
         (prepend_known old.input (incoming old.connection)) (prepend_known reads.rest (incoming old.connection))
         sits.sent text (ready start origin old now free sits) took_more reads.unsent in
         let input : new.input ≡ old.input = ap (λ (s : Sitting T). s.input) reads.same in
@@ -564,5 +575,5 @@ module _ {T : Type 0} (incoming outgoing : T → Option (List ℕ)) where
         drops size new.input _ reads.rest (read_whole size old.input _ reads.rest reads.read encoded)
         (input ∙ encoded) in
         greeted version last
-        (subst₂ (λ (l : List ℕ) (t : T). StandsGreeting version new.dialogue start now (incoming origin)
+        (subst₂ (λ (l : List ℕ) (t : T). StandsGreeting Two version new.dialogue start now (incoming origin)
         (prepend_known l (incoming t)) sits.sent) (sym left) (sym stays) stands) greets_as

@@ -7,7 +7,7 @@ use Rattle.sysv_wire.specs.declared.frame.Op.{Op}
 use Rattle.sysv_wire.specs.declared.frame.Op.TheVariants as op
 use Rattle.sysv_wire.specs.declared.frame.Version.{Version}
 use Rattle.sysv_wire.specs.declared.request.Ask.{Ask}
-use Rattle.sysv_wire.specs.declared.request.Ask.TheVariants.{Hello, Get, Snd, Rcv, Stat, Set, Rm, Row}
+use Rattle.sysv_wire.specs.declared.request.Ask.TheVariants.{Hello, Get, Snd, Rcv, Stat, Set, Rm, Row, Hold, Done, Back}
 use Rattle.sysv_wire.specs.declared.request.Request.{Request}
 use Rattle.sysv_wire.specs.Frames.{frame, op_number, version_number}
 use Rattle.sysv_wire.specs.Numbers.{u32_bytes, i32_bytes, i64_bytes}
@@ -34,6 +34,9 @@ after_fields n version (Stat id) body is = absurd is
 after_fields n version (Set id to) body is = absurd is
 after_fields n version (Rm id) body is = absurd is
 after_fields n version (Row slot) body is = absurd is
+after_fields n version (Hold id size mtype flags seconds) body is = absurd is
+after_fields n version Done body is = absurd is
+after_fields n version Back body is = absurd is
 
 pub body_begins : (request : Request) (body : List ℕ) → op_of request.ask ≡ op.Snd →
     (drop 22 (request_encoding request body) ≡ body) × (length (request_encoding request body) ≡ 22 + length body)

@@ -5,6 +5,7 @@ use Rattle.sysv_session.specs.declared.served.Served.{Served}
 use Rattle.sysv_session.specs.Calls.{Call, Leads, Meaning}
 use Rattle.sysv_session.specs.Session.{Serves}
 use Rattle.sysv_service.specs.Ran.{Pass}
+use Rattle.sysv_wire.specs.declared.frame.Version.{Version}
 use Rattle.sysv_seats.specs.Asked.{asks_with}
 
 module _ {K S C : Type 0} (service : K → S) (clock : K → C) (pass : K → Pass) (may : C → ℕ → Type 0)
@@ -25,11 +26,11 @@ module _ {K S C : Type 0} (service : K → S) (clock : K → C) (pass : K → Pa
       subst (λ c. Leads (asks_with (may c) may_leave) cred (pass h.0) calls (pass new)) same.1 rest.2 in
       (rest.0 ∙ same.0, rest.1 ∙ same.1, (pass h.0, h.1.1, onward))
 
-  pub serves : (slots : ℕ) (served : Served) (old new : K) (left rest taken more : Option (List ℕ)) →
-      Serves ByPass slots served old new left rest taken more →
+  pub serves : (newest : Version) (slots : ℕ) (served : Served) (old new : K) (left rest taken more : Option (List ℕ)) →
+      Serves newest ByPass slots served old new left rest taken more →
       (service new ≡ service old) × (clock new ≡ clock old)
-      × Serves (asks_with (may (clock old)) may_leave) slots served (pass old) (pass new) left rest taken more
-  serves slots served old new left rest taken more h =
+      × Serves newest (asks_with (may (clock old)) may_leave) slots served (pass old) (pass new) left rest taken more
+  serves newest slots served old new left rest taken more h =
       elim h [
         | inl stays ↦ (
           ap service stays.handler,

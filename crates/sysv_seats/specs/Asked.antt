@@ -16,6 +16,7 @@ use Rattle.sysv_service.specs.Told.{TellsRow}
 use Rattle.sysv_steps.specs.Begin.{begin}
 use Rattle.sysv_steps.specs.Resume.{Released}
 use Rattle.sysv_wire.specs.declared.frame.Version.{Version}
+use Rattle.sysv_wire.specs.declared.frame.Version.TheVariants.{Two}
 use Rattle.sysv_wire.specs.declared.request.Ask.{Ask}
 use Rattle.sysv_seats.specs.Requests as requests
 use Rattle.sysv_seats.specs.Requests.{Going}
@@ -68,14 +69,14 @@ asks_with may may_leave old cred request text outcome given new =
     Asks may may_leave request.version cred request.ask text old outcome given new
 
 -- What a session over a service did to its pass. The reply to its hello states the number of slots
--- of the registry, if it is of version 2.
+-- of the registry, unless it is of version 1.
 abbrev pub ServesPass : (ℕ → Type 0) → Type 0 → Served → (old new : Pass) → (left rest taken more : Option (List ℕ)) →
     Type 0
 ServesPass may may_leave served old new left rest taken more =
-    Serves (asks_with may may_leave) SLOTS served old new left rest taken more
+    Serves Two (asks_with may may_leave) SLOTS served old new left rest taken more
 
 -- The same for a session whose replies were gathered.
 abbrev pub ServesPassTogether : (ℕ → Type 0) → Type 0 → Served → (old new : Pass) →
     (left rest taken more : Option (List ℕ)) → Type 0
 ServesPassTogether may may_leave served old new left rest taken more =
-    ServesTogether (asks_with may may_leave) SLOTS served old new left rest taken more
+    ServesTogether Two (asks_with may may_leave) SLOTS served old new left rest taken more

@@ -21,7 +21,8 @@ use Rattle.sysv_steps.specs.Call.{Msgget, Msgsnd, Msgrcv}
 use Rattle.sysv_steps.specs.State.{Phase, Goes}
 use Rattle.sysv_wire.specs.declared.frame.Version.{Version}
 use Rattle.sysv_wire.specs.declared.request.Ask.{Ask}
-use Rattle.sysv_wire.specs.declared.request.Ask.TheVariants.{Hello, Get as AskGet, Snd, Rcv, Stat, Set, Rm, Row}
+use Rattle.sysv_wire.specs.declared.request.Ask.TheVariants.{Hello, Get as AskGet, Snd, Rcv, Stat, Set, Rm, Row, Hold}
+use Rattle.sysv_wire.specs.declared.request.Ask.TheVariants.{Done, Back}
 use Rattle.sysv_seats.specs.declared.waiting.Waiting.{Waiting}
 use Rattle.sysv_seats.specs.declared.waiting.Waiting.TheVariants.{Send, Receive, Get}
 use Rattle.sysv_seats.specs.Asked.{Asks, ReadsReleased}
@@ -139,6 +140,9 @@ module _ (may : ℕ → Type 0) (version : Version) (cred : Cred) where
   asks_any may_leave (Set id to) text before outcome given after asked = asked
   asks_any may_leave (Rm id) text before outcome given after asked = asked
   asks_any may_leave (Row slot) text before outcome given after asked = asked
+  asks_any may_leave (Hold id size mtype flags seconds) text before outcome given after asked = asked
+  asks_any may_leave Done text before outcome given after asked = asked
+  asks_any may_leave Back text before outcome given after asked = asked
 
   -- A parked call can be left, if its caller may leave.
   pub left : (may_leave : Type 0) (ask : Ask) (text : List ℕ) (before : Pass) (waiting : Waiting) (after : Pass) →

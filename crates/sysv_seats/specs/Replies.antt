@@ -25,8 +25,8 @@ id_reply version (Err why) = reply version op.Get (content.Refused why)
 
 -- The reply that the operation was done, or the reply with an error.
 abbrev pub done_reply : Version → Op → ReplyContent → Result ⊤ Errno → RequestOutcome
-done_reply version o done (Ok zero) = reply version o done
-done_reply version o done (Err why) = reply version o (content.Refused why)
+done_reply version o answer (Ok zero) = reply version o answer
+done_reply version o answer (Err why) = reply version o (content.Refused why)
 
 -- The outcome of a receive: its message is passed on, and an error is a reply.
 abbrev pub given_reply : Version → Result Given Errno → RequestOutcome

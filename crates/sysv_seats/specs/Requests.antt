@@ -7,6 +7,7 @@ use Rattle.sysv_model.specs.declared.attributes.Stat.{Stat as Attributes}
 use Rattle.sysv_model.specs.declared.attributes.SetTo.{SetTo}
 use Rattle.sysv_model.specs.declared.cred.Cred.{Cred}
 use Rattle.sysv_model.specs.declared.errno.Errno.{Errno}
+use Rattle.sysv_model.specs.declared.errno.Errno.TheVariants.{EINVAL}
 use Rattle.sysv_model.specs.declared.flags.Flags.{Flags}
 use Rattle.sysv_queue.specs.Delivery.{Given}
 use Rattle.sysv_session.specs.declared.handler.RequestOutcome.{RequestOutcome}
@@ -15,12 +16,13 @@ use Rattle.sysv_steps.specs.Stepping.{no_moment}
 use Rattle.sysv_service.specs.Told.{TellsId, TellsZero, TellsStat, TellsGot}
 use Rattle.sysv_steps.specs.Call.{SystemCall, Msgget, Msgsnd, Msgrcv, MsgctlStat, MsgctlSet, MsgctlRmid, kind_of}
 use Rattle.sysv_steps.specs.State.{Ending, State, Wait, Waits, Over}
+use Rattle.sysv_wire.specs.declared.frame.Op.{Op}
 use Rattle.sysv_wire.specs.declared.frame.Op.TheVariants as op
 use Rattle.sysv_wire.specs.declared.frame.Version.{Version}
 use Rattle.sysv_wire.specs.declared.reply.ReplyContent.TheVariants as content
 use Rattle.sysv_wire.specs.declared.request.Ask.{Ask}
-use Rattle.sysv_wire.specs.declared.request.Ask.TheVariants.{Hello, Get, Snd, Rcv, Stat, Set, Rm, Row}
-use Rattle.sysv_seats.specs.Replies.{id_reply, done_reply, given_reply, stat_reply, row_reply}
+use Rattle.sysv_wire.specs.declared.request.Ask.TheVariants.{Hello, Get, Snd, Rcv, Stat, Set, Rm, Row, Hold, Done, Back}
+use Rattle.sysv_seats.specs.Replies.{reply, id_reply, done_reply, given_reply, stat_reply, row_reply}
 
 -- How a call goes: the times that its steps may have, the caller's credentials, the call, the
 -- released count that it starts with, the handler before, the state that the call reached, and the
@@ -125,6 +127,10 @@ module _ {K : Type 0} (Comes : Going K) (ReadsReleased : ℕ → K → K → Typ
   Shows version slot before outcome after =
       (answer : Result (Option Line) Errno) × TellsRow slot before answer after × (outcome ≡ row_reply version answer)
 
+  -- The handler has no memory for messages, and refused an operation that holds one. No call was made.
+  abbrev pub IsRefused : Version → Op → K → RequestOutcome → K → Type 0
+  IsRefused version o before outcome after = (after ≡ before) × (outcome ≡ reply version o (content.Refused EINVAL))
+
   -- Request by request, in a version. `text` is the body of a send, and `given` is the body of a
   -- received message and otherwise empty. The times are those that the clock may return. A get, a
   -- send and a receive that wait may be left if the caller may leave. A hello is no request to a
@@ -145,3 +151,9 @@ module _ {K : Type 0} (Comes : Going K) (ReadsReleased : ℕ → K → K → Typ
       Removes version cred id before outcome after × (given ≡ [])
   Asks may may_leave version cred (Row slot) text before outcome given after =
       Shows version slot before outcome after × (given ≡ [])
+  Asks may may_leave version cred (Hold id size mtype flags seconds) text before outcome given after =
+      IsRefused version op.Hold before outcome after × (given ≡ [])
+  Asks may may_leave version cred Done text before outcome given after =
+      IsRefused version op.Done before outcome after × (given ≡ [])
+  Asks may may_leave version cred Back text before outcome given after =
+      IsRefused version op.Back before outcome after × (given ≡ [])

@@ -23,6 +23,7 @@ use Rattle.sysv_session.specs.Stands.{Stands, StandsAsking, Stopped}
 use Rattle.sysv_service.specs.Ran.{Pass}
 use Rattle.sysv_wire.specs.declared.fault.Fault.TheVariants.{Truncated, TooLong, BadOp, BadField, Read}
 use Rattle.sysv_wire.specs.declared.frame.Version.{Version}
+use Rattle.sysv_wire.specs.declared.frame.Version.TheVariants.{Two}
 use Rattle.sysv_wire.specs.declared.request.Ask.{Ask}
 use Rattle.sysv_wire.specs.declared.request.Ask.TheVariants.{Get as AskGet, Snd, Rcv}
 use Rattle.sysv_wire.specs.declared.request.Request.{Request}
@@ -69,7 +70,7 @@ module _ {T : Type 0} (incoming outgoing : T → Option (List ℕ)) where
   -- More can be taken up. The session began with the pass `start` and on the connection `origin`.
   abbrev pub IsReady : Pass → T → Sitting T → Pass → List ℕ → Type 0
   IsReady start origin client now sent =
-      Stands (asks_with zero_moment ⊤) SLOTS client.dialogue start now (incoming origin) (unread client) sent
+      Stands Two (asks_with zero_moment ⊤) SLOTS client.dialogue start now (incoming origin) (unread client) sent
 
   -- The request of this call was taken up, and its frame is still at the front of the input. The call
   -- waits.
@@ -78,7 +79,7 @@ module _ {T : Type 0} (incoming outgoing : T → Option (List ℕ)) where
     pub text : List ℕ
     pub before : Pass
     pub later : List ℕ
-    pub asking : StandsAsking (asks_with zero_moment ⊤) SLOTS parked.cred parked.request text client.dialogue start
+    pub asking : StandsAsking Two (asks_with zero_moment ⊤) SLOTS parked.cred parked.request text client.dialogue start
         before
         (incoming origin) (prepend_known later (incoming client.connection)) sent
     pub frame : client.input ≡ request_encoding parked.request text ++ later
@@ -88,7 +89,7 @@ module _ {T : Type 0} (incoming outgoing : T → Option (List ℕ)) where
   -- It takes up no more, for this reason.
   abbrev pub HasStopped : Pass → T → Sitting T → Pass → List ℕ → End → Type 0
   HasStopped start origin client now sent why = (rest : Option (List ℕ)) × IsBehind rest (incoming client.connection)
-      × Stopped (asks_with zero_moment ⊤) SLOTS why client.dialogue start now (incoming origin) rest sent
+      × Stopped Two (asks_with zero_moment ⊤) SLOTS why client.dialogue start now (incoming origin) rest sent
 
   abbrev pub IsAt : Pass → T → Sitting T → Pass → List ℕ → Option Parked → Option End → Type 0
   IsAt start origin client now sent None None = IsReady start origin client now sent
@@ -130,7 +131,7 @@ module _ {T : Type 0} (incoming outgoing : T → Option (List ℕ)) where
     pub sent : List ℕ
     pub wrote : Appends (outgoing origin) (outgoing client.connection) sent
     pub later : List ℕ
-    pub asking : StandsAsking (asks_with zero_moment ⊤) SLOTS cred request text client.dialogue start before
+    pub asking : StandsAsking Two (asks_with zero_moment ⊤) SLOTS cred request text client.dialogue start before
         (incoming origin) (prepend_known later (incoming client.connection)) sent
     pub frame : client.input ≡ request_encoding request text ++ later
     pub whole : size ≡ length (request_encoding request text)

@@ -101,7 +101,7 @@ impl<T: NonBlocking> Client<T> {
     {
         Client {
             connection,
-            conversation: Conversation::open(alloc),
+            conversation: Conversation::open(alloc, Version::Two),
             input: Vec::new(alloc),
             start: 0,
             parked: None,

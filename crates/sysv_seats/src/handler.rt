@@ -13,7 +13,7 @@ use std::alloc::Global;
 use std::io::{Read, Write};
 use std::sync::Wait;
 use sysv_keys::SLOTS;
-use sysv_model::{Body, Cred, Flags, Instrumented, Row, SetTo, Stat};
+use sysv_model::{Body, Cred, Errno, Flags, Instrumented, Row, SetTo, Stat};
 use sysv_service::{Clock, Pass, Service};
 use sysv_session::{End, Handler, RequestOutcome, Served, Texts, serve_instrumented};
 use sysv_wire::{Ask, MAX_MODE, Op, Reply, ReplyContent, Request, Version};
@@ -76,7 +76,7 @@ impl<'a, C: Clock, R: Wait> ServiceHandler<'a, C, R> {
             (O.contents (stream_of writer.old)) (O.contents (stream_of writer.new)) }
         // The session ends as its input determines, unless it is cut short.
         ensures only { (input : List ℕ) (parse : Parse) →
-            I.remaining (stream_of reader.old) ≡ Some input → Takes input parse →
+            I.remaining (stream_of reader.old) ≡ Some input → Takes Version.Two input parse →
             Follows parse result }
         ensures memory { result.«end» ≢ End.NoMemory }
         // The streams stay the same, and each fails in this call if and only if the end says so.
@@ -268,8 +268,18 @@ impl<C: Clock, R: Wait> Handler for ServiceHandler<'_, C, R> {
             Ask::Set { id, to } => self.set(version, cred, id, to),
             Ask::Rm { id } => self.remove(version, cred, id),
             Ask::Row { slot } => self.row(version, slot),
+            Ask::Hold { .. } => refuse_hold(version, Op::Hold),
+            Ask::Done => refuse_hold(version, Op::Done),
+            Ask::Back => refuse_hold(version, Op::Back),
         }
     }
+}
+
+/// Refuses an operation on a held message, for which a handler has no memory.
+fn refuse_hold(version: Version, op: Op) -> RequestOutcome
+    ensures { result ≡ the_reply version op (ReplyContent.Refused Errno.EINVAL) }
+{
+    reply(version, op, ReplyContent::Refused(Errno::EINVAL))
 }
 
 /// Returns the reply of an operation, in the version of its request.

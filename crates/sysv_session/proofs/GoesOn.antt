@@ -76,30 +76,31 @@ gathers_outcome start replies taken box tally version (Got delivery) given repli
 gathers_outcome start replies taken box tally version WasLeft given replied old = absurd replied
 
 -- Why nothing was taken up, as what stops a session.
-stops_after : (version : Version) (why : End) (requests : ℕ) (left rest : Option (List ℕ)) (text : List ℕ) →
-    requests < SESSION_REQUESTS → TakesRequest version (Err why) left rest text →
-    StopsAfter version why left rest × IsStoppedWithin why requests
-stops_after version Ended requests left rest text few takes = (takes, few)
-stops_after version NoMemory requests left rest text few takes = absurd takes
-stops_after version NoHello requests left rest text few takes = absurd takes
-stops_after version (Fault fault) requests left rest text few takes = (takes, fault_within fault requests few)
-stops_after version Write requests left rest text few takes = absurd takes
-stops_after version Bound requests left rest text few takes = absurd takes
-stops_after version Left requests left rest text few takes = absurd takes
-stops_after version Reset requests left rest text few takes = absurd takes
+stops_after : (newest version : Version) (why : End) (requests : ℕ) (left rest : Option (List ℕ)) (text : List ℕ) →
+    requests < SESSION_REQUESTS → TakesRequest newest version (Err why) left rest text →
+    StopsAfter newest version why left rest × IsStoppedWithin why requests
+stops_after newest version Ended requests left rest text few takes = (takes, few)
+stops_after newest version NoMemory requests left rest text few takes = absurd takes
+stops_after newest version NoHello requests left rest text few takes = absurd takes
+stops_after newest version (Fault fault) requests left rest text few takes = (takes, fault_within fault requests few)
+stops_after newest version Write requests left rest text few takes = absurd takes
+stops_after newest version Bound requests left rest text few takes = absurd takes
+stops_after newest version Left requests left rest text few takes = absurd takes
+stops_after newest version Reset requests left rest text few takes = absurd takes
 
 -- All requests have a reply, whatever stops the session, if it is none of these.
-all_reply : (why : End) (version : Version) (slots : ℕ) (calls : List Call) (left rest : Option (List ℕ))
-    (text : List ℕ) (replies : List Gathered) → TakesRequest version (Err why) left rest text →
+all_reply : (newest : Version) (why : End) (version : Version) (slots : ℕ) (calls : List Call)
+    (left rest : Option (List ℕ))
+    (text : List ℕ) (replies : List Gathered) → TakesRequest newest version (Err why) left rest text →
     AreReplied calls × (replies ≡ replies_to version slots calls) → Replied why version slots calls replies
-all_reply Ended version slots calls left rest text replies takes all = all
-all_reply NoMemory version slots calls left rest text replies takes all = absurd takes
-all_reply NoHello version slots calls left rest text replies takes all = absurd takes
-all_reply (Fault fault) version slots calls left rest text replies takes all = all
-all_reply Write version slots calls left rest text replies takes all = absurd takes
-all_reply Bound version slots calls left rest text replies takes all = absurd takes
-all_reply Left version slots calls left rest text replies takes all = absurd takes
-all_reply Reset version slots calls left rest text replies takes all = absurd takes
+all_reply newest Ended version slots calls left rest text replies takes all = all
+all_reply newest NoMemory version slots calls left rest text replies takes all = absurd takes
+all_reply newest NoHello version slots calls left rest text replies takes all = absurd takes
+all_reply newest (Fault fault) version slots calls left rest text replies takes all = all
+all_reply newest Write version slots calls left rest text replies takes all = absurd takes
+all_reply newest Bound version slots calls left rest text replies takes all = absurd takes
+all_reply newest Left version slots calls left rest text replies takes all = absurd takes
+all_reply newest Reset version slots calls left rest text replies takes all = absurd takes
 
 append_empty : (xs ys : List ℕ) → xs ++ ys ≡ [] → xs ≡ []
 append_empty [] ys none = refl
@@ -155,14 +156,16 @@ written_at_end Reset version slots calls replies lost taken box tally replied ol
     (sym replied.1) (last_of_replies version slots calls n replied.0) in
     omega (arith, (closes true (only_lost lost) replies taken box tally old).written, last)
 
-module _ {K : Type 0} (Means : Meaning K) (slots : ℕ) where
+module _ (newest : Version) {K : Type 0} (Means : Meaning K) (slots : ℕ) where
   -- A new conversation stands.
-  pub opens : (dialogue : Dialogue) (k : K) (left : Option (List ℕ)) → dialogue.session.caller ≡ None →
+  pub opens : (dialogue : Dialogue) (k : K) (left : Option (List ℕ)) → dialogue.session.newest ≡ newest →
+      dialogue.session.caller ≡ None →
       dialogue.session.tally ≡ record { written = 0; lost = 0 } → dialogue.session.requests ≡ 0 →
-      dialogue.unsent ≡ record { bytes = []; marks = [] } → Stands Means slots dialogue k k left left []
-  opens dialogue k left caller tally counts unsent = record {
+      dialogue.unsent ≡ record { bytes = []; marks = [] } → Stands newest Means slots dialogue k k left left []
+  opens dialogue k left limit caller tally counts unsent = record {
     replies = [];
-    pending = inl (record { caller = caller; counts = counts; handler = refl; reads = refl; gathered = refl });
+    pending =
+        inl (record { limit = limit; caller = caller; counts = counts; handler = refl; reads = refl; gathered = refl });
     gathers = regathered (only_lost 0) [] [] _ dialogue.unsent _ dialogue.session.tally unsent tally
         (gathers_none (only_lost 0));
   }
@@ -170,14 +173,15 @@ module _ {K : Type 0} (Means : Meaning K) (slots : ℕ) where
   -- A hello is taken up.
   pub takes_hello : (version : Version) (dialogue dialogue' : Dialogue) (old now : K)
       (left unread rest : Option (List ℕ))
-      (taken text : List ℕ) → Stands Means slots dialogue old now left unread taken →
+      (taken text : List ℕ) → Stands newest Means slots dialogue old now left unread taken →
       TakesUp dialogue.session dialogue'.session (Ok (Hello version)) unread rest text →
       dialogue'.unsent ≡ dialogue.unsent →
-      StandsGreeting version dialogue' old now left rest taken
+      StandsGreeting newest version dialogue' old now left rest taken
   takes_hello version dialogue dialogue' old now left unread rest taken text stands takes same = record {
     replies = stands.replies;
     greets =
-        hello_taken Means slots version dialogue.session dialogue'.session old now left unread rest text stands.replies
+        hello_taken newest Means slots version dialogue.session dialogue'.session old now left unread rest text
+        stands.replies
         stands.pending takes;
     gathers = regathered (only_lost 0) stands.replies taken dialogue.unsent dialogue'.unsent dialogue.session.tally
         dialogue'.session.tally same (ap (λ (s : Session). s.tally) takes.3) stands.gathers;
@@ -186,16 +190,18 @@ module _ {K : Type 0} (Means : Meaning K) (slots : ℕ) where
   -- The reply to the hello is gathered.
   pub greets : (version : Version) (dialogue dialogue' : Dialogue) (old now : K) (left unread : Option (List ℕ))
       (taken : List ℕ)
-      → StandsGreeting version dialogue old now left unread taken →
+      → StandsGreeting newest version dialogue old now left unread taken →
       dialogue' ≡ gathered (with_frame (hello_frame version slots)) dialogue →
-      Stands Means slots dialogue' old now left unread taken
+      Stands newest Means slots dialogue' old now left unread taken
   greets version dialogue dialogue' old now left unread taken stands is =
       let replies = stands.replies ++ greeting version slots ∷ [] in
       record {
         replies = replies;
         pending =
-            hello_replied Means slots version dialogue.session dialogue'.session old now left unread stands.replies
-            stands.greets (ap (λ (t : Dialogue). t.session.caller) is) (ap (λ (t : Dialogue). t.session.requests) is);
+            hello_replied newest Means slots version dialogue.session dialogue'.session old now left unread
+            stands.replies
+            stands.greets (ap (λ (t : Dialogue). t.session.newest) is) (ap (λ (t : Dialogue). t.session.caller) is)
+            (ap (λ (t : Dialogue). t.session.requests) is);
         gathers = regathered (only_lost 0) replies taken _ dialogue'.unsent _ dialogue'.session.tally
             (ap (λ (t : Dialogue). t.unsent) is) (ap (λ (t : Dialogue). t.session.tally) is)
             (gathers_reply (only_lost 0) stands.replies taken dialogue.unsent dialogue.session.tally
@@ -205,8 +211,8 @@ module _ {K : Type 0} (Means : Meaning K) (slots : ℕ) where
   -- Memory was refused for the reply to the hello.
   pub greet_ends : (version : Version) (dialogue : Dialogue) (old now : K) (left unread : Option (List ℕ))
       (taken : List ℕ) →
-      StandsGreeting version dialogue old now left unread taken →
-      Stopped Means slots NoMemory dialogue old now left unread taken
+      StandsGreeting newest version dialogue old now left unread taken →
+      Stopped newest Means slots NoMemory dialogue old now left unread taken
   greet_ends version dialogue old now left unread taken stands =
       let hello = stands.greets in
       inr (record {
@@ -232,13 +238,14 @@ module _ {K : Type 0} (Means : Meaning K) (slots : ℕ) where
   -- A request is taken up.
   pub takes_request : (cred : Cred) (request : Request) (dialogue dialogue' : Dialogue) (old now : K)
       (left unread rest : Option (List ℕ)) (taken text : List ℕ) →
-      Stands Means slots dialogue old now left unread taken →
+      Stands newest Means slots dialogue old now left unread taken →
       TakesUp dialogue.session dialogue'.session (Ok (Asked cred request)) unread rest text →
       dialogue'.unsent ≡ dialogue.unsent →
-      StandsAsking Means slots cred request text dialogue' old now left rest taken
+      StandsAsking newest Means slots cred request text dialogue' old now left rest taken
   takes_request cred request dialogue dialogue' old now left unread rest taken text stands takes same = record {
     replies = stands.replies;
-    asking = request_taken Means slots cred request dialogue.session dialogue'.session old now left unread rest text
+    asking =
+        request_taken newest Means slots cred request dialogue.session dialogue'.session old now left unread rest text
         stands.replies stands.pending takes;
     gathers = regathered (only_lost 0) stands.replies taken dialogue.unsent dialogue'.unsent dialogue.session.tally
         dialogue'.session.tally same (ap (λ (s : Session). s.tally) takes.4) stands.gathers;
@@ -248,25 +255,28 @@ module _ {K : Type 0} (Means : Meaning K) (slots : ℕ) where
   module _ (cred : Cred) (request : Request) (text : List ℕ) (outcome : RequestOutcome) (given : List ℕ)
       (dialogue : Dialogue)
       (old now new : K) (left unread : Option (List ℕ)) (taken : List ℕ)
-      (stands : StandsAsking Means slots cred request text dialogue old now left unread taken)
+      (stands : StandsAsking newest Means slots cred request text dialogue old now left unread taken)
       (means : Means now cred request text outcome given new)
       (may : MayAnswer request.version request.ask outcome given) where
     abbrev call : Call
     call = record { request = request; text = text; outcome = outcome; given = given }
 
-    called : Called Means slots call dialogue.session old new left unread stands.replies
+    called : Called newest Means slots call dialogue.session old new left unread stands.replies
     called =
-        request_called Means slots cred call dialogue.session old now new left unread stands.replies stands.asking means
+        request_called newest Means slots cred call dialogue.session old now new left unread stands.replies
+        stands.asking means
         may
 
     -- The reply is gathered.
     pub puts : (dialogue' : Dialogue) → Puts (Ok tt) request.version outcome given dialogue dialogue' →
-        Stands Means slots dialogue' old new left unread taken
+        Stands newest Means slots dialogue' old new left unread taken
     puts dialogue' put = record {
       replies = stands.replies ++ reply_to call ∷ [];
       pending =
-          call_replied Means slots call dialogue.session dialogue'.session old new left unread stands.replies called
-          put.0 (ap (λ (t : Dialogue). t.session.caller) put.1) (ap (λ (t : Dialogue). t.session.requests) put.1);
+          call_replied newest Means slots call dialogue.session dialogue'.session old new left unread stands.replies
+          called
+          put.0 (ap (λ (t : Dialogue). t.session.newest) put.1) (ap (λ (t : Dialogue). t.session.caller) put.1)
+          (ap (λ (t : Dialogue). t.session.requests) put.1);
       gathers = regathered (only_lost 0) (stands.replies ++ reply_to call ∷ []) taken _ dialogue'.unsent _
           dialogue'.session.tally (ap (λ (t : Dialogue). t.unsent) put.1) (ap (λ (t : Dialogue). t.session.tally) put.1)
           (gathers_outcome (only_lost 0) stands.replies taken dialogue.unsent dialogue.session.tally request.version
@@ -274,14 +284,14 @@ module _ {K : Type 0} (Means : Meaning K) (slots : ℕ) where
     }
 
     -- It stops with this call, whose reply was not gathered.
-    stops_asking : (why : End) (dialogue' : Dialogue) (lost : ℕ) → StopsAfter called.version why unread unread →
+    stops_asking : (why : End) (dialogue' : Dialogue) (lost : ℕ) → StopsAfter newest called.version why unread unread →
         IsStoppedWithin why dialogue'.session.requests →
         Replied why called.version slots (called.done ++ call ∷ []) stands.replies →
         dialogue'.unsent ≡ dialogue.unsent →
         dialogue'.session.requests ≡ dialogue.session.requests →
         dialogue'.session.tally
         ≡ record { written = dialogue.session.tally.written; lost = dialogue.session.tally.lost + lost } →
-        messages_in outcome ≡ lost → Stopped Means slots why dialogue' old new left unread taken
+        messages_in outcome ≡ lost → Stopped newest Means slots why dialogue' old new left unread taken
     stops_asking why dialogue' lost ends within replied same count tally one = inr (record {
       version = called.version;
       cred = called.cred;
@@ -316,7 +326,7 @@ module _ {K : Type 0} (Means : Meaning K) (slots : ℕ) where
     -- Memory was refused for the reply, or the call was left.
     pub put_ends : (why : End) (dialogue' : Dialogue) →
         Puts (Err why) request.version outcome given dialogue dialogue' →
-        Stopped Means slots why dialogue' old new left unread taken
+        Stopped newest Means slots why dialogue' old new left unread taken
     put_ends NoMemory dialogue' put =
         stops_asking NoMemory dialogue' (messages_in outcome) refl tt
         (inr (inr (
@@ -347,9 +357,9 @@ module _ {K : Type 0} (Means : Meaning K) (slots : ℕ) where
   -- The call is left.
   pub leaves : (cred : Cred) (request : Request) (text given : List ℕ) (dialogue : Dialogue) (old now new : K)
       (left unread : Option (List ℕ)) (taken : List ℕ)
-      → StandsAsking Means slots cred request text dialogue old now left unread taken
+      → StandsAsking newest Means slots cred request text dialogue old now left unread taken
       → Means now cred request text WasLeft given new → MayAnswer request.version request.ask WasLeft given
-      → Stopped Means slots Left dialogue old new left unread taken
+      → Stopped newest Means slots Left dialogue old new left unread taken
   leaves cred request text given dialogue old now new left unread taken stands means may =
       put_ends cred request text WasLeft given dialogue old now new left unread taken stands means may Left dialogue
       (refl, refl)
@@ -357,11 +367,11 @@ module _ {K : Type 0} (Means : Meaning K) (slots : ℕ) where
   -- It stops where it stands, after its hello.
   stops_greeted : (why : End) (dialogue dialogue' : Dialogue) (old now : K) (left unread rest : Option (List ℕ))
       (taken : List ℕ)
-      (stands : Stands Means slots dialogue old now left unread taken)
-      (greeted : Greeted Means slots dialogue.session old now left unread stands.replies)
-      → StopsAfter greeted.version why unread rest → IsStoppedWithin why dialogue.session.requests
+      (stands : Stands newest Means slots dialogue old now left unread taken)
+      (greeted : Greeted newest Means slots dialogue.session old now left unread stands.replies)
+      → StopsAfter newest greeted.version why unread rest → IsStoppedWithin why dialogue.session.requests
       → Replied why greeted.version slots greeted.calls stands.replies → dialogue' ≡ dialogue
-      → Stopped Means slots why dialogue' old now left rest taken
+      → Stopped newest Means slots why dialogue' old now left rest taken
   stops_greeted why dialogue dialogue' old now left unread rest taken stands greeted ends within replied same =
       let count : dialogue'.session.requests ≡ dialogue.session.requests =
       ap (λ (t : Dialogue). t.session.requests) same in
@@ -394,12 +404,13 @@ module _ {K : Type 0} (Means : Meaning K) (slots : ℕ) where
   -- It stops before its hello.
   stops_fresh : (why : End) (dialogue dialogue' : Dialogue) (old now : K) (left unread rest : Option (List ℕ))
       (taken : List ℕ)
-      (stands : Stands Means slots dialogue old now left unread taken)
-      (fresh : Fresh dialogue.session old now left unread stands.replies)
-      → StopsBefore why unread rest → dialogue' ≡ dialogue → Stopped Means slots why dialogue' old now left rest taken
+      (stands : Stands newest Means slots dialogue old now left unread taken)
+      (fresh : Fresh newest dialogue.session old now left unread stands.replies)
+      → StopsBefore newest why unread rest → dialogue' ≡ dialogue
+      → Stopped newest Means slots why dialogue' old now left rest taken
   stops_fresh why dialogue dialogue' old now left unread rest taken stands fresh ends same = inl (record {
     handler = fresh.handler;
-    ends = subst (λ (l : Option (List ℕ)). StopsBefore why l rest) fresh.reads ends;
+    ends = subst (λ (l : Option (List ℕ)). StopsBefore newest why l rest) fresh.reads ends;
     gathers = subst (λ (l : List Gathered). Gathers (only_lost 0) l taken dialogue'.unsent dialogue'.session.tally)
         fresh.gathered
         (regathered (only_lost 0) stands.replies taken dialogue.unsent dialogue'.unsent dialogue.session.tally
@@ -409,43 +420,53 @@ module _ {K : Type 0} (Means : Meaning K) (slots : ℕ) where
   })
 
   reads_stop_at : (why : End) (dialogue dialogue' : Dialogue) (old now : K) (left unread rest : Option (List ℕ))
-      (taken text : List ℕ) (stands : Stands Means slots dialogue old now left unread taken)
-      (greeted : Greeted Means slots dialogue.session old now left unread stands.replies) → dialogue' ≡ dialogue →
-      EndsHere (Some (greeted.version, greeted.cred)) dialogue.session.requests why unread rest text →
-      Stopped Means slots why dialogue' old now left rest taken
+      (taken text : List ℕ) (stands : Stands newest Means slots dialogue old now left unread taken)
+      (greeted : Greeted newest Means slots dialogue.session old now left unread stands.replies) →
+      dialogue' ≡ dialogue →
+      EndsHere newest (Some (greeted.version, greeted.cred)) dialogue.session.requests why unread rest text →
+      Stopped newest Means slots why dialogue' old now left rest taken
   reads_stop_at why dialogue dialogue' old now left unread rest taken text stands greeted same (inl bound) =
       let most : dialogue.session.requests ≡ SESSION_REQUESTS = omega (arith, bound.0, greeted.bounded) in
-      subst (λ (w : End). Stopped Means slots w dialogue' old now left rest taken) (sym bound.1)
+      subst (λ (w : End). Stopped newest Means slots w dialogue' old now left rest taken) (sym bound.1)
       (stops_greeted Bound dialogue dialogue' old now left unread rest taken stands greeted bound.2 most
       (greeted.replied, greeted.gathered) same)
   reads_stop_at why dialogue dialogue' old now left unread rest taken text stands greeted same (inr read) =
-      let ends = stops_after greeted.version why dialogue.session.requests unread rest text read.0 read.1 in
+      let ends = stops_after newest greeted.version why dialogue.session.requests unread rest text read.0 read.1 in
       stops_greeted why dialogue dialogue' old now left unread rest taken stands greeted ends.0 ends.1
-      (all_reply why greeted.version slots greeted.calls unread rest text stands.replies read.1
+      (all_reply newest why greeted.version slots greeted.calls unread rest text stands.replies read.1
       (greeted.replied, greeted.gathered)) same
+
+  limited : (why : End) (dialogue : Dialogue) (unread rest : Option (List ℕ)) (text : List ℕ) →
+      dialogue.session.newest ≡ newest →
+      EndsHere dialogue.session.newest dialogue.session.caller dialogue.session.requests why unread rest text →
+      EndsHere newest dialogue.session.caller dialogue.session.requests why unread rest text
+  limited why dialogue unread rest text limit here =
+      subst (λ (n : Version). EndsHere n dialogue.session.caller dialogue.session.requests why unread rest text) limit
+      here
 
   -- What it reads stops it.
   reads_stop : (why : End) (dialogue dialogue' : Dialogue) (old now : K) (left unread rest : Option (List ℕ))
       (taken text : List ℕ)
-      (stands : Stands Means slots dialogue old now left unread taken) →
-      Pending Means slots dialogue.session old now left unread stands.replies → dialogue' ≡ dialogue →
-      EndsHere dialogue.session.caller dialogue.session.requests why unread rest text →
-      Stopped Means slots why dialogue' old now left rest taken
+      (stands : Stands newest Means slots dialogue old now left unread taken) →
+      Pending newest Means slots dialogue.session old now left unread stands.replies → dialogue' ≡ dialogue →
+      EndsHere dialogue.session.newest dialogue.session.caller dialogue.session.requests why unread rest text →
+      Stopped newest Means slots why dialogue' old now left rest taken
   reads_stop why dialogue dialogue' old now left unread rest taken text stands (inl fresh) same here =
-      let ends = subst (λ (c : Option (Version × Cred)). EndsHere c dialogue.session.requests why unread rest text)
-      fresh.caller here in
+      let ends =
+      subst (λ (c : Option (Version × Cred)). EndsHere newest c dialogue.session.requests why unread rest text)
+      fresh.caller (limited why dialogue unread rest text fresh.limit here) in
       stops_fresh why dialogue dialogue' old now left unread rest taken stands fresh
-      (stops_before why unread rest ends.0) same
+      (stops_before newest why unread rest ends.0) same
   reads_stop why dialogue dialogue' old now left unread rest taken text stands (inr greeted) same here =
       reads_stop_at why dialogue dialogue' old now left unread rest taken text stands greeted same
-      (subst (λ (c : Option (Version × Cred)). EndsHere c dialogue.session.requests why unread rest text)
-      greeted.caller here)
+      (subst (λ (c : Option (Version × Cred)). EndsHere newest c dialogue.session.requests why unread rest text)
+      greeted.caller (limited why dialogue unread rest text greeted.limit here))
 
   pub stops : (why : End) (dialogue dialogue' : Dialogue) (old now : K) (left unread rest : Option (List ℕ))
       (taken text : List ℕ)
-      → Stands Means slots dialogue old now left unread taken →
+      → Stands newest Means slots dialogue old now left unread taken →
       TakesUp dialogue.session dialogue'.session (Err why) unread rest text → dialogue'.unsent ≡ dialogue.unsent →
-      Stopped Means slots why dialogue' old now left rest taken
+      Stopped newest Means slots why dialogue' old now left rest taken
   stops why dialogue dialogue' old now left unread rest taken text stands takes same =
       reads_stop why dialogue dialogue' old now left unread rest taken text stands stands.pending
       (ap₂ (λ (s : Session) (u : Unsent). let t : Dialogue = record { session = s; unsent = u } in t) takes.0 same)
@@ -453,12 +474,14 @@ module _ {K : Type 0} (Means : Meaning K) (slots : ℕ) where
 
   -- It stops without reading.
   stops_quiet : (why : End) (dialogue : Dialogue) (old now : K) (left unread : Option (List ℕ)) (taken : List ℕ)
-      (stands : Stands Means slots dialogue old now left unread taken)
-      → Pending Means slots dialogue.session old now left unread stands.replies → StopsBefore why unread unread
-      → ((version : Version) → StopsAfter version why unread unread) → IsStoppedWithin why dialogue.session.requests
+      (stands : Stands newest Means slots dialogue old now left unread taken)
+      → Pending newest Means slots dialogue.session old now left unread stands.replies
+      → StopsBefore newest why unread unread
+      → ((version : Version) → StopsAfter newest version why unread unread)
+      → IsStoppedWithin why dialogue.session.requests
       → ((version : Version) (calls : List Call) (replies : List Gathered)
       → AreReplied calls × (replies ≡ replies_to version slots calls) → Replied why version slots calls replies)
-      → Stopped Means slots why dialogue old now left unread taken
+      → Stopped newest Means slots why dialogue old now left unread taken
   stops_quiet why dialogue old now left unread taken stands (inl fresh) before after within all =
       stops_fresh why dialogue dialogue old now left unread unread taken stands fresh before refl
   stops_quiet why dialogue old now left unread taken stands (inr greeted) before after within all =
@@ -466,9 +489,9 @@ module _ {K : Type 0} (Means : Meaning K) (slots : ℕ) where
       (all greeted.version greeted.calls stands.replies (greeted.replied, greeted.gathered)) refl
 
   stops_waiting : (dialogue : Dialogue) (old now : K) (left unread : Option (List ℕ)) (taken : List ℕ) →
-      0 < length dialogue.unsent.bytes → (stands : Stands Means slots dialogue old now left unread taken) →
-      Pending Means slots dialogue.session old now left unread stands.replies →
-      Stopped Means slots Write dialogue old now left unread taken
+      0 < length dialogue.unsent.bytes → (stands : Stands newest Means slots dialogue old now left unread taken) →
+      Pending newest Means slots dialogue.session old now left unread stands.replies →
+      Stopped newest Means slots Write dialogue old now left unread taken
   stops_waiting dialogue old now left unread taken some stands (inl fresh) =
       absurd (omega (
         arith,
@@ -483,32 +506,32 @@ module _ {K : Type 0} (Means : Meaning K) (slots : ℕ) where
 
   -- Memory was refused for what it reads.
   pub stops_memory : (dialogue : Dialogue) (old now : K) (left unread : Option (List ℕ)) (taken : List ℕ)
-      → Stands Means slots dialogue old now left unread taken
-      → Stopped Means slots NoMemory dialogue old now left unread taken
+      → Stands newest Means slots dialogue old now left unread taken
+      → Stopped newest Means slots NoMemory dialogue old now left unread taken
   stops_memory dialogue old now left unread taken stands =
       stops_quiet NoMemory dialogue old now left unread taken stands stands.pending refl (λ v. refl) tt
       (λ v calls replies all. inl all)
 
   -- The connection cannot be read.
   pub stops_read : (dialogue : Dialogue) (old now : K) (left unread : Option (List ℕ)) (taken : List ℕ)
-      → Stands Means slots dialogue old now left unread taken →
-      Stopped Means slots (Fault Read) dialogue old now left unread taken
+      → Stands newest Means slots dialogue old now left unread taken →
+      Stopped newest Means slots (Fault Read) dialogue old now left unread taken
   stops_read dialogue old now left unread taken stands =
       stops_quiet (Fault Read) dialogue old now left unread taken stands stands.pending
       ([], Consumes-nil unread, tt, tt) (λ v. ([], Consumes-nil unread, tt, tt)) tt (λ v calls replies all. all)
 
   -- The client has reset the connection.
   pub stops_reset : (dialogue : Dialogue) (old now : K) (left unread : Option (List ℕ)) (taken : List ℕ)
-      → Stands Means slots dialogue old now left unread taken
-      → Stopped Means slots Reset dialogue old now left unread taken
+      → Stands newest Means slots dialogue old now left unread taken
+      → Stopped newest Means slots Reset dialogue old now left unread taken
   stops_reset dialogue old now left unread taken stands =
       stops_quiet Reset dialogue old now left unread taken stands stands.pending refl (λ v. refl) tt
       (λ v calls replies all. all)
 
   -- The connection takes no more, and some replies are left.
   pub stops_write : (dialogue : Dialogue) (old now : K) (left unread : Option (List ℕ)) (taken : List ℕ)
-      → 0 < length dialogue.unsent.bytes → Stands Means slots dialogue old now left unread taken →
-      Stopped Means slots Write dialogue old now left unread taken
+      → 0 < length dialogue.unsent.bytes → Stands newest Means slots dialogue old now left unread taken →
+      Stopped newest Means slots Write dialogue old now left unread taken
   stops_write dialogue old now left unread taken some stands =
       stops_waiting dialogue old now left unread taken some stands stands.pending
 
@@ -525,17 +548,19 @@ module _ {K : Type 0} (Means : Meaning K) (slots : ℕ) where
 
   -- What is pending does not depend on the tally.
   same_way : (dialogue dialogue' : Dialogue) (old now : K) (left unread : Option (List ℕ)) (replies : List Gathered) →
+      dialogue'.session.newest ≡ dialogue.session.newest →
       dialogue'.session.caller ≡ dialogue.session.caller → dialogue'.session.requests ≡ dialogue.session.requests →
-      Pending Means slots dialogue.session old now left unread replies →
-      Pending Means slots dialogue'.session old now left unread replies
-  same_way dialogue dialogue' old now left unread replies caller count (inl fresh) = inl (record {
+      Pending newest Means slots dialogue.session old now left unread replies →
+      Pending newest Means slots dialogue'.session old now left unread replies
+  same_way dialogue dialogue' old now left unread replies limit caller count (inl fresh) = inl (record {
+    limit = limit ∙ fresh.limit;
     caller = caller ∙ fresh.caller;
     counts = count ∙ fresh.counts;
     handler = fresh.handler;
     reads = fresh.reads;
     gathered = fresh.gathered;
   })
-  same_way dialogue dialogue' old now left unread replies caller count (inr greeted) = inr (record {
+  same_way dialogue dialogue' old now left unread replies limit caller count (inr greeted) = inr (record {
     version = greeted.version;
     cred = greeted.cred;
     known = greeted.known;
@@ -544,6 +569,7 @@ module _ {K : Type 0} (Means : Meaning K) (slots : ℕ) where
     leads = greeted.leads;
     reads = greeted.reads;
     replied = greeted.replied;
+    limit = limit ∙ greeted.limit;
     caller = caller ∙ greeted.caller;
     counts = count ∙ greeted.counts;
     bounded = omega (arith, count, greeted.bounded);
@@ -552,12 +578,13 @@ module _ {K : Type 0} (Means : Meaning K) (slots : ℕ) where
 
   pub sends : (n : ℕ) (dialogue dialogue' : Dialogue) (old now : K) (left unread : Option (List ℕ)) (taken : List ℕ) →
       n ≤ length dialogue.unsent.bytes → dialogue' ≡ sent_on n dialogue →
-      Stands Means slots dialogue old now left unread taken →
-      Stands Means slots dialogue' old now left unread (taken ++ take n dialogue.unsent.bytes)
+      Stands newest Means slots dialogue old now left unread taken →
+      Stands newest Means slots dialogue' old now left unread (taken ++ take n dialogue.unsent.bytes)
   sends n dialogue dialogue' old now left unread taken fits is stands = record {
     replies = stands.replies;
     pending =
-        same_way dialogue dialogue' old now left unread stands.replies (ap (λ (t : Dialogue). t.session.caller) is)
+        same_way dialogue dialogue' old now left unread stands.replies (ap (λ (t : Dialogue). t.session.newest) is)
+        (ap (λ (t : Dialogue). t.session.caller) is)
         (ap (λ (t : Dialogue). t.session.requests) is) stands.pending;
     gathers = gathers_sent 0 stands.replies taken n dialogue dialogue' fits is stands.gathers;
   }
@@ -567,8 +594,9 @@ module _ {K : Type 0} (Means : Meaning K) (slots : ℕ) where
       (old now : K)
       (left unread : Option (List ℕ)) (taken : List ℕ) → n ≤ length dialogue.unsent.bytes →
       dialogue' ≡ sent_on n dialogue →
-      StandsAsking Means slots cred request text dialogue old now left unread taken →
-      StandsAsking Means slots cred request text dialogue' old now left unread (taken ++ take n dialogue.unsent.bytes)
+      StandsAsking newest Means slots cred request text dialogue old now left unread taken →
+      StandsAsking newest Means slots cred request text dialogue' old now left unread
+      (taken ++ take n dialogue.unsent.bytes)
   sends_asking cred request text n dialogue dialogue' old now left unread taken fits is stands =
       let count : dialogue'.session.requests ≡ dialogue.session.requests =
       ap (λ (t : Dialogue). t.session.requests) is in
@@ -585,6 +613,7 @@ module _ {K : Type 0} (Means : Meaning K) (slots : ℕ) where
           asks = stands.asking.asks;
           asked = stands.asking.asked;
           replied = stands.asking.replied;
+          limit = ap (λ (t : Dialogue). t.session.newest) is ∙ stands.asking.limit;
           caller = ap (λ (t : Dialogue). t.session.caller) is ∙ stands.asking.caller;
           counts = count ∙ stands.asking.counts;
           bounded = omega (arith, count, stands.asking.bounded);
@@ -596,8 +625,8 @@ module _ {K : Type 0} (Means : Meaning K) (slots : ℕ) where
   -- The same once it stopped.
   pub sends_stopped : (why : End) (n : ℕ) (dialogue dialogue' : Dialogue) (old now : K) (left rest : Option (List ℕ))
       (taken : List ℕ) → n ≤ length dialogue.unsent.bytes → dialogue' ≡ sent_on n dialogue →
-      Stopped Means slots why dialogue old now left rest taken →
-      Stopped Means slots why dialogue' old now left rest (taken ++ take n dialogue.unsent.bytes)
+      Stopped newest Means slots why dialogue old now left rest taken →
+      Stopped newest Means slots why dialogue' old now left rest (taken ++ take n dialogue.unsent.bytes)
   sends_stopped why n dialogue dialogue' old now left rest taken fits is (inl before) = inl (record {
     handler = before.handler;
     ends = before.ends;
@@ -628,7 +657,7 @@ module _ {K : Type 0} (Means : Meaning K) (slots : ℕ) where
       })
 
   few_pending : (dialogue : Dialogue) (old now : K) (left unread : Option (List ℕ)) (replies : List Gathered) →
-      Pending Means slots dialogue.session old now left unread replies → messages_among replies < 2 ^ 32
+      Pending newest Means slots dialogue.session old now left unread replies → messages_among replies < 2 ^ 32
   few_pending dialogue old now left unread replies (inl fresh) = omega (arith, ap messages_among fresh.gathered)
   few_pending dialogue old now left unread replies (inr greeted) =
       omega (
@@ -640,7 +669,7 @@ module _ {K : Type 0} (Means : Meaning K) (slots : ℕ) where
 
   -- The tally has room for each message in the outbox, and for one more.
   pub has_room : (dialogue : Dialogue) (old now : K) (left unread : Option (List ℕ)) (taken : List ℕ) →
-      Stands Means slots dialogue old now left unread taken → HasRoom dialogue
+      Stands newest Means slots dialogue old now left unread taken → HasRoom dialogue
   has_room dialogue old now left unread taken stands =
       omega (
         arith,
@@ -650,7 +679,7 @@ module _ {K : Type 0} (Means : Meaning K) (slots : ℕ) where
 
   pub has_room_asking : (cred : Cred) (request : Request) (text : List ℕ) (dialogue : Dialogue) (old now : K)
       (left unread : Option (List ℕ)) (taken : List ℕ) →
-      StandsAsking Means slots cred request text dialogue old now left unread taken →
+      StandsAsking newest Means slots cred request text dialogue old now left unread taken →
       HasRoom dialogue × (taken_in dialogue.session.tally < 2 ^ 64 - 1)
   has_room_asking cred request text dialogue old now left unread taken stands =
       let each = each_counted 0 stands.replies taken dialogue.unsent dialogue.session.tally stands.gathers in
@@ -660,7 +689,7 @@ module _ {K : Type 0} (Means : Meaning K) (slots : ℕ) where
       )
 
   pub has_room_greeting : (version : Version) (dialogue : Dialogue) (old now : K) (left unread : Option (List ℕ))
-      (taken : List ℕ) → StandsGreeting version dialogue old now left unread taken → HasRoom dialogue
+      (taken : List ℕ) → StandsGreeting newest version dialogue old now left unread taken → HasRoom dialogue
   has_room_greeting version dialogue old now left unread taken stands =
       omega (
         arith,
@@ -670,7 +699,7 @@ module _ {K : Type 0} (Means : Meaning K) (slots : ℕ) where
 
   pub has_room_stopped : (why : End) (dialogue : Dialogue) (old now : K) (left rest : Option (List ℕ))
       (taken : List ℕ) →
-      Stopped Means slots why dialogue old now left rest taken → HasRoom dialogue
+      Stopped newest Means slots why dialogue old now left rest taken → HasRoom dialogue
   has_room_stopped why dialogue old now left rest taken (inl before) =
       omega (arith, each_counted 0 [] taken dialogue.unsent dialogue.session.tally before.gathers)
   has_room_stopped why dialogue old now left rest taken (inr after) =
@@ -686,8 +715,8 @@ module _ {K : Type 0} (Means : Meaning K) (slots : ℕ) where
   -- It ends.
   pub ends : (why : End) (dialogue : Dialogue) (old now : K) (left rest before after : Option (List ℕ))
       (taken : List ℕ) →
-      Stopped Means slots why dialogue old now left rest taken → Appends before after taken →
-      ServesTogether Means slots (report why dialogue) old now left rest before after
+      Stopped newest Means slots why dialogue old now left rest taken → Appends before after taken →
+      ServesTogether newest Means slots (report why dialogue) old now left rest before after
   ends why dialogue old now left rest before after taken (inl none) writes =
       let nothing : taken ++ dialogue.unsent.bytes ≡ [] = sym none.gathers.bytes in
       let sent : taken ≡ [] = append_empty taken dialogue.unsent.bytes nothing in
@@ -695,7 +724,7 @@ module _ {K : Type 0} (Means : Meaning K) (slots : ℕ) where
       sym (ap (λ (l : List ℕ). l ++ dialogue.unsent.bytes) sent) ∙ nothing in
       inl (record {
         handler = none.handler;
-        ends = subst (λ (l : List ℕ). StopsBefore (reported why l) left rest) (sym empty) none.ends;
+        ends = subst (λ (l : List ℕ). StopsBefore newest (reported why l) left rest) (sym empty) none.ends;
         writes = subst (Appends before after) sent writes;
         tallies = none_at_end (is_reset why) dialogue.unsent.marks dialogue.session.tally
             (each_counted 0 [] taken dialogue.unsent dialogue.session.tally none.gathers);

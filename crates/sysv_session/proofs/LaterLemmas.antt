@@ -6,10 +6,10 @@ use Rattle.sysv_wire.specs.declared.fault.Fault.TheVariants.{Truncated, TooLong,
 use Rattle.sysv_wire.specs.declared.frame.Version.{Version}
 use Rattle.sysv_wire.specs.Faults.{Faults, RequestFault}
 
-pub refused_later : (version : Version) (fault : Fault) (old new : Option (List ℕ)) →
-    Faults RequestFault fault old new → Faults (LaterFault version) fault old new
-refused_later version Truncated old new found = found
-refused_later version TooLong old new found = found
-refused_later version BadOp old new found = (found.0, found.1, inl found.2, found.3)
-refused_later version BadField old new found = (found.0, found.1, inl found.2, found.3)
-refused_later version Read old new found = found
+pub refused_later : (newest version : Version) (fault : Fault) (old new : Option (List ℕ)) →
+    Faults (RequestFault newest) fault old new → Faults (LaterFault newest version) fault old new
+refused_later newest version Truncated old new found = found
+refused_later newest version TooLong old new found = found
+refused_later newest version BadOp old new found = (found.0, found.1, inl found.2, found.3)
+refused_later newest version BadField old new found = (found.0, found.1, inl found.2, found.3)
+refused_later newest version Read old new found = found

@@ -11,7 +11,7 @@ use Rattle.sysv_session.specs.declared.session.TakenUp.TheVariants.{Hello, Reque
 use Rattle.sysv_session.specs.Answers.{IsAskedIn, IsReplied, MayAnswer}
 use Rattle.sysv_session.specs.Calls.{Call, IsCall, Leads, Meaning}
 use Rattle.sysv_session.specs.Gathered.{Gathered}
-use Rattle.sysv_session.specs.Input.{asked_encoding, hello_of, hello_encoding}
+use Rattle.sysv_session.specs.Input.{FitsHello, asked_encoding, hello_encoding}
 use Rattle.sysv_session.specs.Output.{AreReplied}
 use Rattle.sysv_session.specs.TakenUp.{TakesUp}
 use Rattle.sysv_session.specs.Pending.{Asking, Greets, Pending, greeting, replies_to, reply_to}
@@ -19,37 +19,39 @@ use Rattle.sysv_session.proofs.ListLemmas.{all_more, asked_more, leads_more, len
 use Rattle.sysv_session.proofs.TogetherLemmas.{replies_more}
 use Rattle.sysv_wire.specs.declared.frame.Version.{Version}
 use Rattle.sysv_wire.specs.declared.request.Request.{Request}
-use Rattle.sysv_wire.specs.Requests.{FitsRequest, request_encoding}
+use Rattle.sysv_wire.specs.Requests.{request_encoding}
 
-module _ {K : Type 0} where
+module _ (newest : Version) {K : Type 0} where
   -- This call was made after others, and its reply is not there yet.
   pub record Called (Means : Meaning K) (slots : ℕ) (call : Call) (session : Session) (old now : K)
       (left unread : Option (List ℕ)) (replies : List Gathered) : Type 0 where
     pub version : Version
     pub cred : Cred
-    pub known : FitsRequest (hello_of version cred) []
+    pub known : FitsHello newest version cred
     pub done : List Call
     pub are_calls : AllByRecursion (IsCall version) (done ++ call ∷ [])
     pub leads : Leads Means cred old (done ++ call ∷ []) now
     pub reads : Consumes left unread (hello_encoding version cred ++ asked_encoding (done ++ call ∷ []))
     pub replied : AreReplied done
+    pub limit : session.newest ≡ newest
     pub caller : session.caller ≡ Some (version, cred)
     pub counts : session.requests ≡ 1 + length (done ++ call ∷ [])
     pub bounded : session.requests ≤ SESSION_REQUESTS
     pub gathered : replies ≡ replies_to version slots done
 
-module _ {K : Type 0} (Means : Meaning K) (slots : ℕ) where
+module _ (newest : Version) {K : Type 0} (Means : Meaning K) (slots : ℕ) where
   -- A hello is taken up.
   pub hello_taken : (version : Version) (session session' : Session) (old now : K)
       (left unread rest : Option (List ℕ)) (text : List ℕ) (replies : List Gathered) →
-      Pending Means slots session old now left unread replies →
+      Pending newest Means slots session old now left unread replies →
       TakesUp session session' (Ok (Hello version)) unread rest text →
-      Greets version session' old now left rest replies
+      Greets newest version session' old now left rest replies
   hello_taken version session session' old now left unread rest text replies (inl fresh) takes = record {
     cred = takes.0;
-    known = takes.2.0;
+    known = subst (λ (n : Version). FitsHello n version takes.0) fresh.limit takes.2.0;
     handler = fresh.handler;
     reads = subst (λ (l : Option (List ℕ)). Consumes l rest (hello_encoding version takes.0)) fresh.reads takes.2.1;
+    limit = ap (λ (s : Session). s.newest) takes.3 ∙ fresh.limit;
     caller = ap (λ (s : Session). s.caller) takes.3;
     counts = ap (λ (s : Session). s.requests) takes.3;
     gathered = fresh.gathered;
@@ -59,10 +61,11 @@ module _ {K : Type 0} (Means : Meaning K) (slots : ℕ) where
 
   -- It has its reply.
   pub hello_replied : (version : Version) (session session' : Session) (old now : K) (left unread : Option (List ℕ))
-      (replies : List Gathered) → Greets version session old now left unread replies →
-      session'.caller ≡ session.caller → session'.requests ≡ session.requests →
-      Pending Means slots session' old now left unread (replies ++ greeting version slots ∷ [])
-  hello_replied version session session' old now left unread replies hello caller count = inr (record {
+      (replies : List Gathered) → Greets newest version session old now left unread replies →
+      session'.newest ≡ session.newest → session'.caller ≡ session.caller →
+      session'.requests ≡ session.requests →
+      Pending newest Means slots session' old now left unread (replies ++ greeting version slots ∷ [])
+  hello_replied version session session' old now left unread replies hello limit caller count = inr (record {
     version = version;
     cred = hello.cred;
     known = hello.known;
@@ -71,6 +74,7 @@ module _ {K : Type 0} (Means : Meaning K) (slots : ℕ) where
     leads = hello.handler;
     reads = subst (Consumes left unread) (sym (append-nil (hello_encoding version hello.cred))) hello.reads;
     replied = tt;
+    limit = limit ∙ hello.limit;
     caller = caller ∙ hello.caller;
     counts = omega (arith, count, hello.counts);
     bounded = omega (arith, count, hello.counts);
@@ -80,9 +84,9 @@ module _ {K : Type 0} (Means : Meaning K) (slots : ℕ) where
   -- A request is taken up.
   pub request_taken : (cred : Cred) (request : Request) (session session' : Session) (old now : K)
       (left unread rest : Option (List ℕ)) (text : List ℕ) (replies : List Gathered) →
-      Pending Means slots session old now left unread replies →
+      Pending newest Means slots session old now left unread replies →
       TakesUp session session' (Ok (Asked cred request)) unread rest text →
-      Asking Means slots cred request text session' old now left rest replies
+      Asking newest Means slots cred request text session' old now left rest replies
   request_taken cred request session session' old now left unread rest text replies (inl fresh) takes =
       absurd (grind (arith, fresh.caller, takes.1))
   request_taken cred request session session' old now left unread rest text replies (inr greeted) takes =
@@ -91,7 +95,7 @@ module _ {K : Type 0} (Means : Meaning K) (slots : ℕ) where
       let count : session'.requests ≡ session.requests + 1 = ap (λ (s : Session). s.requests) takes.4 in
       record {
         version = greeted.version;
-        known = subst (λ (c : Cred). FitsRequest (hello_of greeted.version c) []) same_cred greeted.known;
+        known = subst (λ (c : Cred). FitsHello newest greeted.version c) same_cred greeted.known;
         calls = greeted.calls;
         are_calls = greeted.are_calls;
         leads = subst (λ (c : Cred). Leads Means c old greeted.calls now) same_cred greeted.leads;
@@ -101,6 +105,7 @@ module _ {K : Type 0} (Means : Meaning K) (slots : ℕ) where
         asks = takes.3.0;
         asked = subst (λ (v : Version). IsAskedIn v request text) same_version takes.3.1;
         replied = greeted.replied;
+        limit = ap (λ (s : Session). s.newest) takes.4 ∙ greeted.limit;
         caller = ap (λ (s : Session). s.caller) takes.4 ∙ greeted.caller
             ∙ ap (λ (c : Cred). Some (greeted.version, c)) same_cred;
         counts = omega (arith, count, greeted.counts);
@@ -111,10 +116,10 @@ module _ {K : Type 0} (Means : Meaning K) (slots : ℕ) where
   -- Its call is made.
   pub request_called : (cred : Cred) (call : Call) (session : Session) (old now new : K)
       (left unread : Option (List ℕ)) (replies : List Gathered) →
-      Asking Means slots cred call.request call.text session old now left unread replies →
+      Asking newest Means slots cred call.request call.text session old now left unread replies →
       Means now cred call.request call.text call.outcome call.given new →
       MayAnswer call.request.version call.request.ask call.outcome call.given →
-      Called Means slots call session old new left unread replies
+      Called newest Means slots call session old new left unread replies
   request_called cred call session old now new left unread replies asking means may = record {
     version = asking.version;
     cred = cred;
@@ -128,6 +133,7 @@ module _ {K : Type 0} (Means : Meaning K) (slots : ℕ) where
         ∙ ap (λ (l : List ℕ). hello_encoding asking.version cred ++ l) (sym (asked_more asking.calls call)))
         (Consumes-trans left asking.behind unread _ _ asking.reads asking.asks);
     replied = asking.replied;
+    limit = asking.limit;
     caller = asking.caller;
     counts = omega (arith, asking.counts, length_more asking.calls call);
     bounded = asking.bounded;
@@ -136,10 +142,11 @@ module _ {K : Type 0} (Means : Meaning K) (slots : ℕ) where
 
   -- It has its reply.
   pub call_replied : (call : Call) (session session' : Session) (old new : K) (left unread : Option (List ℕ))
-      (replies : List Gathered) → Called Means slots call session old new left unread replies →
-      IsReplied call.outcome → session'.caller ≡ session.caller → session'.requests ≡ session.requests →
-      Pending Means slots session' old new left unread (replies ++ reply_to call ∷ [])
-  call_replied call session session' old new left unread replies called replied caller count = inr (record {
+      (replies : List Gathered) → Called newest Means slots call session old new left unread replies →
+      IsReplied call.outcome → session'.newest ≡ session.newest → session'.caller ≡ session.caller →
+      session'.requests ≡ session.requests →
+      Pending newest Means slots session' old new left unread (replies ++ reply_to call ∷ [])
+  call_replied call session session' old new left unread replies called replied limit caller count = inr (record {
     version = called.version;
     cred = called.cred;
     known = called.known;
@@ -148,6 +155,7 @@ module _ {K : Type 0} (Means : Meaning K) (slots : ℕ) where
     leads = called.leads;
     reads = called.reads;
     replied = all_more (λ (c : Call). IsReplied c.outcome) called.done call called.replied replied;
+    limit = limit ∙ called.limit;
     caller = caller ∙ called.caller;
     counts = count ∙ called.counts;
     bounded = omega (arith, count, called.bounded);

@@ -94,20 +94,22 @@ left_more calls call before after left same told =
       ap (λ (t : Tallied). t.written) e ∙ ap messages_of (sym (all_but_last calls call)),
     )
 
-module _ {K : Type 0} (Means : Meaning K) (slots : ℕ) (old : K) (left taken : Option (List ℕ)) where
+module _ (newest : Version) {K : Type 0} (Means : Meaning K) (slots : ℕ) (old : K) (left taken : Option (List ℕ)) where
   -- A new session has nothing to hand over.
-  pub begins : (session : Session) → session.caller ≡ None → session.tally ≡ record { written = 0; lost = 0 } →
-      session.requests ≡ 0 → HandedOver Means slots session old old left left taken taken
-  begins session caller tally counts = record {
+  pub begins : (session : Session) → session.newest ≡ newest → session.caller ≡ None →
+      session.tally ≡ record { written = 0; lost = 0 } →
+      session.requests ≡ 0 → HandedOver newest Means slots session old old left left taken taken
+  begins session limit caller tally counts = record {
     replies = [];
-    pending = inl (record { caller = caller; counts = counts; handler = refl; reads = refl; gathered = refl });
+    pending =
+        inl (record { limit = limit; caller = caller; counts = counts; handler = refl; reads = refl; gathered = refl });
     writes = Appends-nil taken;
     quiet = λ none. refl;
     tally = tally;
   }
 
   few_messages_of : (session : Session) (now : K) (unread : Option (List ℕ)) (replies : List Gathered) →
-      Pending Means slots session old now left unread replies → messages_among replies < 2 ^ 32
+      Pending newest Means slots session old now left unread replies → messages_among replies < 2 ^ 32
   few_messages_of session now unread replies (inl fresh) = omega (arith, ap messages_among fresh.gathered)
   few_messages_of session now unread replies (inr greeted) =
       omega (
@@ -121,7 +123,7 @@ module _ {K : Type 0} (Means : Meaning K) (slots : ℕ) (old : K) (left taken : 
 
   -- The tally has room for one more message.
   pub has_room : (session : Session) (now : K) (unread more : Option (List ℕ)) →
-      HandedOver Means slots session old now left unread taken more → taken_in session.tally < 2 ^ 64 - 1
+      HandedOver newest Means slots session old now left unread taken more → taken_in session.tally < 2 ^ 64 - 1
   has_room session now unread more so_far =
       omega (
         arith,
@@ -130,30 +132,30 @@ module _ {K : Type 0} (Means : Meaning K) (slots : ℕ) (old : K) (left taken : 
       )
 
   most_requests : (session : Session) (now : K) (unread : Option (List ℕ)) (replies : List Gathered) →
-      Pending Means slots session old now left unread replies → session.requests ≤ SESSION_REQUESTS
+      Pending newest Means slots session old now left unread replies → session.requests ≤ SESSION_REQUESTS
   most_requests session now unread replies (inl fresh) = omega (arith, fresh.counts)
   most_requests session now unread replies (inr greeted) = greeted.bounded
 
   -- It has had at most the maximum number of requests.
   pub few_requests : (session : Session) (now : K) (unread more : Option (List ℕ)) →
-      HandedOver Means slots session old now left unread taken more → session.requests ≤ SESSION_REQUESTS
+      HandedOver newest Means slots session old now left unread taken more → session.requests ≤ SESSION_REQUESTS
   few_requests session now unread more so_far = most_requests session now unread so_far.replies so_far.pending
 
   fresh_count : (session : Session) (now : K) (unread : Option (List ℕ)) (replies : List Gathered) →
-      Pending Means slots session old now left unread replies → session.caller ≡ None → session.requests ≡ 0
+      Pending newest Means slots session old now left unread replies → session.caller ≡ None → session.requests ≡ 0
   fresh_count session now unread replies (inl fresh) none = fresh.counts
   fresh_count session now unread replies (inr greeted) none = absurd (grind (arith, greeted.caller, none))
 
   module _ (session : Session) (now : K) (unread rest more : Option (List ℕ)) (text : List ℕ)
-      (so_far : HandedOver Means slots session old now left unread taken more) where
+      (so_far : HandedOver newest Means slots session old now left unread taken more) where
     -- It ends where it stands, after its hello, and all calls have their replies.
-    converses : (why : End) (greeted : Greeted Means slots session old now left unread so_far.replies) →
-        EndsAfter greeted.version why unread rest → IsBounded why session.requests →
+    converses : (why : End) (greeted : Greeted newest Means slots session old now left unread so_far.replies) →
+        EndsAfter newest greeted.version why unread rest → IsBounded why session.requests →
         (AreReplied greeted.calls → Replies why greeted.calls) →
         (Appends taken more (concat (hello_frame greeted.version slots ∷ frames_of greeted.calls)) →
         Writes why (hello_frame greeted.version slots ∷ frames_of greeted.calls) taken more) →
         answered why greeted.calls ≡ greeted.calls →
-        ServesBy Means slots why session.tally session.requests old now left rest taken more
+        ServesBy newest Means slots why session.tally session.requests old now left rest taken more
     converses why greeted ends bounded replies writes all =
         let told = all_told greeted.version slots greeted.calls so_far.replies session.tally greeted.gathered
         so_far.tally in
@@ -178,9 +180,9 @@ module _ {K : Type 0} (Means : Meaning K) (slots : ℕ) (old : K) (left taken : 
           bounded = bounded;
         })
 
-    reads_stop_at : (why : End) (greeted : Greeted Means slots session old now left unread so_far.replies) →
-        session.requests < SESSION_REQUESTS → TakesRequest greeted.version (Err why) unread rest text →
-        ServesBy Means slots why session.tally session.requests old now left rest taken more
+    reads_stop_at : (why : End) (greeted : Greeted newest Means slots session old now left unread so_far.replies) →
+        session.requests < SESSION_REQUESTS → TakesRequest newest greeted.version (Err why) unread rest text →
+        ServesBy newest Means slots why session.tally session.requests old now left rest taken more
     reads_stop_at Ended greeted few takes = converses Ended greeted takes few (λ r. r) (λ w. w) refl
     reads_stop_at (Fault fault) greeted few takes = converses (Fault fault) greeted takes few (λ r. r) (λ w. w) refl
     reads_stop_at NoMemory greeted few takes = absurd takes
@@ -190,24 +192,30 @@ module _ {K : Type 0} (Means : Meaning K) (slots : ℕ) (old : K) (left taken : 
     reads_stop_at Left greeted few takes = absurd takes
     reads_stop_at Reset greeted few takes = absurd takes
 
-    reads_stop : (why : End) (greeted : Greeted Means slots session old now left unread so_far.replies) →
-        EndsHere (Some (greeted.version, greeted.cred)) session.requests why unread rest text →
-        ServesBy Means slots why session.tally session.requests old now left rest taken more
+    reads_stop : (why : End) (greeted : Greeted newest Means slots session old now left unread so_far.replies) →
+        EndsHere newest (Some (greeted.version, greeted.cred)) session.requests why unread rest text →
+        ServesBy newest Means slots why session.tally session.requests old now left rest taken more
     reads_stop why greeted (inl bound) =
         let most : session.requests ≡ SESSION_REQUESTS = omega (arith, bound.0, greeted.bounded) in
-        subst (λ (w : End). ServesBy Means slots w session.tally session.requests old now left rest taken more)
+        subst (λ (w : End). ServesBy newest Means slots w session.tally session.requests old now left rest taken more)
         (sym bound.1) (converses Bound greeted bound.2 most (λ r. r) (λ w. w) refl)
     reads_stop why greeted (inr read) = reads_stop_at why greeted read.0 read.1
 
-    stops_at : (why : End) → Pending Means slots session old now left unread so_far.replies →
-        EndsHere session.caller session.requests why unread rest text →
-        ServesBy Means slots why session.tally session.requests old now left rest taken more
+    limited : (why : End) → session.newest ≡ newest →
+        EndsHere session.newest session.caller session.requests why unread rest text →
+        EndsHere newest session.caller session.requests why unread rest text
+    limited why limit here =
+        subst (λ (n : Version). EndsHere n session.caller session.requests why unread rest text) limit here
+
+    stops_at : (why : End) → Pending newest Means slots session old now left unread so_far.replies →
+        EndsHere session.newest session.caller session.requests why unread rest text →
+        ServesBy newest Means slots why session.tally session.requests old now left rest taken more
     stops_at why (inl fresh) here =
-        let ends = subst (λ (c : Option (Version × Cred)). EndsHere c session.requests why unread rest text)
-        fresh.caller here in
+        let ends = subst (λ (c : Option (Version × Cred)). EndsHere newest c session.requests why unread rest text)
+        fresh.caller (limited why fresh.limit here) in
         inl (record {
           handler = fresh.handler;
-          ends = subst (λ (l : Option (List ℕ)). EndsBefore why l rest) fresh.reads ends.0;
+          ends = subst (λ (l : Option (List ℕ)). EndsBefore newest why l rest) fresh.reads ends.0;
           writes = so_far.quiet fresh.gathered;
           tallies = so_far.tally
               ∙ ap (λ (l : List Gathered). let t : Tallied = record { written = messages_among l; lost = 0 } in t)
@@ -216,23 +224,26 @@ module _ {K : Type 0} (Means : Meaning K) (slots : ℕ) (old : K) (left taken : 
         })
     stops_at why (inr greeted) here =
         reads_stop why greeted
-        (subst (λ (c : Option (Version × Cred)). EndsHere c session.requests why unread rest text) greeted.caller here)
+        (subst (λ (c : Option (Version × Cred)). EndsHere newest c session.requests why unread rest text)
+        greeted.caller (limited why greeted.limit here))
 
     -- What it reads stops it.
     pub stops : (why : End) (session' : Session) → TakesUp session session' (Err why) unread rest text →
-        Proceeds Means slots (Err why) session.requests session' old now left rest taken more
+        Proceeds newest Means slots (Err why) session.requests session' old now left rest taken more
     stops why session' takes =
-        subst (λ (s : Session). ServesBy Means slots why s.tally s.requests old now left rest taken more) (sym takes.0)
+        subst (λ (s : Session). ServesBy newest Means slots why s.tally s.requests old now left rest taken more)
+        (sym takes.0)
         (stops_at why so_far.pending takes.1)
 
     -- It answers what it took up.
-    module _ (mid new : Session) (most : Option (List ℕ)) (caller : new.caller ≡ mid.caller)
+    module _ (mid new : Session) (most : Option (List ℕ)) (limit : new.newest ≡ mid.newest)
+        (caller : new.caller ≡ mid.caller)
         (count : new.requests ≡ mid.requests) where
       serves_on : (version : Version) (outcome : RequestOutcome) (given : List ℕ) (next : K) →
           mid.tally ≡ session.tally → mid.requests ≡ session.requests + 1 →
-          Pending Means slots new old next left rest (so_far.replies ++ reply_for version outcome given ∷ []) →
+          Pending newest Means slots new old next left rest (so_far.replies ++ reply_for version outcome given ∷ []) →
           Answers (Ok tt) version outcome given more most mid.tally new.tally →
-          Proceeds Means slots (Ok tt) session.requests new old next left rest taken most
+          Proceeds newest Means slots (Ok tt) session.requests new old next left rest taken most
       serves_on version outcome given next kept one pending answers = (
         count ∙ one,
         record {
@@ -253,18 +264,20 @@ module _ {K : Type 0} (Means : Meaning K) (slots : ℕ) (old : K) (left taken : 
 
       -- A hello.
       module _ (version : Version) (takes : TakesUp session mid (Ok (Hello version)) unread rest text) where
-        hello : Greets version mid old now left rest so_far.replies
+        hello : Greets newest version mid old now left rest so_far.replies
         hello =
-            hello_taken Means slots version session mid old now left unread rest text so_far.replies so_far.pending
+            hello_taken newest Means slots version session mid old now left unread rest text so_far.replies
+            so_far.pending
             takes
 
         pub answers_hello : (result : Result ⊤ End) →
             Answers result version (Reply (hello_reply version slots)) [] more most mid.tally new.tally →
-            Proceeds Means slots result session.requests new old now left rest taken most
+            Proceeds newest Means slots result session.requests new old now left rest taken most
         answers_hello (Ok done) answers =
             serves_on version (Reply (hello_reply version slots)) [] now (ap (λ (s : Session). s.tally) takes.3)
             (omega (arith, hello.counts, fresh_count session now unread so_far.replies so_far.pending takes.1))
-            (hello_replied Means slots version mid new old now left rest so_far.replies hello caller count) answers
+            (hello_replied newest Means slots version mid new old now left rest so_far.replies hello limit caller count)
+            answers
         answers_hello (Err Write) answers =
             let told : new.tally ≡ record { written = messages_among so_far.replies; lost = 0 } =
             answers.2 ∙ ap (one_lost (Reply (hello_reply version slots)))
@@ -309,10 +322,11 @@ module _ {K : Type 0} (Means : Meaning K) (slots : ℕ) (old : K) (left taken : 
           (takes : TakesUp session mid (Ok (Asked cred call.request)) unread rest call.text)
           (means : Means now cred call.request call.text call.outcome call.given next)
           (may : MayAnswer call.request.version call.request.ask call.outcome call.given) where
-        called : Called Means slots call mid old next left rest so_far.replies
+        called : Called newest Means slots call mid old next left rest so_far.replies
         called =
-            request_called Means slots cred call mid old now next left rest so_far.replies
-            (request_taken Means slots cred call.request session mid old now left unread rest call.text so_far.replies
+            request_called newest Means slots cred call mid old now next left rest so_far.replies
+            (request_taken newest Means slots cred call.request session mid old now left unread rest call.text
+            so_far.replies
             so_far.pending takes) means may
 
         told : mid.tally ≡ record { written = messages_of called.done; lost = 0 }
@@ -325,10 +339,11 @@ module _ {K : Type 0} (Means : Meaning K) (slots : ℕ) (old : K) (left taken : 
             all_written called.version slots called.done so_far.replies taken more called.gathered so_far.writes
 
         -- It ends with this call.
-        converses_last : (why : End) → EndsAfter called.version why rest rest → Replies why (called.done ++ call ∷ []) →
+        converses_last : (why : End) → EndsAfter newest called.version why rest rest →
+            Replies why (called.done ++ call ∷ []) →
             Writes why (hello_frame called.version slots ∷ frames_of (called.done ++ call ∷ [])) taken most →
             Tallies why (called.done ++ call ∷ []) new.tally → IsBounded why new.requests →
-            ServesBy Means slots why new.tally new.requests old next left rest taken most
+            ServesBy newest Means slots why new.tally new.requests old next left rest taken most
         converses_last why ends replied writes tallies bounded = inr (record {
           version = called.version;
           cred = called.cred;
@@ -348,11 +363,12 @@ module _ {K : Type 0} (Means : Meaning K) (slots : ℕ) (old : K) (left taken : 
 
         pub answers_call : (result : Result ⊤ End) →
             Answers result call.request.version call.outcome call.given more most mid.tally new.tally →
-            Proceeds Means slots result session.requests new old next left rest taken most
+            Proceeds newest Means slots result session.requests new old next left rest taken most
         answers_call (Ok done) answers =
             serves_on call.request.version call.outcome call.given next (ap (λ (s : Session). s.tally) takes.4)
             (ap (λ (s : Session). s.requests) takes.4)
-            (call_replied Means slots call mid new old next left rest so_far.replies called answers.0 caller count)
+            (call_replied newest Means slots call mid new old next left rest so_far.replies called answers.0 limit
+            caller count)
             answers
         answers_call (Err Write) answers =
             converses_last Write refl

@@ -244,15 +244,16 @@ last_of_replies version slots calls n replied =
     one_ends n 0 (replies_to version slots calls) (hello_bytes version slots, calls_have_bytes calls replied)
 
 -- What ends a session before its hello stops a conversation too.
-pub stops_before : (why : End) (left rest : Option (List ℕ)) → EndsBefore why left rest → StopsBefore why left rest
-stops_before Ended left rest ends = ends
-stops_before NoMemory left rest ends = ends
-stops_before NoHello left rest ends = ends
-stops_before (Fault fault) left rest ends = ends
-stops_before Write left rest ends = ends
-stops_before Bound left rest ends = ends
-stops_before Left left rest ends = ends
-stops_before Reset left rest ends = absurd ends
+pub stops_before : (newest : Version) (why : End) (left rest : Option (List ℕ)) → EndsBefore newest why left rest →
+    StopsBefore newest why left rest
+stops_before newest Ended left rest ends = ends
+stops_before newest NoMemory left rest ends = ends
+stops_before newest NoHello left rest ends = ends
+stops_before newest (Fault fault) left rest ends = ends
+stops_before newest Write left rest ends = ends
+stops_before newest Bound left rest ends = ends
+stops_before newest Left left rest ends = ends
+stops_before newest Reset left rest ends = absurd ends
 
 -- A writer took the first frames whole, and not all of the last.
 pub record Broken (front : List (List ℕ)) (last : List ℕ) (old new : Option (List ℕ)) : Type 0 where
@@ -349,16 +350,16 @@ fault_within BadOp requests few = few
 fault_within BadField requests few = few
 fault_within Read requests few = tt
 
-module _ {K : Type 0} where
+module _ (newest : Version) {K : Type 0} where
   -- All was sent: the replies to the hello and to these calls.
   whole : (Means : Meaning K) (slots : ℕ) (why : End) (tally : Tallied) (requests : ℕ) (old new : K)
       (left rest taken more : Option (List ℕ))
-      (converses : Converses Means slots why tally requests old new left rest taken more) (done : List Call)
-      → StopsAfter converses.version why converses.unread rest → IsStoppedWithin why requests
+      (converses : Converses newest Means slots why tally requests old new left rest taken more) (done : List Call)
+      → StopsAfter newest converses.version why converses.unread rest → IsStoppedWithin why requests
       → Replied why converses.version slots converses.calls (replies_to converses.version slots done)
       → Appends taken more (concat (hello_frame converses.version slots ∷ frames_of done))
       → tally.written ≡ messages_of done → ((n : ℕ) (l : List Gathered) → unread_at why n l ≡ 0)
-      → ConversesTogether Means slots why tally requests old new left rest taken more
+      → ConversesTogether newest Means slots why tally requests old new left rest taken more
   whole Means slots why tally requests old new left rest taken more converses done ends bounded replied writes written
       read =
       let replies = replies_to converses.version slots done in
@@ -394,12 +395,13 @@ module _ {K : Type 0} where
   -- The writer failed at the last reply.
   failed : (Means : Meaning K) (slots : ℕ) (tally : Tallied) (requests : ℕ) (old new : K)
       (left rest taken more : Option (List ℕ))
-      (converses : Converses Means slots Write tally requests old new left rest taken more) (front : List Gathered)
+      (converses : Converses newest Means slots Write tally requests old new left rest taken more)
+      (front : List Gathered)
       (last : Gathered) (before : List (List ℕ))
       → replies_to converses.version slots converses.calls ≡ front ++ last ∷ []
       → all_bytes (front ++ last ∷ []) ≡ concat (before ++ last.frame ∷ []) → all_bytes front ≡ concat before
       → tally.written ≡ messages_among front → Broken before last.frame taken more
-      → ConversesTogether Means slots Write tally requests old new left rest taken more
+      → ConversesTogether newest Means slots Write tally requests old new left rest taken more
   failed Means slots tally requests old new left rest taken more converses front last before are bytes first written
       cut =
       let replies = replies_to converses.version slots converses.calls in
@@ -445,10 +447,10 @@ module _ {K : Type 0} where
 
   fails : (Means : Meaning K) (slots : ℕ) (tally : Tallied) (requests : ℕ) (old new : K)
       (left rest taken more : Option (List ℕ))
-      (converses : Converses Means slots Write tally requests old new left rest taken more)
+      (converses : Converses newest Means slots Write tally requests old new left rest taken more)
       → FailsEarly Write (hello_frame converses.version slots ∷ frames_of converses.calls) taken more
       → (converses.calls ≡ []) ⊎ ((done : List Call) × (last : Call) × (converses.calls ≡ done ++ last ∷ []))
-      → ConversesTogether Means slots Write tally requests old new left rest taken more
+      → ConversesTogether newest Means slots Write tally requests old new left rest taken more
   fails Means slots tally requests old new left rest taken more converses early (inl none) =
       failed Means slots tally requests old new left rest taken more converses [] (greeting converses.version slots) []
       (rw none refl) (replies_bytes converses.version slots []) refl
@@ -485,8 +487,8 @@ module _ {K : Type 0} where
   -- The last call was left.
   leaves : (Means : Meaning K) (slots : ℕ) (tally : Tallied) (requests : ℕ) (old new : K)
       (left rest taken more : Option (List ℕ))
-      (converses : Converses Means slots Left tally requests old new left rest taken more)
-      → ConversesTogether Means slots Left tally requests old new left rest taken more
+      (converses : Converses newest Means slots Left tally requests old new left rest taken more)
+      → ConversesTogether newest Means slots Left tally requests old new left rest taken more
   leaves Means slots tally requests old new left rest taken more converses =
       let version = converses.version in
       let done = converses.replies.0 in
@@ -502,9 +504,9 @@ module _ {K : Type 0} where
 
   converses_together : (Means : Meaning K) (slots : ℕ) (why : End) (tally : Tallied) (requests : ℕ) (old new : K)
       (left rest taken more : Option (List ℕ))
-      (converses : Converses Means slots why tally requests old new left rest taken more)
+      (converses : Converses newest Means slots why tally requests old new left rest taken more)
       → FailsEarly why (hello_frame converses.version slots ∷ frames_of converses.calls) taken more
-      → ConversesTogether Means slots why tally requests old new left rest taken more
+      → ConversesTogether newest Means slots why tally requests old new left rest taken more
   converses_together Means slots Ended tally requests old new left rest taken more converses early =
       whole Means slots Ended tally requests old new left rest taken more converses converses.calls converses.ends
       converses.bounded
@@ -529,10 +531,10 @@ module _ {K : Type 0} where
   converses_together Means slots Reset tally requests old new left rest taken more converses early =
       absurd converses.ends
 
-  pub together : (Means : Meaning K) → AreTogether Means
+  pub together : (Means : Meaning K) → AreTogether newest Means
   together Means slots served old new left rest taken more (inl stays) early = inl (record {
     handler = stays.handler;
-    ends = stops_before served.«end» left rest stays.ends;
+    ends = stops_before newest served.«end» left rest stays.ends;
     writes = subst (λ (m : Option (List ℕ)). Appends taken m []) (sym stays.writes) (Appends-nil taken);
     tallies = stays.tallies;
     counts = stays.counts;

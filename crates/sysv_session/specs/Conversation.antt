@@ -23,7 +23,12 @@ pub record Dialogue : Type 0 where
 
 -- The session with this tally.
 abbrev pub tallied : Tallied → Session → Session
-tallied tally session = record { caller = session.caller; tally = tally; requests = session.requests }
+tallied tally session = record {
+  newest = session.newest;
+  caller = session.caller;
+  tally = tally;
+  requests = session.requests;
+}
 
 -- One more reply is gathered.
 abbrev pub gathered : (Unsent → Unsent) → Dialogue → Dialogue

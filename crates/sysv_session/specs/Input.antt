@@ -13,6 +13,7 @@ use Rattle.sysv_wire.specs.declared.frame.Version.{Version}
 use Rattle.sysv_wire.specs.declared.request.Ask.TheVariants.{Hello}
 use Rattle.sysv_wire.specs.declared.request.Request.{Request}
 use Rattle.sysv_wire.specs.Faults.{Faults, RequestFault}
+use Rattle.sysv_wire.specs.Frames.{IsUpTo}
 use Rattle.sysv_wire.specs.Requests.{FitsRequest, request_encoding}
 
 -- The hello of this version with these credentials.
@@ -27,60 +28,67 @@ hello_encoding version cred = request_encoding (hello_of version cred) []
 abbrev pub asked_encoding : List Call → List ℕ
 asked_encoding calls = flat_map (λ call. request_encoding call.request call.text) calls
 
--- These bytes are a hello of this version.
-abbrev pub IsHello : Version → List ℕ → Type 0
-IsHello version bytes = (cred : Cred) × FitsRequest (hello_of version cred) [] × (bytes ≡ hello_encoding version cred)
+-- What a session with this newest version reads.
+module _ (newest : Version) where
+  -- It reads a hello of this version with these credentials, which can be sent.
+  abbrev pub FitsHello : Version → Cred → Type 0
+  FitsHello version cred = FitsRequest (hello_of version cred) [] × IsUpTo newest version
 
--- These bytes are a request of another version, which may be a hello.
-abbrev pub IsOfAnother : Version → List ℕ → Type 0
-IsOfAnother version bytes =
-    (request : Request) × (text : List ℕ) × (request.version ≢ version) × FitsRequest request text
-    × (bytes ≡ request_encoding request text)
+  -- These bytes are a hello of this version.
+  abbrev pub IsHello : Version → List ℕ → Type 0
+  IsHello version bytes = (cred : Cred) × FitsHello version cred × (bytes ≡ hello_encoding version cred)
 
--- Why a request after the hello is refused in a session of this version, by the bytes that were
--- taken: as any request is refused, or because it is another hello, or because it is of another
--- version.
-abbrev pub LaterFault : Version → Fault → List ℕ → Type 0
-LaterFault version Truncated taken = RequestFault Truncated taken
-LaterFault version TooLong taken = RequestFault TooLong taken
-LaterFault version BadOp taken = RequestFault BadOp taken ⊎ IsHello version taken
-LaterFault version BadField taken = RequestFault BadField taken ⊎ IsOfAnother version taken
-LaterFault version Read taken = RequestFault Read taken
+  -- These bytes are a request of another version, which may be a hello.
+  abbrev pub IsOfAnother : Version → List ℕ → Type 0
+  IsOfAnother version bytes =
+      (request : Request) × (text : List ℕ) × (request.version ≢ version) × FitsRequest request text
+      × (bytes ≡ request_encoding request text) × IsUpTo newest request.version
 
--- The next request that the handler receives is read, or there is none at the end of the input, or
--- there is a fault.
-abbrev pub ReadsAsked : Version → Option (List ℕ) → Option (List ℕ) → Result (Option Request) Fault → List ℕ → Type 0
-ReadsAsked version old new (Ok (Some request)) text =
-    Consumes old new (request_encoding request text) × IsAskedIn version request text
-ReadsAsked version old new (Ok None) text = Consumes old new [] × IsAtEnd new
-ReadsAsked version old new (Err fault) text = Faults (LaterFault version) fault old new
+  -- Why a request after the hello is refused in a session of this version, by the bytes that were
+  -- taken: as any request is refused, or because it is another hello, or because it is of another
+  -- version.
+  abbrev pub LaterFault : Version → Fault → List ℕ → Type 0
+  LaterFault version Truncated taken = RequestFault newest Truncated taken
+  LaterFault version TooLong taken = RequestFault newest TooLong taken
+  LaterFault version BadOp taken = RequestFault newest BadOp taken ⊎ IsHello version taken
+  LaterFault version BadField taken = RequestFault newest BadField taken ⊎ IsOfAnother version taken
+  LaterFault version Read taken = RequestFault newest Read taken
 
--- Why a session ends before its hello, by what it took of the input.
-abbrev pub EndsBefore : End → Option (List ℕ) → Option (List ℕ) → Type 0
-EndsBefore «end».Ended old new = Consumes old new [] × IsAtEnd new
-EndsBefore «end».NoMemory old new = new ≡ old
-EndsBefore «end».NoHello old new =
-    (request : Request) × (text : List ℕ) × IsAsked request text × Consumes old new (request_encoding request text)
-EndsBefore («end».Fault fault) old new = Faults RequestFault fault old new
-EndsBefore «end».Write old new = ⊥
-EndsBefore «end».Bound old new = ⊥
-EndsBefore «end».Left old new = ⊥
-EndsBefore «end».Reset old new = ⊥
+  -- The next request that the handler receives is read, or there is none at the end of the input, or
+  -- there is a fault.
+  abbrev pub ReadsAsked : Version → Option (List ℕ) → Option (List ℕ) → Result (Option Request) Fault → List ℕ → Type 0
+  ReadsAsked version old new (Ok (Some request)) text =
+      Consumes old new (request_encoding request text) × IsAskedIn version request text
+  ReadsAsked version old new (Ok None) text = Consumes old new [] × IsAtEnd new
+  ReadsAsked version old new (Err fault) text = Faults (LaterFault version) fault old new
 
--- Why a session ends after its hello, by what it took of the input after the last request that it
--- took up.
-abbrev pub EndsAfter : Version → End → Option (List ℕ) → Option (List ℕ) → Type 0
-EndsAfter version «end».Ended old new = Consumes old new [] × IsAtEnd new
-EndsAfter version «end».NoMemory old new = ⊥
-EndsAfter version «end».NoHello old new = ⊥
-EndsAfter version («end».Fault fault) old new = Faults (LaterFault version) fault old new
-EndsAfter version «end».Write old new = new ≡ old
-EndsAfter version «end».Bound old new = new ≡ old
-EndsAfter version «end».Left old new = new ≡ old
-EndsAfter version «end».Reset old new = ⊥
+  -- Why a session ends before its hello, by what it took of the input.
+  abbrev pub EndsBefore : End → Option (List ℕ) → Option (List ℕ) → Type 0
+  EndsBefore «end».Ended old new = Consumes old new [] × IsAtEnd new
+  EndsBefore «end».NoMemory old new = new ≡ old
+  EndsBefore «end».NoHello old new =
+      (request : Request) × (text : List ℕ) × IsAsked request text × Consumes old new (request_encoding request text)
+      × IsUpTo newest request.version
+  EndsBefore («end».Fault fault) old new = Faults (RequestFault newest) fault old new
+  EndsBefore «end».Write old new = ⊥
+  EndsBefore «end».Bound old new = ⊥
+  EndsBefore «end».Left old new = ⊥
+  EndsBefore «end».Reset old new = ⊥
 
--- The version and the credentials of a hello are read, or there is a reason why there is no hello.
-abbrev pub Greets : Result (Version × Cred) End → Option (List ℕ) → Option (List ℕ) → Type 0
-Greets (Ok caller) old new =
-    FitsRequest (hello_of caller.0 caller.1) [] × Consumes old new (hello_encoding caller.0 caller.1)
-Greets (Err why) old new = EndsBefore why old new × (why ≢ «end».NoMemory)
+  -- Why a session ends after its hello, by what it took of the input after the last request that it
+  -- took up.
+  abbrev pub EndsAfter : Version → End → Option (List ℕ) → Option (List ℕ) → Type 0
+  EndsAfter version «end».Ended old new = Consumes old new [] × IsAtEnd new
+  EndsAfter version «end».NoMemory old new = ⊥
+  EndsAfter version «end».NoHello old new = ⊥
+  EndsAfter version («end».Fault fault) old new = Faults (LaterFault version) fault old new
+  EndsAfter version «end».Write old new = new ≡ old
+  EndsAfter version «end».Bound old new = new ≡ old
+  EndsAfter version «end».Left old new = new ≡ old
+  EndsAfter version «end».Reset old new = ⊥
+
+  -- The version and the credentials of a hello are read, or there is a reason why there is no hello.
+  abbrev pub Greets : Result (Version × Cred) End → Option (List ℕ) → Option (List ℕ) → Type 0
+  Greets (Ok caller) old new =
+      FitsHello caller.0 caller.1 × Consumes old new (hello_encoding caller.0 caller.1)
+  Greets (Err why) old new = EndsBefore why old new × (why ≢ «end».NoMemory)

@@ -12,7 +12,7 @@ use Rattle.sysv_session.specs.Answers.{IsReplied, outcome_encoding}
 use Rattle.sysv_session.specs.Calls.{Call, messages_of}
 use Rattle.sysv_wire.specs.declared.frame.Op.TheVariants as op
 use Rattle.sysv_wire.specs.declared.frame.Version.{Version}
-use Rattle.sysv_wire.specs.declared.frame.Version.TheVariants.{One, Two}
+use Rattle.sysv_wire.specs.declared.frame.Version.TheVariants.{One, Two, Three}
 use Rattle.sysv_wire.specs.declared.reply.ReplyContent.{ReplyContent}
 use Rattle.sysv_wire.specs.declared.reply.ReplyContent.TheVariants.{Hello, HelloSlots}
 use Rattle.sysv_wire.specs.declared.reply.Reply.{Reply}
@@ -24,6 +24,7 @@ use Rattle.sysv_model.specs.Writing.{AppendsPrefix}
 abbrev pub hello_content : Version → ℕ → ReplyContent
 hello_content One slots = Hello
 hello_content Two slots = HelloSlots slots
+hello_content Three slots = HelloSlots slots
 
 -- The reply to a hello of this version, with this number of slots.
 abbrev pub hello_reply : Version → ℕ → Reply

@@ -12,12 +12,12 @@ use Rattle.sysv_session.specs.declared.session.Session.{Session}
 use Rattle.sysv_session.specs.Answers.{IsAskedIn}
 use Rattle.sysv_session.specs.Calls.{Call, IsCall, Leads, Meaning}
 use Rattle.sysv_session.specs.Gathered.{Gathered, message_of, plain}
-use Rattle.sysv_session.specs.Input.{asked_encoding, hello_of, hello_encoding}
+use Rattle.sysv_session.specs.Input.{FitsHello, asked_encoding, hello_encoding}
 use Rattle.sysv_session.specs.Output.{AreReplied, hello_frame}
 use Rattle.sysv_wire.specs.declared.frame.Version.{Version}
 use Rattle.sysv_wire.specs.declared.request.Request.{Request}
 use Rattle.sysv_wire.specs.Replies.{reply_encoding}
-use Rattle.sysv_wire.specs.Requests.{FitsRequest, request_encoding}
+use Rattle.sysv_wire.specs.Requests.{request_encoding}
 
 -- The reply for an outcome in this version: a message with its mark, and any other reply without.
 -- A call that was left has no bytes.
@@ -30,7 +30,7 @@ reply_for version Left given = plain []
 abbrev pub reply_to : Call → Gathered
 reply_to call = reply_for call.request.version call.outcome call.given
 
--- The reply to a hello of this version, which states this number of slots in version 2.
+-- The reply to a hello of this version, which states this number of slots unless it is version 1.
 abbrev pub greeting : Version → ℕ → Gathered
 greeting version slots = plain (hello_frame version slots)
 
@@ -38,10 +38,11 @@ greeting version slots = plain (hello_frame version slots)
 abbrev pub replies_to : Version → ℕ → List Call → List Gathered
 replies_to version slots calls = greeting version slots ∷ map reply_to calls
 
-module _ {K : Type 0} where
+module _ (newest : Version) {K : Type 0} where
   -- No hello was taken up yet.
   pub record Fresh (session : Session) (old now : K) (left unread : Option (List ℕ)) (replies : List Gathered) :
       Type 0 where
+    pub limit : session.newest ≡ newest
     pub caller : session.caller ≡ None
     pub counts : session.requests ≡ 0
     pub handler : now ≡ old
@@ -53,12 +54,13 @@ module _ {K : Type 0} where
       (left unread : Option (List ℕ)) (replies : List Gathered) : Type 0 where
     pub version : Version
     pub cred : Cred
-    pub known : FitsRequest (hello_of version cred) []
+    pub known : FitsHello newest version cred
     pub calls : List Call
     pub are_calls : AllByRecursion (IsCall version) calls
     pub leads : Leads Means cred old calls now
     pub reads : Consumes left unread (hello_encoding version cred ++ asked_encoding calls)
     pub replied : AreReplied calls
+    pub limit : session.newest ≡ newest
     pub caller : session.caller ≡ Some (version, cred)
     pub counts : session.requests ≡ 1 + length calls
     pub bounded : session.requests ≤ SESSION_REQUESTS
@@ -75,9 +77,10 @@ module _ {K : Type 0} where
   pub record Greets (version : Version) (session : Session) (old now : K) (left unread : Option (List ℕ))
       (replies : List Gathered) : Type 0 where
     pub cred : Cred
-    pub known : FitsRequest (hello_of version cred) []
+    pub known : FitsHello newest version cred
     pub handler : now ≡ old
     pub reads : Consumes left unread (hello_encoding version cred)
+    pub limit : session.newest ≡ newest
     pub caller : session.caller ≡ Some (version, cred)
     pub counts : session.requests ≡ 1
     pub gathered : replies ≡ []
@@ -87,7 +90,7 @@ module _ {K : Type 0} where
   pub record Asking (Means : Meaning K) (slots : ℕ) (cred : Cred) (request : Request) (text : List ℕ)
       (session : Session) (old now : K) (left unread : Option (List ℕ)) (replies : List Gathered) : Type 0 where
     pub version : Version
-    pub known : FitsRequest (hello_of version cred) []
+    pub known : FitsHello newest version cred
     pub calls : List Call
     pub are_calls : AllByRecursion (IsCall version) calls
     pub leads : Leads Means cred old calls now
@@ -96,6 +99,7 @@ module _ {K : Type 0} where
     pub asks : Consumes behind unread (request_encoding request text)
     pub asked : IsAskedIn version request text
     pub replied : AreReplied calls
+    pub limit : session.newest ≡ newest
     pub caller : session.caller ≡ Some (version, cred)
     pub counts : session.requests ≡ 2 + length calls
     pub bounded : session.requests ≤ SESSION_REQUESTS

@@ -12,10 +12,9 @@ use Rattle.sysv_session.specs.declared.served.End.TheVariants.{Reset}
 use Rattle.sysv_session.specs.declared.served.Served.{Served}
 use Rattle.sysv_session.specs.declared.served.TheConstants.{SESSION_REQUESTS}
 use Rattle.sysv_session.specs.Calls.{Call, IsCall, Leads, Meaning}
-use Rattle.sysv_session.specs.Input.{EndsAfter, EndsBefore, asked_encoding, hello_of, hello_encoding}
+use Rattle.sysv_session.specs.Input.{EndsAfter, EndsBefore, FitsHello, asked_encoding, hello_encoding}
 use Rattle.sysv_session.specs.Output.{Replies, Tallies, Writes, frames_of, hello_frame}
 use Rattle.sysv_wire.specs.declared.frame.Version.{Version}
-use Rattle.sysv_wire.specs.Requests.{FitsRequest}
 
 -- A session that ends at its bound has taken up the maximum number of requests. One that ends
 -- because of what it reads has taken up fewer.
@@ -29,12 +28,12 @@ IsBounded Bound requests = requests ≡ SESSION_REQUESTS
 IsBounded Left requests = ⊤
 IsBounded Reset requests = ⊤
 
-module _ {K : Type 0} where
+module _ (newest : Version) {K : Type 0} where
   -- A session without a hello makes no call and writes nothing.
   pub record Stays (why : End) (tally : Tallied) (requests : ℕ) (old new : K)
       (left rest taken more : Option (List ℕ)) : Type 0 where
     pub handler : new ≡ old
-    pub ends : EndsBefore why left rest
+    pub ends : EndsBefore newest why left rest
     pub writes : more ≡ taken
     pub tallies : tally ≡ record { written = 0; lost = 0 }
     pub counts : requests ≡ 0
@@ -42,18 +41,18 @@ module _ {K : Type 0} where
   -- A session with a hello. Its calls of the handler are one for each request of the hello's
   -- version that was read after the hello, and it writes the frames of the replies to the hello and
   -- to these calls. Each call has a reply, except a last one that was left. The reply to the hello
-  -- states this number of slots, if it is of version 2.
+  -- states this number of slots, unless it is of version 1.
   pub record Converses (Means : Meaning K) (slots : ℕ) (why : End) (tally : Tallied) (requests : ℕ) (old new : K)
       (left rest taken more : Option (List ℕ)) : Type 0 where
     pub version : Version
     pub cred : Cred
-    pub known : FitsRequest (hello_of version cred) []
+    pub known : FitsHello newest version cred
     pub calls : List Call
     pub are_calls : AllByRecursion (IsCall version) calls
     pub leads : Leads Means cred old calls new
     pub unread : Option (List ℕ)  -- what the reader had left after the last request that was taken up
     pub reads : Consumes left unread (hello_encoding version cred ++ asked_encoding calls)
-    pub ends : EndsAfter version why unread rest
+    pub ends : EndsAfter newest version why unread rest
     pub replies : Replies why calls
     pub writes : Writes why (hello_frame version slots ∷ frames_of calls) taken more
     pub tallies : Tallies why calls tally

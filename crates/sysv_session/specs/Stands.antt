@@ -10,37 +10,36 @@ use Rattle.sysv_session.specs.declared.served.TheConstants.{SESSION_REQUESTS}
 use Rattle.sysv_session.specs.Calls.{Call, IsCall, Leads, Meaning, messages_of}
 use Rattle.sysv_session.specs.Conversation.{Dialogue}
 use Rattle.sysv_session.specs.Gathered.{Gathered, Gathers, messages_among}
-use Rattle.sysv_session.specs.Input.{asked_encoding, hello_of, hello_encoding}
+use Rattle.sysv_session.specs.Input.{FitsHello, asked_encoding, hello_encoding}
 use Rattle.sysv_session.specs.Together.{IsStoppedWithin, Replied, StopsAfter, StopsBefore}
 use Rattle.sysv_session.specs.Pending.{Asking, Greets, Pending}
 use Rattle.sysv_wire.specs.declared.frame.Version.{Version}
 use Rattle.sysv_wire.specs.declared.request.Request.{Request}
-use Rattle.sysv_wire.specs.Requests.{FitsRequest}
 
 -- No message was written, and this many were lost.
 abbrev pub only_lost : ℕ → Tallied
 only_lost count = record { written = 0; lost = count }
 
-module _ {K : Type 0} where
+module _ (newest : Version) {K : Type 0} where
   -- All that was taken up has its reply.
   pub record Stands (Means : Meaning K) (slots : ℕ) (dialogue : Dialogue) (old now : K) (left unread : Option (List ℕ))
       (taken : List ℕ) : Type 0 where
     pub replies : List Gathered
-    pub pending : Pending Means slots dialogue.session old now left unread replies
+    pub pending : Pending newest Means slots dialogue.session old now left unread replies
     pub gathers : Gathers (only_lost 0) replies taken dialogue.unsent dialogue.session.tally
 
   -- A hello of this version was taken up, and its reply is not gathered yet.
   pub record StandsGreeting (version : Version) (dialogue : Dialogue) (old now : K) (left unread : Option (List ℕ))
       (taken : List ℕ) : Type 0 where
     pub replies : List Gathered
-    pub greets : Greets version dialogue.session old now left unread replies
+    pub greets : Greets newest version dialogue.session old now left unread replies
     pub gathers : Gathers (only_lost 0) replies taken dialogue.unsent dialogue.session.tally
 
   -- This request was taken up, and its call is not over yet, or its reply is not gathered.
   pub record StandsAsking (Means : Meaning K) (slots : ℕ) (cred : Cred) (request : Request) (text : List ℕ)
       (dialogue : Dialogue) (old now : K) (left unread : Option (List ℕ)) (taken : List ℕ) : Type 0 where
     pub replies : List Gathered
-    pub asking : Asking Means slots cred request text dialogue.session old now left unread replies
+    pub asking : Asking newest Means slots cred request text dialogue.session old now left unread replies
     pub gathers : Gathers (only_lost 0) replies taken dialogue.unsent dialogue.session.tally
 
   -- It stopped for this reason before a hello was taken up.
@@ -48,7 +47,7 @@ module _ {K : Type 0} where
       (taken : List ℕ) :
       Type 0 where
     pub handler : now ≡ old
-    pub ends : StopsBefore why left rest
+    pub ends : StopsBefore newest why left rest
     pub gathers : Gathers (only_lost 0) [] taken dialogue.unsent dialogue.session.tally
     pub counts : dialogue.session.requests ≡ 0
 
@@ -57,13 +56,13 @@ module _ {K : Type 0} where
       (left rest : Option (List ℕ)) (taken : List ℕ) : Type 0 where
     pub version : Version
     pub cred : Cred
-    pub known : FitsRequest (hello_of version cred) []
+    pub known : FitsHello newest version cred
     pub calls : List Call
     pub are_calls : AllByRecursion (IsCall version) calls
     pub leads : Leads Means cred old calls now
     pub unread : Option (List ℕ)
     pub reads : Consumes left unread (hello_encoding version cred ++ asked_encoding calls)
-    pub ends : StopsAfter version why unread rest
+    pub ends : StopsAfter newest version why unread rest
     pub within : IsStoppedWithin why dialogue.session.requests
     pub replies : List Gathered
     pub replied : Replied why version slots calls replies

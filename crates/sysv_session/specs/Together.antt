@@ -15,36 +15,37 @@ use Rattle.sysv_session.specs.declared.served.End.TheVariants.{Reset}
 use Rattle.sysv_session.specs.declared.served.Served.{Served}
 use Rattle.sysv_session.specs.Calls.{Call, IsCall, Leads, Meaning, messages_of}
 use Rattle.sysv_session.specs.Gathered.{Gathered, all_bytes, ends_message, messages_within}
-use Rattle.sysv_session.specs.Input.{EndsAfter, EndsBefore, asked_encoding, hello_of, hello_encoding}
+use Rattle.sysv_session.specs.Input.{EndsAfter, EndsBefore, FitsHello, asked_encoding, hello_encoding}
 use Rattle.sysv_session.specs.Output.{AreReplied, frames_of, hello_frame}
 use Rattle.sysv_session.specs.Session.{IsBounded, Serves}
 use Rattle.sysv_session.specs.Pending.{replies_to}
 use Rattle.sysv_wire.specs.declared.fault.Fault.TheVariants.{Truncated, TooLong, BadOp, BadField, Read}
 use Rattle.sysv_wire.specs.declared.frame.Version.{Version}
-use Rattle.sysv_wire.specs.Requests.{FitsRequest}
 
--- Why no hello is taken up, by what was taken of the input. After a reset nothing more is taken.
-abbrev pub StopsBefore : End → Option (List ℕ) → Option (List ℕ) → Type 0
-StopsBefore Ended old new = EndsBefore Ended old new
-StopsBefore NoMemory old new = EndsBefore NoMemory old new
-StopsBefore NoHello old new = EndsBefore NoHello old new
-StopsBefore (Fault fault) old new = EndsBefore (Fault fault) old new
-StopsBefore Write old new = EndsBefore Write old new
-StopsBefore Bound old new = EndsBefore Bound old new
-StopsBefore Left old new = EndsBefore Left old new
-StopsBefore Reset old new = new ≡ old
+-- What stops a session with this newest version.
+module _ (newest : Version) where
+  -- Why no hello is taken up, by what was taken of the input. After a reset nothing more is taken.
+  abbrev pub StopsBefore : End → Option (List ℕ) → Option (List ℕ) → Type 0
+  StopsBefore Ended old new = EndsBefore newest Ended old new
+  StopsBefore NoMemory old new = EndsBefore newest NoMemory old new
+  StopsBefore NoHello old new = EndsBefore newest NoHello old new
+  StopsBefore (Fault fault) old new = EndsBefore newest (Fault fault) old new
+  StopsBefore Write old new = EndsBefore newest Write old new
+  StopsBefore Bound old new = EndsBefore newest Bound old new
+  StopsBefore Left old new = EndsBefore newest Left old new
+  StopsBefore Reset old new = new ≡ old
 
--- Why no more requests are taken up after the hello, by what was taken of the input. If memory is
--- refused or the connection is reset, nothing more is taken.
-abbrev pub StopsAfter : Version → End → Option (List ℕ) → Option (List ℕ) → Type 0
-StopsAfter version Ended old new = EndsAfter version Ended old new
-StopsAfter version NoMemory old new = new ≡ old
-StopsAfter version NoHello old new = ⊥
-StopsAfter version (Fault fault) old new = EndsAfter version (Fault fault) old new
-StopsAfter version Write old new = EndsAfter version Write old new
-StopsAfter version Bound old new = EndsAfter version Bound old new
-StopsAfter version Left old new = EndsAfter version Left old new
-StopsAfter version Reset old new = new ≡ old
+  -- Why no more requests are taken up after the hello, by what was taken of the input. If memory is
+  -- refused or the connection is reset, nothing more is taken.
+  abbrev pub StopsAfter : Version → End → Option (List ℕ) → Option (List ℕ) → Type 0
+  StopsAfter version Ended old new = EndsAfter newest version Ended old new
+  StopsAfter version NoMemory old new = new ≡ old
+  StopsAfter version NoHello old new = ⊥
+  StopsAfter version (Fault fault) old new = EndsAfter newest version (Fault fault) old new
+  StopsAfter version Write old new = EndsAfter newest version Write old new
+  StopsAfter version Bound old new = EndsAfter newest version Bound old new
+  StopsAfter version Left old new = EndsAfter newest version Left old new
+  StopsAfter version Reset old new = new ≡ old
 
 -- A session that stops at its bound has taken up the maximum number of requests. One that stops
 -- because of the input's end or a request that is refused has taken up fewer.
@@ -114,13 +115,13 @@ abbrev pub FailsEarly : End → List (List ℕ) → (taken more : Option (List �
 FailsEarly why frames taken more =
     why ≡ Write → (before : List ℕ) → taken ≡ Some before → more ≢ Some (before ++ concat frames)
 
-module _ {K : Type 0} where
+module _ (newest : Version) {K : Type 0} where
   -- A session without a hello makes no call, and the connection has taken no bytes. Its end may be that
   -- memory was refused.
   pub record StaysTogether (why : End) (tally : Tallied) (requests : ℕ) (old new : K)
       (left rest taken more : Option (List ℕ)) : Type 0 where
     pub handler : new ≡ old
-    pub ends : StopsBefore why left rest
+    pub ends : StopsBefore newest why left rest
     pub writes : Appends taken more []
     pub tallies : tally ≡ record { written = 0; lost = 0 }
     pub counts : requests ≡ 0
@@ -136,14 +137,14 @@ module _ {K : Type 0} where
       (left rest taken more : Option (List ℕ)) : Type 0 where
     pub version : Version
     pub cred : Cred
-    pub known : FitsRequest (hello_of version cred) []
+    pub known : FitsHello newest version cred
     pub calls : List Call
     pub are_calls : AllByRecursion (IsCall version) calls
     pub leads : Leads Means cred old calls new
     pub unread : Option (List ℕ)  -- what was left of the input after the last request that was taken up
     pub reads : Consumes left unread (hello_encoding version cred ++ asked_encoding calls)
     pub stopped : End
-    pub ends : StopsAfter version stopped unread rest
+    pub ends : StopsAfter newest version stopped unread rest
     pub bounded : IsStoppedWithin stopped requests
     pub replies : List Gathered
     pub replied : Replied stopped version slots calls replies
@@ -164,7 +165,7 @@ module _ {K : Type 0} where
 
   -- A writer that failed had not taken all the frames of this session.
   abbrev pub FailsWithin : (Means : Meaning K) (slots : ℕ) (served : Served) (old new : K)
-      (left rest taken more : Option (List ℕ)) → Serves Means slots served old new left rest taken more → Type 0
+      (left rest taken more : Option (List ℕ)) → Serves newest Means slots served old new left rest taken more → Type 0
   FailsWithin Means slots served old new left rest taken more (inl stays) = ⊤
   FailsWithin Means slots served old new left rest taken more (inr converses) =
       FailsEarly served.«end» (hello_frame converses.version slots ∷ frames_of converses.calls) taken more
@@ -173,6 +174,6 @@ module _ {K : Type 0} where
   -- not taken all of them.
   abbrev pub AreTogether : Meaning K → Type 0
   AreTogether Means = (slots : ℕ) (served : Served) (old new : K) (left rest taken more : Option (List ℕ))
-      (serves : Serves Means slots served old new left rest taken more)
+      (serves : Serves newest Means slots served old new left rest taken more)
       → FailsWithin Means slots served old new left rest taken more serves
       → ServesTogether Means slots served old new left rest taken more

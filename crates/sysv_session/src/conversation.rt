@@ -41,15 +41,17 @@ impl Model for Conversation {
 }
 
 impl Conversation {
-    /// Returns a conversation that has taken up nothing. Allocates nothing.
-    pub fn open(alloc: Global) -> Conversation
+    /// Returns a conversation that has taken up nothing. It reads versions up to `newest`.
+    /// Allocates nothing.
+    pub fn open(alloc: Global, newest: Version) -> Conversation
+        ensures newest { result.session.newest ≡ newest }
         ensures caller { result.session.caller ≡ None }
         ensures tally { result.session.tally ≡ record { written = 0; lost = 0 } }
         ensures count { result.session.requests ≡ 0 }
         ensures unsent { result.unsent ≡ record { bytes = []; marks = [] } }
     {
         Conversation {
-            session: Session::open(),
+            session: Session::open(newest),
             outbox: Outbox::open(alloc),
         }
     }

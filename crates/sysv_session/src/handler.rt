@@ -29,7 +29,7 @@ pub trait Handler {
     /// The number of queue slots. A row may be requested for each number below it.
     ghost slots: { Self → ℕ };
 
-    /// Returns the number of queue slots, which the reply to a hello of version 2 states.
+    /// Returns the number of queue slots, which the reply to a hello states from version 2 on.
     fn slots(&self) -> u32
         ensures { result ≡ slots self.now };
 

@@ -3,6 +3,7 @@ ghost use Rattle.std.specs.Prelude.{◌≡◌, ◌-◌, ◌^◌};
 ghost use Rattle.sysv_session.specs.declared.served.TheConstants.{SESSION_REQUESTS};
 ghost use Rattle.sysv_session.specs.Gathered.{BreaksOffWithin, ClosesAll, GathersMessage, GathersNone, GathersOn, GathersReply};
 ghost use Rattle.sysv_session.specs.Together.{AreTogether};
+ghost use Rattle.sysv_wire.specs.declared.frame.Version.{Version};
 
 use crate::handler::Handler;
 
@@ -29,5 +30,5 @@ pub fn gathered_replies()
 /// States that a session of which the writer took one reply after another is one whose replies were
 /// gathered, if a writer that failed had not taken all of them.
 pub fn sessions_together<K: Handler>()
-    ensures { AreTogether K.meaning }
+    ensures { (newest : Version) → AreTogether newest K.meaning }
 {}

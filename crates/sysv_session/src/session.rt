@@ -10,6 +10,7 @@ ghost use Rattle.sysv_session.specs.Parse.{Parse, Follows, Takes};
 ghost use Rattle.sysv_session.specs.HandedOver.{HandedOver, Proceeds};
 ghost use Rattle.sysv_session.specs.TakenUp.{TakesUp};
 ghost use Rattle.sysv_session.specs.Turn.{Answers};
+ghost use Rattle.sysv_wire.specs.declared.frame.Version.{Version as Versions};
 
 use crate::handler::{Handler, RequestOutcome};
 use crate::served::{End, SESSION_REQUESTS, Served};
@@ -26,9 +27,9 @@ use sysv_wire::{Request, Version, one_answer_to_requests, one_request};
 /// with the credentials of the hello, and writes the replies in order. Each reply is flushed before
 /// the next request is read.
 ///
-/// The session has the version of its hello. In version 2 the reply to the hello states the number
-/// of slots. A request that cannot be read, a request of another version and a later hello end the
-/// session without a reply. So does a call that its client leaves while it waits.
+/// The session has the version of its hello, 1 or 2. In version 2 the reply to the hello states the
+/// number of slots. A request that cannot be read, a request of another version and a later hello
+/// end the session without a reply. So does a call that its client leaves while it waits.
 ///
 /// Memory for two bodies is allocated before anything is read. If it is refused, the session ends
 /// with `NoMemory`, and the reader, the writer and the handler are unchanged.
@@ -38,12 +39,12 @@ pub fn serve<R: Read, W: Write, K: Handler>(
     writer: &mut W,
     handler: &mut K,
 ) -> Served
-    ensures serves { Serves K.meaning (K.slots handler.old) result handler.old handler.new
-        (R.remaining reader.old) (R.remaining reader.new) (W.contents writer.old)
-        (W.contents writer.new) }
+    ensures serves { Serves Version.Two K.meaning (K.slots handler.old) result
+        handler.old handler.new (R.remaining reader.old) (R.remaining reader.new)
+        (W.contents writer.old) (W.contents writer.new) }
     // The session ends as its input determines, unless it is cut short.
     ensures only { (input : List ℕ) (parse : Parse) → R.remaining reader.old ≡ Some input →
-        Takes input parse → Follows parse result }
+        Takes Version.Two input parse → Follows parse result }
     ensures memory { result.«end» ≡ End.NoMemory → (reader.new ≡ reader.old)
         × (writer.new ≡ writer.old) }
 {
@@ -73,12 +74,13 @@ pub fn serve_instrumented<R: Read, W: Write, K: Handler>(
     writer: &mut Instrumented<'_, W>,
     handler: &mut K,
 ) -> Served
-    ensures serves { Serves K.meaning (K.slots handler.old) result handler.old handler.new
+    ensures serves { Serves Version.Two K.meaning (K.slots handler.old) result
+        handler.old handler.new
         (R.remaining (stream_of reader.old)) (R.remaining (stream_of reader.new))
         (W.contents (stream_of writer.old)) (W.contents (stream_of writer.new)) }
     // The session ends as its input determines, unless it is cut short.
     ensures only { (input : List ℕ) (parse : Parse) →
-        R.remaining (stream_of reader.old) ≡ Some input → Takes input parse →
+        R.remaining (stream_of reader.old) ≡ Some input → Takes Version.Two input parse →
         Follows parse result }
     ensures memory { result.«end» ≢ End.NoMemory }
     // The streams stay the same, and each fails in this call if and only if the end says so.
@@ -88,7 +90,7 @@ pub fn serve_instrumented<R: Read, W: Write, K: Handler>(
     one_request();
     one_answer_to_requests();
     let slots = handler.slots();
-    let mut session = Session::open();
+    let mut session = Session::open(Version::Two);
     loop {
         if let Err(why) = serve_next(&mut session, slots, texts, reader, writer, handler) {
             return session.end(why);
@@ -107,11 +109,11 @@ fn serve_next<R: Read, W: Write, K: Handler>(
 ) -> Result<(), End>
     requires room { taken_in session.old.tally < 2 ^ 64 - 1 }
     // Wherever the session began, it serves on or has served.
-    ensures serves { (start : K) (left taken : Option (List ℕ)) →
-        HandedOver K.meaning slots session.old start handler.old left
+    ensures serves { (newest : Versions) (start : K) (left taken : Option (List ℕ)) →
+        HandedOver newest K.meaning slots session.old start handler.old left
         (R.remaining (stream_of reader.old)) taken (W.contents (stream_of writer.old)) →
-        Proceeds K.meaning slots result session.old.requests session.new start handler.new left
-        (R.remaining (stream_of reader.new)) taken (W.contents (stream_of writer.new)) }
+        Proceeds newest K.meaning slots result session.old.requests session.new start handler.new
+        left (R.remaining (stream_of reader.new)) taken (W.contents (stream_of writer.new)) }
     ensures memory { IfErr result (λ why. why ≢ End.NoMemory) }
     ensures reader { KeepsStream reader.old reader.new (ends_by_read result) }
     ensures writer { KeepsStream writer.old writer.new (ends_by_write result) }
@@ -153,6 +155,8 @@ impl Texts {
 /// A pending session: what it has done so far.
 #[derive(Drop)]
 pub struct Session {
+    /// The newest version that the session reads.
+    pub newest: Version,
     /// The version and the credentials of the hello, once it was read.
     pub caller: Option<(Version, Cred)>,
     /// The messages that the handler returned, and what became of them.
@@ -162,13 +166,15 @@ pub struct Session {
 }
 
 impl Session {
-    /// Returns a session that has read nothing.
-    pub fn open() -> Session
+    /// Returns a session that has read nothing. It reads versions up to `newest`.
+    pub fn open(newest: Version) -> Session
+        ensures newest { result.newest ≡ newest }
         ensures caller { result.caller ≡ None }
         ensures tally { result.tally ≡ record { written = 0; lost = 0 } }
         ensures count { result.requests ≡ 0 }
     {
         Session {
+            newest,
             caller: None,
             tally: Tally::open(),
             requests: 0,
@@ -198,7 +204,7 @@ impl Session {
         ensures write { ends_by_write result ≡ false }
     {
         let Some((version, cred)) = self.caller else {
-            let (version, cred) = read_hello(reader, text)?;
+            let (version, cred) = read_hello(self.newest, reader, text)?;
             self.caller = Some((version, cred));
             self.requests = 1;
             return Ok(TakenUp::Hello(version));
@@ -206,7 +212,7 @@ impl Session {
         if self.requests >= SESSION_REQUESTS {
             return Err(End::Bound);
         }
-        let Some(request) = read_asked(reader, version, text)? else {
+        let Some(request) = read_asked(self.newest, reader, version, text)? else {
             return Err(End::Ended);
         };
         self.requests += 1;
@@ -240,6 +246,7 @@ impl Session {
         ensures answers { Answers result version outcome given.now
             (W.contents (stream_of writer.old)) (W.contents (stream_of writer.new))
             self.old.tally self.new.tally }
+        ensures newest { self.new.newest ≡ self.old.newest }
         ensures caller { self.new.caller ≡ self.old.caller }
         ensures count { self.new.requests ≡ self.old.requests }
         ensures writer { KeepsStream writer.old writer.new (ends_by_write result) }

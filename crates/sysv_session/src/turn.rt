@@ -19,20 +19,23 @@ use std::io::{Read, Write};
 use sysv_model::{Body, Cred, Instrumented};
 use sysv_queue::{Delivery, Tally};
 use sysv_wire::{
-    Ask, Fault, Op, Reply, ReplyContent, Request, Version, WriteFault, read_request, write_reply,
+    Ask, Fault, Op, Reply, ReplyContent, Request, Version, WriteFault, read_request_up_to,
+    write_reply,
 };
 
-/// Reads the first request. Returns the version and the credentials of the hello.
+/// Reads the first request, of a version up to `newest`. Returns the version and the credentials of
+/// the hello.
 pub(crate) fn read_hello<R: Read>(
+    newest: Version,
     reader: &mut Instrumented<'_, R>,
     text: &mut Body,
 ) -> Result<(Version, Cred), End>
-    ensures greets { Greets result (R.remaining (stream_of reader.old))
+    ensures greets { Greets newest result (R.remaining (stream_of reader.old))
         (R.remaining (stream_of reader.new)) }
     ensures stream { KeepsStream reader.old reader.new (ends_by_read result) }
     ensures write { ends_by_write result ≡ false }
 {
-    match read_request(reader, text)? {
+    match read_request_up_to(newest, reader, text)? {
         Some(
             Request {
                 version,
@@ -52,6 +55,7 @@ pub fn hello_reply(version: Version, slots: u32) -> Reply
     let result = match version {
         Version::One => ReplyContent::Hello,
         Version::Two => ReplyContent::HelloSlots { slots },
+        Version::Three => ReplyContent::HelloSlots { slots },
     };
     Reply {
         version,
@@ -60,18 +64,20 @@ pub fn hello_reply(version: Version, slots: u32) -> Reply
     }
 }
 
-/// Reads a later request in a session of this version. Returns `None` at the end of the input.
+/// Reads a later request in a session of this version, which reads versions up to `newest`. Returns
+/// `None` at the end of the input.
 #[inline(always)]
 pub(crate) fn read_asked<R: Read>(
+    newest: Version,
     reader: &mut Instrumented<'_, R>,
     version: Version,
     text: &mut Body,
 ) -> Result<Option<Request>, Fault>
-    ensures reads { ReadsAsked version (R.remaining (stream_of reader.old))
+    ensures reads { ReadsAsked newest version (R.remaining (stream_of reader.old))
         (R.remaining (stream_of reader.new)) result text.new }
     ensures stream { KeepsStream reader.old reader.new (is_read_fault result) }
 {
-    match read_request(reader, text)? {
+    match read_request_up_to(newest, reader, text)? {
         Some(request) if request.version != version => Err(Fault::BadField),
         Some(
             Request {

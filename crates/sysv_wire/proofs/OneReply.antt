@@ -10,11 +10,10 @@ use Rattle.sysv_model.specs.declared.errno.Errno.{Errno}
 use Rattle.sysv_model.specs.declared.errno.Errno.TheVariants.{EPERM, ENOENT, E2BIG, EAGAIN, EACCES, EEXIST, EINVAL}
 use Rattle.sysv_model.specs.declared.errno.Errno.TheVariants.{ENOSPC, ENOMSG, EIDRM, EOVERFLOW}
 use Rattle.sysv_wire.specs.declared.frame.Version.{Version}
-use Rattle.sysv_wire.specs.declared.frame.Version.TheVariants.{One, Two}
 use Rattle.sysv_wire.specs.Frames.{version_number}
 use Rattle.sysv_wire.specs.declared.reply.ReplyContent.{ReplyContent}
 use Rattle.sysv_wire.specs.declared.reply.ReplyContent.TheVariants.{Refused, Hello, HelloSlots, Get, Snd, Rcv, Stat}
-use Rattle.sysv_wire.specs.declared.reply.ReplyContent.TheVariants.{Set, Rm, Row}
+use Rattle.sysv_wire.specs.declared.reply.ReplyContent.TheVariants.{Set, Rm, Row, Hold, Done, Back}
 use Rattle.sysv_wire.specs.declared.reply.Reply.{Reply}
 use Rattle.sysv_wire.specs.Numbers.{u16_bytes, u32_bytes, u64_bytes, i32_bytes, i64_bytes}
 use Rattle.sysv_wire.specs.OneEncoding.{OneReply}
@@ -182,8 +181,8 @@ content_same v n a (Refused f) text other h k p q err same = absurd (some_error 
 content_same v n Hello Hello text other h k p q err same = (refl, refl)
 content_same v n (HelloSlots i) (HelloSlots j) text other h k p q err same =
     (ap HelloSlots (u32_step i j [] [] p q same).0, refl)
-content_same v n Hello (HelloSlots j) text other h k p q err same = let both : One ≡ Two = sym h.0 ∙ k.0 in absurd cc
-content_same v n (HelloSlots i) Hello text other h k p q err same = let both : One ≡ Two = sym k.0 ∙ h.0 in absurd cc
+content_same v n Hello (HelloSlots j) text other h k p q err same = absurd (k.0 h.0)
+content_same v n (HelloSlots i) Hello text other h k p q err same = absurd (h.0 k.0)
 content_same v n (Get i) (Get j) text other h k p q err same = (ap Get (i32_step i j [] [] p q same).0, refl)
 content_same v n Snd Snd text other h k p q err same = (refl, refl)
 content_same v n (Rcv i) (Rcv j) text other h k p q err same =
@@ -204,6 +203,10 @@ content_same v n (Row (Some r)) (Row None) text other h k p q err same =
     let marks : ◌≡◌ {A = ℕ} 1 0 = cc (same) in absurd (omega (arith, marks))
 content_same v n (Row r) b text other h k p q err same = let w = row_number v n r h in absurd (omega (arith, w, k))
 content_same v n a (Row s) text other h k p q err same = let w = row_number v n s k in absurd (omega (arith, h, w))
+content_same v n (Hold i) (Hold j) text other h k p q err same =
+    let s = i64_step i j text other p q same in (ap Hold s.0, s.1)
+content_same v n Done Done text other h k p q err same = (refl, refl)
+content_same v n Back Back text other h k p q err same = (refl, refl)
 content_same v n a b text other h k p q err same = absurd (omega (arith, h, k))
 
 short_text : (a : ReplyContent) (text : List ℕ) → length text ≤ 8192 → length (content_text a text) ≤ 8192
@@ -222,6 +225,9 @@ short_fields Set = omega arith
 short_fields Rm = omega arith
 short_fields (Row None) = omega arith
 short_fields (Row (Some r)) = omega arith
+short_fields (Hold m) = omega arith
+short_fields Done = omega arith
+short_fields Back = omega arith
 
 pub short_reply : (v : Version) (n : ℕ) (a : ReplyContent) (text : List ℕ) → length text ≤ 8192 →
     length (version_number v ∷ n ∷ error_number a ∷ (content_fields a ++ content_text a text)) < 2 ^ 32

@@ -7,9 +7,9 @@ use Rattle.sysv_model.specs.declared.flags.Flags.{Flags}
 use Rattle.sysv_wire.specs.declared.frame.Op.{Op}
 use Rattle.sysv_wire.specs.declared.frame.Op.TheVariants as op
 use Rattle.sysv_wire.specs.declared.frame.Version.{Version}
-use Rattle.sysv_wire.specs.declared.frame.Version.TheVariants.{One, Two}
+use Rattle.sysv_wire.specs.declared.frame.Version.TheVariants.{One, Two, Three}
 use Rattle.sysv_wire.specs.declared.request.Ask.{Ask}
-use Rattle.sysv_wire.specs.declared.request.Ask.TheVariants.{Hello, Get, Snd, Rcv, Stat, Set, Rm, Row}
+use Rattle.sysv_wire.specs.declared.request.Ask.TheVariants.{Hello, Get, Snd, Rcv, Stat, Set, Rm, Row, Hold, Done, Back}
 use Rattle.sysv_wire.specs.declared.request.Request.{Request}
 use Rattle.sysv_wire.specs.Frames.{op_number, version_number}
 use Rattle.sysv_wire.specs.OneEncoding.{OneRequest}
@@ -23,7 +23,8 @@ op_at n =
     cond (eqb n 0) op.Hello
     (cond (eqb n 1) op.Get
     (cond (eqb n 2) op.Snd
-    (cond (eqb n 3) op.Rcv (cond (eqb n 4) op.Stat (cond (eqb n 5) op.Set (cond (eqb n 6) op.Rm op.Row))))))
+    (cond (eqb n 3) op.Rcv (cond (eqb n 4) op.Stat (cond (eqb n 5) op.Set (cond (eqb n 6) op.Rm
+    (cond (eqb n 7) op.Row (cond (eqb n 8) op.Hold (cond (eqb n 9) op.Done op.Back)))))))))
 
 abbrev pub asked : Version → Ask → Request
 asked v a = record { version = v; ask = a }
@@ -37,14 +38,18 @@ op_back op.Stat = refl
 op_back op.Set = refl
 op_back op.Rm = refl
 op_back op.Row = refl
+op_back op.Hold = refl
+op_back op.Done = refl
+op_back op.Back = refl
 
 pub version_at : ℕ → Version
-version_at n = cond (eqb n 1) One Two
+version_at n = cond (eqb n 1) One (cond (eqb n 2) Two Three)
 
 pub version_back : (v : Version) → version_at (version_number v) ≡ v
 unfolding version_at
 version_back One = refl
 version_back Two = refl
+version_back Three = refl
 
 -- Versions with the same number are equal.
 pub version_same : (v other : Version) → version_number v ≡ version_number other → v ≡ other
@@ -98,12 +103,22 @@ ask_same (Set i c) (Set j d) p q o e =
     ∙ ap (λ x. Set j (to d.uid d.gid x c.qbytes)) v.0 ∙ ap (λ x. Set j (to d.uid d.gid d.mode x)) w
 ask_same (Rm i) (Rm j) p q o e = ap Rm (i32_same i j p q e)
 ask_same (Row i) (Row j) p q o e = ap Row (u32_same i j p q e)
+ask_same (Hold i k m f x) (Hold j l n g y) p q o e =
+    let s = i32_step i j _ _ p.0 q.0 e in
+    let r = u32_step k l _ _ p.1 q.1 s.1 in
+    let t = i64_step m n _ _ p.2 q.2 r.1 in
+    let u = u32_step f.0 g.0 _ _ p.3 q.3 t.1 in
+    let v = u32_same x y p.4 q.4 u.1 in
+    ap (λ z. Hold z k m f x) s.0 ∙ ap (λ z. Hold j z m f x) r.0 ∙ ap (λ z. Hold j l z f x) t.0
+    ∙ ap (λ z. Hold j l n (flags z) x) u.0 ∙ ap (λ z. Hold j l n g z) v
+ask_same Done Done p q o e = refl
+ask_same Back Back p q o e = refl
 ask_same a b p q o e = absurd cc
 
 short_text : (o : Op) (text : List ℕ) → length text ≤ 8256 → length (ask_text o text) ≤ 8256
 short_text o text h = elim (has_text o) as (λ b. length (cond b text []) ≤ 8256) [ true ↦ h | false ↦ omega arith ]
 
-short_fields : (o : Op) → fields_len o ≤ 20
+short_fields : (o : Op) → fields_len o ≤ 24
 short_fields op.Hello = omega arith
 short_fields op.Get = omega arith
 short_fields op.Snd = omega arith
@@ -112,6 +127,9 @@ short_fields op.Stat = omega arith
 short_fields op.Set = omega arith
 short_fields op.Rm = omega arith
 short_fields op.Row = omega arith
+short_fields op.Hold = omega arith
+short_fields op.Done = omega arith
+short_fields op.Back = omega arith
 
 short_request : (v : Version) (a : Ask) (text : List ℕ) → length text ≤ 8256 →
     length (version_number v ∷ op_number (op_of a) ∷ (ask_fields a ++ ask_text (op_of a) text)) < 2 ^ 32

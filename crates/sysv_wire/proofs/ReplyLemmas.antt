@@ -9,9 +9,9 @@ use Rattle.sysv_wire.specs.declared.fault.Fault.TheVariants.{Truncated, TooLong,
 use Rattle.sysv_wire.specs.declared.frame.Op.{Op}
 use Rattle.sysv_wire.specs.declared.reply.ReplyContent.{ReplyContent}
 use Rattle.sysv_wire.specs.declared.reply.ReplyContent.TheVariants.{Refused, Hello, HelloSlots, Get, Snd, Rcv, Stat}
-use Rattle.sysv_wire.specs.declared.reply.ReplyContent.TheVariants.{Set, Rm, Row}
+use Rattle.sysv_wire.specs.declared.reply.ReplyContent.TheVariants.{Set, Rm, Row, Hold, Done, Back}
 use Rattle.sysv_wire.specs.Faults.{Faults, Breaks, IsShorter}
-use Rattle.sysv_wire.specs.Frames.{op_number, version_number, frame}
+use Rattle.sysv_wire.specs.Frames.{Knows, op_number, version_number, frame}
 use Rattle.sysv_wire.specs.Reading.{ReadsReply}
 use Rattle.sysv_model.specs.declared.attributes.Row.{Row as Line}
 use Rattle.sysv_model.specs.declared.attributes.Stat.{Stat as Attributes}
@@ -114,39 +114,43 @@ head_then n version op byte number error head taken h v o =
     ∙ ap (λ l. u32_bytes n ++ (l ++ taken))
     (h ∙ ap (λ x. x ∷ number ∷ error ∷ []) (sym v) ∙ ap (λ x. version_number version ∷ x ∷ error ∷ []) (sym o))
 
-faults_reply : (n : ℕ) (version : Version) (op : Op) (error : ℕ) (fault : Fault) → 3 ≤ n → n ≤ MAX_REPLY
-    → IsRestLength version op error (n - 3) → (taken : List ℕ) → RestFault op error (n - 3) fault taken
-    → ReplyFault fault (u32_bytes n ++ (version_number version ∷ op_number op ∷ error ∷ taken))
-faults_reply n version op error Truncated low high wanted taken why =
-    inr (n, version, op, error, taken, low, high, wanted, why, refl)
-faults_reply n version op error BadField low high wanted taken why =
-    inr (n, version, op, error, taken, low, high, wanted, why, refl)
-faults_reply n version op error Read low high wanted taken why = tt
-faults_reply n version op error TooLong low high wanted taken why = absurd why
-faults_reply n version op error BadOp low high wanted taken why = absurd why
+faults_reply : (newest : Version) (n : ℕ) (version : Version) (op : Op) (error : ℕ) (fault : Fault) → 3 ≤ n
+    → n ≤ MAX_REPLY
+    → IsRestLength version op error (n - 3) → Knows newest version op → (taken : List ℕ)
+    → RestFault op error (n - 3) fault taken
+    → ReplyFault newest fault (u32_bytes n ++ (version_number version ∷ op_number op ∷ error ∷ taken))
+faults_reply newest n version op error Truncated low high wanted known taken why =
+    inr (n, version, op, error, taken, low, high, wanted, why, refl, known)
+faults_reply newest n version op error BadField low high wanted known taken why =
+    inr (n, version, op, error, taken, low, high, wanted, why, refl, known)
+faults_reply newest n version op error Read low high wanted known taken why = tt
+faults_reply newest n version op error TooLong low high wanted known taken why = absurd why
+faults_reply newest n version op error BadOp low high wanted known taken why = absurd why
 
-pub reply_broken : (n rest : ℕ) (version : Version) (op : Op) (byte number error : ℕ) (head : List ℕ) (fault : Fault)
+pub reply_broken : (newest : Version) (n rest : ℕ) (version : Version) (op : Op) (byte number error : ℕ) (head : List ℕ)
+    (fault : Fault)
     (a b c : Option (List ℕ))
     → head ≡ byte ∷ number ∷ error ∷ [] → version_number version ≡ byte → op_number op ≡ number
-    → 3 ≤ n → n ≤ MAX_REPLY → rest ≡ n - 3 → IsRestLength version op error rest → Consumes a b (u32_bytes n ++ head)
-    → Faults (RestFault op error rest) fault b c → Faults ReplyFault fault a c
-reply_broken n rest version op byte number error head fault a b c h v o low high e wanted first second =
-    Faults-after (RestFault op error rest) ReplyFault fault a b c (u32_bytes n ++ head) first second
-    (λ taken why. subst (ReplyFault fault) (sym (head_then n version op byte number error head taken h v o))
-    (faults_reply n version op error fault low high (subst (IsRestLength version op error) e wanted) taken
+    → 3 ≤ n → n ≤ MAX_REPLY → rest ≡ n - 3 → IsRestLength version op error rest
+    → Knows newest version op → Consumes a b (u32_bytes n ++ head)
+    → Faults (RestFault op error rest) fault b c → Faults (ReplyFault newest) fault a c
+reply_broken newest n rest version op byte number error head fault a b c h v o low high e wanted known first second =
+    Faults-after (RestFault op error rest) (ReplyFault newest) fault a b c (u32_bytes n ++ head) first second
+    (λ taken why. subst (ReplyFault newest fault) (sym (head_then n version op byte number error head taken h v o))
+    (faults_reply newest n version op error fault low high (subst (IsRestLength version op error) e wanted) known taken
     (subst (λ (k : ℕ). RestFault op error k fault taken) e why)))
 
 -- A head that is refused.
-pub reply_refused : (n byte number error : ℕ) (head : List ℕ) (fault : Fault) (a b : Option (List ℕ))
-    → head ≡ byte ∷ number ∷ error ∷ [] → 3 ≤ n → n ≤ MAX_REPLY → AnswerFault n byte number error fault
-    → Consumes a b (u32_bytes n ++ head) → Faults ReplyFault fault a b
-reply_refused n byte number error head BadOp a b h low high why first =
+pub reply_refused : (newest : Version) (n byte number error : ℕ) (head : List ℕ) (fault : Fault) (a b : Option (List ℕ))
+    → head ≡ byte ∷ number ∷ error ∷ [] → 3 ≤ n → n ≤ MAX_REPLY → AnswerFault newest n byte number error fault
+    → Consumes a b (u32_bytes n ++ head) → Faults (ReplyFault newest) fault a b
+reply_refused newest n byte number error head BadOp a b h low high why first =
     (u32_bytes n ++ head, first, (n, byte, number, error, (low, high, ap (λ l. u32_bytes n ++ l) h), why), tt)
-reply_refused n byte number error head BadField a b h low high why first =
+reply_refused newest n byte number error head BadField a b h low high why first =
     (u32_bytes n ++ head, first, inl (inr (n, byte, number, error, (low, high, ap (λ l. u32_bytes n ++ l) h), why)), tt)
-reply_refused n byte number error head Truncated a b h low high why first = absurd why
-reply_refused n byte number error head TooLong a b h low high why first = absurd why
-reply_refused n byte number error head Read a b h low high why first = absurd why
+reply_refused newest n byte number error head Truncated a b h low high why first = absurd why
+reply_refused newest n byte number error head TooLong a b h low high why first = absurd why
+reply_refused newest n byte number error head Read a b h low high why first = absurd why
 
 -- A list of length three is its three bytes.
 pub triple_is : (head : List ℕ) → length head ≡ 3 → head ≡ get_or head 0 0 ∷ get_or head 1 0 ∷ get_or head 2 0 ∷ []
@@ -170,18 +174,23 @@ text_short (Stat s) text n empty len most = let none = ap length empty in omega 
 text_short Set text n empty len most = let none = ap length empty in omega (arith, none)
 text_short Rm text n empty len most = let none = ap length empty in omega (arith, none)
 text_short (Row r) text n empty len most = let none = ap length empty in omega (arith, none)
+text_short (Hold t) text n empty len most = omega (arith, len, most, length-append (i64_bytes t) text)
+text_short Done text n empty len most = let none = ap length empty in omega (arith, none)
+text_short Back text n empty len most = let none = ap length empty in omega (arith, none)
 
 -- A reply that was read is encoded by what was taken.
-pub reply_read : (result : ReplyContent) (n rest : ℕ) (version : Version) (op : Op) (byte number error told : ℕ)
+pub reply_read : (newest : Version) (result : ReplyContent) (n rest : ℕ) (version : Version) (op : Op)
+    (byte number error told : ℕ)
     (head text : List ℕ) (a b c : Option (List ℕ))
     → head ≡ byte ∷ number ∷ error ∷ [] → version_number version ≡ byte → op_number op ≡ number
     → 3 ≤ n → n ≤ MAX_REPLY → rest ≡ n - 3 → told ≡ op_number op
     → rest ≡ length (content_fields result ++ content_text result text) → IsAnswer version (op_number op) result
     → FitsContent result → error_number result ≡ error → text ≡ content_text result text
     → Consumes a b (u32_bytes n ++ head) → Consumes b c (content_fields result ++ content_text result text)
-    → ReadsReply a c (Ok (Some record { version = version; op = told; result = result })) text
-reply_read result n rest version op byte number error told head text a b c h v o low high e t len answer fits err empty
-    first second =
+    → Knows newest version op
+    → ReadsReply newest a c (Ok (Some record { version = version; op = told; result = result })) text
+reply_read newest result n rest version op byte number error told head text a b c h v o low high e t len answer fits err
+    empty first second known =
     let behind = content_fields result ++ content_text result text in
     let whole : (u32_bytes n ++ head) ++ behind ≡ frame (version_number version ∷ told ∷ error_number result ∷ behind) =
     head_then n version op byte number error head behind h v o
@@ -193,8 +202,10 @@ reply_read result n rest version op byte number error told head text a b c h v o
         subst (λ (x : ℕ). IsAnswer version x result) (sym t) answer,
         fits,
         text_short result text rest empty len (omega (arith, e, high)),
+        omega (arith, t, known.1),
       ),
       empty,
+      known.0,
     )
 
 -- The head of a reply and its fields, and then its body.

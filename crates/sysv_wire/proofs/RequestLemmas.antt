@@ -10,13 +10,13 @@ use Rattle.sysv_wire.specs.declared.frame.Op.{Op}
 use Rattle.sysv_wire.specs.declared.frame.TheConstants.{MAX_REQUEST}
 use Rattle.sysv_wire.specs.declared.frame.Version.{Version}
 use Rattle.sysv_wire.specs.Faults.{Faults, Breaks, IsShorter, RequestFault}
-use Rattle.sysv_wire.specs.Frames.{op_number, version_number, frame}
+use Rattle.sysv_wire.specs.Frames.{HasOp, Knows, op_number, version_number, frame}
 use Rattle.sysv_wire.specs.Numbers.{u32_bytes, i32_bytes, i64_bytes}
 use Rattle.sysv_wire.specs.Reading.{ReadsRequest}
 use Rattle.sysv_wire.specs.Requests.{FitsAsk, IsRequestLength, fields_len, ask_fields, ask_text, has_text, op_of}
 use Rattle.sysv_wire.specs.Requests.{request_encoding}
 use Rattle.sysv_wire.specs.declared.request.Ask.{Ask}
-use Rattle.sysv_wire.specs.declared.request.Ask.TheVariants.{Hello, Get, Snd, Rcv, Stat, Set, Rm, Row}
+use Rattle.sysv_wire.specs.declared.request.Ask.TheVariants.{Hello, Get, Snd, Rcv, Stat, Set, Rm, Row, Hold, Done, Back}
 use Rattle.sysv_wire.proofs.StreamLemmas.{Faults-after}
 
 -- A part of the rest that is too short is a rest that is too short.
@@ -34,15 +34,15 @@ broken_later n m done fault a b c fits first second =
     Faults-after (Breaks (IsShorter n)) (Breaks (IsShorter m)) fault a b c done first second
     (breaks_later n m done fault fits)
 
-breaks_request : (n : ℕ) (version : Version) (op : Op) (fault : Fault) → n ≤ MAX_REQUEST → IsRequestLength op n
-    → (taken : List ℕ) → Breaks (IsShorter (n - 2)) fault taken
-    → RequestFault fault (u32_bytes n ++ (version_number version ∷ op_number op ∷ taken))
-breaks_request n version op Truncated most wanted taken why =
-    inr (n, version, op, taken, most, wanted, omega arith, refl)
-breaks_request n version op Read most wanted taken why = tt
-breaks_request n version op TooLong most wanted taken why = absurd why
-breaks_request n version op BadOp most wanted taken why = absurd why
-breaks_request n version op BadField most wanted taken why = absurd why
+breaks_request : (newest : Version) (n : ℕ) (version : Version) (op : Op) (fault : Fault) → n ≤ MAX_REQUEST
+    → IsRequestLength op n → Knows newest version op → (taken : List ℕ) → Breaks (IsShorter (n - 2)) fault taken
+    → RequestFault newest fault (u32_bytes n ++ (version_number version ∷ op_number op ∷ taken))
+breaks_request newest n version op Truncated most wanted known taken why =
+    inr (n, version, op, taken, most, wanted, omega arith, refl, known)
+breaks_request newest n version op Read most wanted known taken why = tt
+breaks_request newest n version op TooLong most wanted known taken why = absurd why
+breaks_request newest n version op BadOp most wanted known taken why = absurd why
+breaks_request newest n version op BadField most wanted known taken why = absurd why
 
 -- A head of two bytes, and the bytes after it.
 head_then : (n : ℕ) (version : Version) (op : Op) (byte number : ℕ) (head taken : List ℕ) → head ≡ byte ∷ number ∷ []
@@ -53,15 +53,16 @@ head_then n version op byte number head taken h v o =
     ∙ ap (λ l. u32_bytes n ++ (l ++ taken))
     (h ∙ ap (λ x. x ∷ number ∷ []) (sym v) ∙ ap (λ x. version_number version ∷ x ∷ []) (sym o))
 
-pub request_broken : (n : ℕ) (version : Version) (op : Op) (byte number : ℕ) (head : List ℕ) (fault : Fault)
+pub request_broken : (newest : Version) (n : ℕ) (version : Version) (op : Op) (byte number : ℕ) (head : List ℕ)
+    (fault : Fault)
     (a b c : Option (List ℕ)) → head ≡ byte ∷ number ∷ [] → version_number version ≡ byte → op_number op ≡ number
-    → n ≤ MAX_REQUEST → IsRequestLength op n → Consumes a b (u32_bytes n ++ head)
-    → Faults (Breaks (IsShorter (n - 2))) fault b c → Faults RequestFault fault a c
-request_broken n version op byte number head fault a b c h v o most wanted first second =
-    Faults-after (Breaks (IsShorter (n - 2))) RequestFault fault a b c (u32_bytes n ++ head) first second
+    → n ≤ MAX_REQUEST → IsRequestLength op n → Knows newest version op → Consumes a b (u32_bytes n ++ head)
+    → Faults (Breaks (IsShorter (n - 2))) fault b c → Faults (RequestFault newest) fault a c
+request_broken newest n version op byte number head fault a b c h v o most wanted known first second =
+    Faults-after (Breaks (IsShorter (n - 2))) (RequestFault newest) fault a b c (u32_bytes n ++ head) first second
     (λ taken why.
-    subst (RequestFault fault) (sym (head_then n version op byte number head taken h v o))
-    (breaks_request n version op fault most wanted taken why))
+    subst (RequestFault newest fault) (sym (head_then n version op byte number head taken h v o))
+    (breaks_request newest n version op fault most wanted known taken why))
 
 pub frame_whole : (n : ℕ) (content : List ℕ) → n ≡ length content → u32_bytes n ++ content ≡ frame content
 unfolding frame
@@ -103,6 +104,9 @@ length-ask_fields (Stat id) = refl
 length-ask_fields (Set id t) = refl
 length-ask_fields (Rm id) = refl
 length-ask_fields (Row slot) = refl
+length-ask_fields (Hold id size mtype f x) = refl
+length-ask_fields Done = refl
+length-ask_fields Back = refl
 
 -- The body in a request fits in a `Body`.
 text_short : (a : Ask) (text : List ℕ) (n : ℕ) → text ≡ ask_text (op_of a) text →
@@ -116,13 +120,18 @@ text_short (Stat i) text n empty len most = let none = ap length empty in omega 
 text_short (Set i t) text n empty len most = let none = ap length empty in omega (arith, none)
 text_short (Rm i) text n empty len most = let none = ap length empty in omega (arith, none)
 text_short (Row i) text n empty len most = let none = ap length empty in omega (arith, none)
+text_short (Hold i s t f x) text n empty len most = let none = ap length empty in omega (arith, none)
+text_short Done text n empty len most = let none = ap length empty in omega (arith, none)
+text_short Back text n empty len most = let none = ap length empty in omega (arith, none)
 
-pub request_read : (ask : Ask) (n : ℕ) (version : Version) (op : Op) (byte number : ℕ) (head text : List ℕ)
+pub request_read : (newest : Version) (ask : Ask) (n : ℕ) (version : Version) (op : Op) (byte number : ℕ)
+    (head text : List ℕ)
     (a b c : Option (List ℕ)) → head ≡ byte ∷ number ∷ [] → version_number version ≡ byte → op_number op ≡ number
-    → n ≤ 8274 → FitsAsk ask → n ≡ 2 + length (ask_fields ask ++ ask_text op text) → op_of ask ≡ op
+    → n ≤ 8274 → Knows newest version op → FitsAsk ask → n ≡ 2 + length (ask_fields ask ++ ask_text op text)
+    → op_of ask ≡ op
     → text ≡ ask_text op text → Consumes a b (u32_bytes n ++ head) → Consumes b c (ask_fields ask ++ ask_text op text)
-    → ReadsRequest a c (Ok (Some record { version = version; ask = ask })) text
-request_read ask n version op byte number head text a b c h v o most fits len same empty first second = (
+    → ReadsRequest newest a c (Ok (Some record { version = version; ask = ask })) text
+request_read newest ask n version op byte number head text a b c h v o most known fits len same empty first second = (
   subst (λ x. Consumes a c (frame (version_number version ∷ op_number x ∷ (ask_fields ask ++ ask_text x text))))
       (sym same)
       (request_whole n version op byte number head (ask_fields ask ++ ask_text op text) a b c h v o len first second),
@@ -130,8 +139,10 @@ request_read ask n version op byte number head text a b c h v o most fits len sa
     fits,
     text_short ask text n (subst (λ x. text ≡ ask_text x text) (sym same) empty)
         (subst (λ x. n ≡ 2 + length (ask_fields ask ++ ask_text x text)) (sym same) len) most,
+    subst (HasOp version) (sym same) known.1,
   ),
   subst (λ x. text ≡ ask_text x text) (sym same) empty,
+  known.0,
 )
 
 -- The head and the body of a request are its encoding.

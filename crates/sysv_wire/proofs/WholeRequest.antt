@@ -14,9 +14,9 @@ use Rattle.sysv_wire.specs.declared.frame.Op.TheVariants as op
 use Rattle.sysv_wire.specs.declared.frame.TheConstants.{MAX_REQUEST}
 use Rattle.sysv_wire.specs.declared.frame.Version.{Version}
 use Rattle.sysv_wire.specs.declared.request.Ask.{Ask}
-use Rattle.sysv_wire.specs.declared.request.Ask.TheVariants.{Hello, Get, Snd, Rcv, Stat, Set, Rm, Row}
+use Rattle.sysv_wire.specs.declared.request.Ask.TheVariants.{Hello, Get, Snd, Rcv, Stat, Set, Rm, Row, Hold, Done, Back}
 use Rattle.sysv_wire.specs.Arrived.{EndsWithin, HoldsRequest}
-use Rattle.sysv_wire.specs.Frames.{op_number, version_number, frame}
+use Rattle.sysv_wire.specs.Frames.{HasOp, Knows, op_number, version_number, frame}
 use Rattle.sysv_wire.specs.Numbers.{u32_bytes, u64_bytes, i32_bytes, i64_bytes}
 use Rattle.sysv_wire.specs.Requests.{FitsAsk, IsRequestLength, ask_fields, ask_text, fields_len, op_of}
 use Rattle.sysv_wire.specs.Requests.{request_encoding}
@@ -135,6 +135,19 @@ ask_at op.Set fields fits len =
     )
 ask_at op.Rm fields fits len = let a = i32_only fields fits len in (Rm a.0, refl {a = op.Rm}, a.1, a.2)
 ask_at op.Row fields fits len = let a = u32_only fields fits len in (Row a.0, refl {a = op.Row}, a.1, a.2)
+ask_at op.Hold fields fits len =
+    let a = i32_at 20 fields fits len in
+    let b = u32_at 16 a.1 a.3 a.4 in
+    let c = i64_at 8 b.1 b.3 b.4 in
+    let d = u32_at 4 c.1 c.3 c.4 in
+    let e = u32_only d.1 d.3 d.4 in (
+      Hold a.0 b.0 c.0 (flags d.0) e.0,
+      refl {a = op.Hold},
+      (a.2, b.2, c.2, d.2, e.1),
+      next _ _ _ _ a.5 (next _ _ _ _ b.5 (next _ _ _ _ c.5 (next _ _ _ _ d.5 e.2))),
+    )
+ask_at op.Done fields fits len = (Done, refl {a = op.Done}, tt, nil_from_length fields len)
+ask_at op.Back fields fits len = (Back, refl {a = op.Back}, tt, nil_from_length fields len)
 
 -- The length of the body.
 text_fits : (o : Op) (n : ℕ) → n ≤ MAX_REQUEST → IsRequestLength o n →
@@ -147,6 +160,9 @@ text_fits op.Stat n most h = (omega (arith, h), omega (arith, h))
 text_fits op.Set n most h = (omega (arith, h), omega (arith, h))
 text_fits op.Rm n most h = (omega (arith, h), omega (arith, h))
 text_fits op.Row n most h = (omega (arith, h), omega (arith, h))
+text_fits op.Hold n most h = (omega (arith, h), omega (arith, h))
+text_fits op.Done n most h = (omega (arith, h), omega (arith, h))
+text_fits op.Back n most h = (omega (arith, h), omega (arith, h))
 
 none_left : (n m : ℕ) (text : List ℕ) → n ≡ m → length text ≡ n - m → [] ≡ text
 none_left n m text h len = sym (nil_from_length text (omega (arith, h, len)))
@@ -162,6 +178,9 @@ text_kept op.Stat n text h len = none_left n _ text h len
 text_kept op.Set n text h len = none_left n _ text h len
 text_kept op.Rm n text h len = none_left n _ text h len
 text_kept op.Row n text h len = none_left n _ text h len
+text_kept op.Hold n text h len = none_left n _ text h len
+text_kept op.Done n text h len = none_left n _ text h len
+text_kept op.Back n text h len = none_left n _ text h len
 
 -- The fields, the body and what follows them.
 parts : (k m : ℕ) (behind : List ℕ) → behind ≡ (take k behind ++ take m (drop k behind)) ++ drop m (drop k behind)
@@ -187,47 +206,6 @@ encoded_at version a o fields text same encoded kept =
     ∙ ap (λ l. frame (version_number version ∷ op_number o ∷ (ask_fields a ++ l))) (sym kept)
     ∙ ap (λ x. frame (version_number version ∷ op_number x ∷ (ask_fields a ++ ask_text x text))) (sym same)
 
-whole_at : (n : ℕ) (version : Version) (o : Op) (behind : List ℕ) → IsBytes behind → n ≤ MAX_REQUEST
-    → IsRequestLength o n → n ≤ 2 + length behind
-    → HoldsRequest (4 + n) (u32_bytes n ++ (version_number version ∷ op_number o ∷ behind))
-unfolding u32_bytes
-whole_at n version o behind fits most wanted enough =
-    let k = fields_len o in
-    let m = n - (2 + k) in
-    let sizes = text_fits o n most wanted in
-    let fields = take k behind in
-    let text = take m (drop k behind) in
-    let rest = drop m (drop k behind) in
-    let fields_is : length fields ≡ k = length-take-le k behind (omega (arith, sizes.0, enough)) in
-    let text_is : length text ≡ m =
-    length-take-le m (drop k behind) (omega (arith, sizes.0, enough, length-drop k behind)) in
-    let ask = ask_at o fields (IsBytes-take k behind fits) fields_is in
-    let content = version_number version ∷ op_number o ∷ (fields ++ text) in
-    let len : n ≡ length content = omega (arith, sizes.0, fields_is, text_is, length-append fields text) in
-    let bytes = u32_bytes n ++ (version_number version ∷ op_number o ∷ behind) in
-    let split : bytes ≡ u32_bytes n ++ (content ++ rest) =
-    ap (λ l. u32_bytes n ++ (version_number version ∷ op_number o ∷ l)) (parts k m behind) in (
-      omega (arith, enough, length-append (u32_bytes n) (version_number version ∷ op_number o ∷ behind)),
-      (
-        asked version ask.0,
-        text,
-        (ask.2, omega (arith, sizes.1, text_is)),
-        ap (take (4 + n)) split ∙ taken_frame n content rest len
-            ∙ encoded_at version ask.0 o fields text ask.1 ask.3 (text_kept o n text wanted text_is),
-      ),
-    )
-
--- A head that was checked: the bytes end within its request, or hold it.
-checked_at : (n : ℕ) (version : Version) (o : Op) (behind : List ℕ) → IsBytes behind → n ≤ MAX_REQUEST
-    → IsRequestLength o n
-    → EndsWithin (4 + n) (u32_bytes n ++ (version_number version ∷ op_number o ∷ behind))
-    ⊎ HoldsRequest (4 + n) (u32_bytes n ++ (version_number version ∷ op_number o ∷ behind))
-checked_at n version o behind fits most wanted =
-    elim (cases_lt (2 + length behind) n) [
-      | inl lt ↦ inl (inr (inr ((n, version, o, behind, most, wanted, lt, refl), refl)))
-      | inr le ↦ inr (whole_at n version o behind fits most wanted le)
-    ]
-
 -- The first two bytes of at least two.
 pub pair_then : (l : List ℕ) → 2 ≤ length l → l ≡ get_or l 0 0 ∷ get_or l 1 0 ∷ drop 2 l
 pair_then [] h = absurd (omega (arith, h))
@@ -240,14 +218,59 @@ unfolding u32_bytes
 content_is n bytes content e fits =
     subst IsBytes (ap (drop 4) e ∙ drop_at (u32_bytes n) content 4 refl) (IsBytes-drop 4 bytes fits)
 
-pub checked : (n : ℕ) (version : Version) (o : Op) (bytes content : List ℕ) → bytes ≡ u32_bytes n ++ content
-    → IsBytes bytes → 2 ≤ length content → version_number version ≡ get_or content 0 0
-    → op_number o ≡ get_or content 1 0 → n ≤ MAX_REQUEST → IsRequestLength o n
-    → EndsWithin (4 + n) bytes ⊎ HoldsRequest (4 + n) bytes
-checked n version o bytes content e fits two v number most wanted =
-    let whole : bytes ≡ u32_bytes n ++ (version_number version ∷ op_number o ∷ drop 2 content) =
-    e ∙ ap (λ l. u32_bytes n ++ l) (pair_then content two)
-    ∙ ap (λ x. u32_bytes n ++ (x ∷ get_or content 1 0 ∷ drop 2 content)) (sym v)
-    ∙ ap (λ x. u32_bytes n ++ (version_number version ∷ x ∷ drop 2 content)) (sym number) in
-    subst (λ l. EndsWithin (4 + n) l ⊎ HoldsRequest (4 + n) l) (sym whole)
-    (checked_at n version o (drop 2 content) (IsBytes-drop 2 content (content_is n bytes content e fits)) most wanted)
+-- The requests of a reader with this newest version.
+module _ (newest : Version) where
+  whole_at : (n : ℕ) (version : Version) (o : Op) (behind : List ℕ) → IsBytes behind → n ≤ MAX_REQUEST
+      → IsRequestLength o n → Knows newest version o → n ≤ 2 + length behind
+      → HoldsRequest newest (4 + n) (u32_bytes n ++ (version_number version ∷ op_number o ∷ behind))
+  unfolding u32_bytes
+  whole_at n version o behind fits most wanted known enough =
+      let k = fields_len o in
+      let m = n - (2 + k) in
+      let sizes = text_fits o n most wanted in
+      let fields = take k behind in
+      let text = take m (drop k behind) in
+      let rest = drop m (drop k behind) in
+      let fields_is : length fields ≡ k = length-take-le k behind (omega (arith, sizes.0, enough)) in
+      let text_is : length text ≡ m =
+      length-take-le m (drop k behind) (omega (arith, sizes.0, enough, length-drop k behind)) in
+      let ask = ask_at o fields (IsBytes-take k behind fits) fields_is in
+      let content = version_number version ∷ op_number o ∷ (fields ++ text) in
+      let len : n ≡ length content = omega (arith, sizes.0, fields_is, text_is, length-append fields text) in
+      let bytes = u32_bytes n ++ (version_number version ∷ op_number o ∷ behind) in
+      let split : bytes ≡ u32_bytes n ++ (content ++ rest) =
+      ap (λ l. u32_bytes n ++ (version_number version ∷ op_number o ∷ l)) (parts k m behind) in (
+        omega (arith, enough, length-append (u32_bytes n) (version_number version ∷ op_number o ∷ behind)),
+        (
+          asked version ask.0,
+          text,
+          (ask.2, omega (arith, sizes.1, text_is), subst (HasOp version) (sym ask.1) known.1),
+          ap (take (4 + n)) split ∙ taken_frame n content rest len
+              ∙ encoded_at version ask.0 o fields text ask.1 ask.3 (text_kept o n text wanted text_is),
+          known.0,
+        ),
+      )
+
+  -- A head that was checked: the bytes end within its request, or hold it.
+  checked_at : (n : ℕ) (version : Version) (o : Op) (behind : List ℕ) → IsBytes behind → n ≤ MAX_REQUEST
+      → IsRequestLength o n → Knows newest version o
+      → EndsWithin newest (4 + n) (u32_bytes n ++ (version_number version ∷ op_number o ∷ behind))
+      ⊎ HoldsRequest newest (4 + n) (u32_bytes n ++ (version_number version ∷ op_number o ∷ behind))
+  checked_at n version o behind fits most wanted known =
+      elim (cases_lt (2 + length behind) n) [
+        | inl lt ↦ inl (inr (inr ((n, version, o, behind, most, wanted, lt, refl, known), refl)))
+        | inr le ↦ inr (whole_at n version o behind fits most wanted known le)
+      ]
+
+  pub checked : (n : ℕ) (version : Version) (o : Op) (bytes content : List ℕ) → bytes ≡ u32_bytes n ++ content
+      → IsBytes bytes → 2 ≤ length content → version_number version ≡ get_or content 0 0
+      → op_number o ≡ get_or content 1 0 → n ≤ MAX_REQUEST → IsRequestLength o n
+      → Knows newest version o → EndsWithin newest (4 + n) bytes ⊎ HoldsRequest newest (4 + n) bytes
+  checked n version o bytes content e fits two v number most wanted known =
+      let whole : bytes ≡ u32_bytes n ++ (version_number version ∷ op_number o ∷ drop 2 content) =
+      e ∙ ap (λ l. u32_bytes n ++ l) (pair_then content two)
+      ∙ ap (λ x. u32_bytes n ++ (x ∷ get_or content 1 0 ∷ drop 2 content)) (sym v)
+      ∙ ap (λ x. u32_bytes n ++ (version_number version ∷ x ∷ drop 2 content)) (sym number) in
+      subst (λ l. EndsWithin newest (4 + n) l ⊎ HoldsRequest newest (4 + n) l) (sym whole)
+      (checked_at n version o (drop 2 content) (IsBytes-drop 2 content (content_is n bytes content e fits)) most wanted
+      known)

@@ -1,7 +1,7 @@
 -- What a reader has taken of the input when it returns a fault (the order is this project's
 -- profile). The length is checked first, then the version, the operation and the length that the
 -- operation has, and then the rest of the frame is read.
-use Rattle.std.specs.Prelude.{◌≡◌, ◌≢◌, ◌<◌, ◌≤◌, ◌+◌, ◌^◌, ◌⊎◌, ⊤, ℕ, Bool, true, false, List, [], ◌∷◌, ◌++◌, length}
+use Rattle.std.specs.Prelude.{◌≡◌, ◌<◌, ◌≤◌, ◌+◌, ◌^◌, ◌⊎◌, ⊤, ℕ, Bool, true, false, List, [], ◌∷◌, ◌++◌, length}
 use Rattle.std.specs.Prelude.{Option, Result, Ok, Err}
 use Rattle.std.specs.Io.KnownBytes.{Consumes, IsAtEnd}
 use Rattle.sysv_wire.specs.declared.fault.Fault.{Fault}
@@ -9,7 +9,7 @@ use Rattle.sysv_wire.specs.declared.fault.Fault.TheVariants.{Truncated, TooLong,
 use Rattle.sysv_wire.specs.declared.frame.Op.{Op}
 use Rattle.sysv_wire.specs.declared.frame.TheConstants.{MIN_REQUEST, MAX_REQUEST}
 use Rattle.sysv_wire.specs.declared.frame.Version.{Version}
-use Rattle.sysv_wire.specs.Frames.{IsNoVersion, IsVersion, op_number, version_number}
+use Rattle.sysv_wire.specs.Frames.{IsNoVersion, IsUpTo, Knows, last_op, op_number, version_number}
 use Rattle.sysv_wire.specs.Numbers.{u32_bytes}
 use Rattle.sysv_wire.specs.Requests.{IsRequestLength}
 
@@ -76,38 +76,43 @@ HeadFault least most BadField taken = (n : ℕ) × (n < 2 ^ 32) × LengthFault l
 HeadFault least most BadOp taken = ⊥
 HeadFault least most Read taken = ⊤
 
--- The number is no version's, or the length is not one that the operation has.
-abbrev pub IsBadRequest : ℕ → ℕ → ℕ → Type 0
-IsBadRequest n version number =
-    IsNoVersion version ⊎ (IsVersion version × ((op : Op) × (op_number op ≡ number) × ¬ IsRequestLength op n))
-
--- Why a request with this length, version and operation is refused.
-abbrev pub OpFault : ℕ → ℕ → ℕ → Fault → Type 0
-OpFault n version number BadField = IsBadRequest n version number
-OpFault n version number BadOp = IsVersion version × (7 < number)
-OpFault n version number Truncated = ⊥
-OpFault n version number TooLong = ⊥
-OpFault n version number Read = ⊥
-
 -- The length of a request within the limits, its version and its operation.
 abbrev pub IsRequestHead : ℕ → ℕ → ℕ → List ℕ → Type 0
 IsRequestHead n version number taken =
     (MIN_REQUEST ≤ n) × (n ≤ MAX_REQUEST) × (taken ≡ u32_bytes n ++ version ∷ number ∷ [])
 
--- The head of a request, and a part of the rest.
-abbrev pub IsPartRequest : List ℕ → Type 0
-IsPartRequest taken =
-    (n : ℕ) × (version : Version) × (op : Op) × (part : List ℕ) × (n ≤ MAX_REQUEST) × IsRequestLength op n
-    × (2 + length part < n) × (taken ≡ u32_bytes n ++ (version_number version ∷ op_number op ∷ part))
+-- What a reader with this newest version refuses.
+module _ (newest : Version) where
+  -- The number is no version's, or the length is not one that the operation has.
+  abbrev pub IsBadRequest : ℕ → ℕ → ℕ → Type 0
+  IsBadRequest n byte number = IsNoVersion newest byte
+      ⊎ ((version : Version) × (version_number version ≡ byte)
+      × ((op : Op) × (op_number op ≡ number) × (¬ IsRequestLength op n) × Knows newest version op))
 
--- Why a request is refused: because of its length, because of what is checked with the length, or
--- because the input ends within the request.
-abbrev pub RequestFault : Fault → List ℕ → Type 0
-RequestFault Truncated taken = HeadFault MIN_REQUEST MAX_REQUEST Truncated taken ⊎ IsPartRequest taken
-RequestFault TooLong taken = HeadFault MIN_REQUEST MAX_REQUEST TooLong taken
-RequestFault BadOp taken =
-    (n : ℕ) × (version : ℕ) × (number : ℕ) × IsRequestHead n version number taken × OpFault n version number BadOp
-RequestFault BadField taken = HeadFault MIN_REQUEST MAX_REQUEST BadField taken
-    ⊎ ((n : ℕ) × (version : ℕ) × (number : ℕ) × IsRequestHead n version number taken
-    × OpFault n version number BadField)
-RequestFault Read taken = ⊤
+  -- Why a request with this length, version and operation is refused.
+  abbrev pub OpFault : ℕ → ℕ → ℕ → Fault → Type 0
+  OpFault n byte number BadField = IsBadRequest n byte number
+  OpFault n byte number BadOp =
+      (version : Version) × (version_number version ≡ byte) × IsUpTo newest version × (last_op version < number)
+  OpFault n byte number Truncated = ⊥
+  OpFault n byte number TooLong = ⊥
+  OpFault n byte number Read = ⊥
+
+  -- The head of a request, and a part of the rest.
+  abbrev pub IsPartRequest : List ℕ → Type 0
+  IsPartRequest taken =
+      (n : ℕ) × (version : Version) × (op : Op) × (part : List ℕ) × (n ≤ MAX_REQUEST) × IsRequestLength op n
+      × (2 + length part < n) × (taken ≡ u32_bytes n ++ (version_number version ∷ op_number op ∷ part))
+      × Knows newest version op
+
+  -- Why a request is refused: because of its length, because of what is checked with the length, or
+  -- because the input ends within the request.
+  abbrev pub RequestFault : Fault → List ℕ → Type 0
+  RequestFault Truncated taken = HeadFault MIN_REQUEST MAX_REQUEST Truncated taken ⊎ IsPartRequest taken
+  RequestFault TooLong taken = HeadFault MIN_REQUEST MAX_REQUEST TooLong taken
+  RequestFault BadOp taken =
+      (n : ℕ) × (version : ℕ) × (number : ℕ) × IsRequestHead n version number taken × OpFault n version number BadOp
+  RequestFault BadField taken = HeadFault MIN_REQUEST MAX_REQUEST BadField taken
+      ⊎ ((n : ℕ) × (version : ℕ) × (number : ℕ) × IsRequestHead n version number taken
+      × OpFault n version number BadField)
+  RequestFault Read taken = ⊤

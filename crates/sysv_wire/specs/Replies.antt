@@ -1,7 +1,8 @@
 -- The one encoding of each reply (this project's profile): the version, the operation, the number
--- of the error or 0, then the fields of the result in order, and after the fields of a receive the
--- body of the message. An error has no fields.
-use Rattle.std.specs.Prelude.{◌≡◌, ◌≤◌, ◌<◌, ◌^◌, ◌==◌, length, ⊤, ◌⊎◌, ℕ, Bool, true, false, List, [], ◌∷◌, ◌++◌, None}
+-- of the error or 0, then the fields of the result in order, and after the fields of a receive or a
+-- hold the body of the message. An error has no fields.
+use Rattle.std.specs.Prelude.{◌≡◌, ◌≢◌, ◌≤◌, ◌<◌, ◌^◌, ◌==◌, length, ⊤, ◌⊎◌, ℕ, Bool, true, false, List, [], ◌∷◌, ◌++◌}
+use Rattle.std.specs.Prelude.{None}
 use Rattle.std.specs.Prelude.{Some, MatchBool, if◌then◌else◌}
 use Rattle.std.specs.Int.{w32, w64}
 use Rattle.std.specs.Int.RustNames.{FitsSigned}
@@ -14,12 +15,12 @@ use Rattle.sysv_wire.specs.declared.frame.Op.{Op}
 use Rattle.sysv_wire.specs.declared.frame.Op.TheVariants as op
 use Rattle.sysv_wire.specs.declared.frame.TheConstants.{MAX_MODE}
 use Rattle.sysv_wire.specs.declared.frame.Version.{Version}
-use Rattle.sysv_wire.specs.declared.frame.Version.TheVariants.{One, Two}
+use Rattle.sysv_wire.specs.declared.frame.Version.TheVariants.{One, Two, Three}
 use Rattle.sysv_wire.specs.declared.reply.ReplyContent.{ReplyContent}
 use Rattle.sysv_wire.specs.declared.reply.ReplyContent.TheVariants.{Refused, Hello, HelloSlots, Get, Snd, Rcv, Stat}
-use Rattle.sysv_wire.specs.declared.reply.ReplyContent.TheVariants.{Set, Rm, Row}
+use Rattle.sysv_wire.specs.declared.reply.ReplyContent.TheVariants.{Set, Rm, Row, Hold, Done, Back}
 use Rattle.sysv_wire.specs.declared.reply.Reply.{Reply}
-use Rattle.sysv_wire.specs.Frames.{op_number, version_number, frame}
+use Rattle.sysv_wire.specs.Frames.{last_op, op_number, version_number, frame}
 use Rattle.sysv_wire.specs.Numbers.{u16_bytes, u32_bytes, u64_bytes, i32_bytes, i64_bytes}
 
 -- The numbers are in the ranges of their types.
@@ -64,6 +65,9 @@ error_number (Stat stat) = 0
 error_number Set = 0
 error_number Rm = 0
 error_number (Row row) = 0
+error_number (Hold mtype) = 0
+error_number Done = 0
+error_number Back = 0
 
 -- The fields of the owner, creator and mode.
 unfoldable pub perm_fields : Perm → List ℕ
@@ -104,10 +108,14 @@ content_fields Set = []
 content_fields Rm = []
 content_fields (Row None) = 0 ∷ []
 content_fields (Row (Some row)) = 1 ∷ row_fields row
+content_fields (Hold mtype) = i64_bytes mtype
+content_fields Done = []
+content_fields Back = []
 
--- The reply has a body after its fields: only that of a receive.
+-- The reply has a body after its fields: only that of a receive and of a hold.
 abbrev pub gives_text : ReplyContent → Bool
 gives_text (Rcv mtype) = true
+gives_text (Hold mtype) = true
 gives_text (Refused error) = false
 gives_text Hello = false
 gives_text (HelloSlots slots) = false
@@ -117,6 +125,8 @@ gives_text (Stat stat) = false
 gives_text Set = false
 gives_text Rm = false
 gives_text (Row row) = false
+gives_text Done = false
+gives_text Back = false
 
 -- The body, if there is one.
 abbrev pub content_text : ReplyContent → List ℕ → List ℕ
@@ -128,13 +138,13 @@ reply_encoding reply text =
     frame (version_number reply.version ∷ reply.op ∷ error_number reply.result
     ∷ (content_fields reply.result ++ content_text reply.result text))
 
--- The operation with this number may have this result in this version. Any operation may fail with
--- an error, the reply to a hello has the number of slots only in version 2, and modes have nine
--- bits.
+-- The operation with this number may have this result in this version, if the version has it. Any
+-- operation may fail with an error, the reply to a hello has the number of slots from version 2 on,
+-- and modes have nine bits.
 abbrev pub IsAnswer : Version → ℕ → ReplyContent → Type 0
-IsAnswer version number (Refused error) = number ≤ 7
+IsAnswer version number (Refused error) = number ≤ op_number op.Back
 IsAnswer version number Hello = (version ≡ One) × (number ≡ op_number op.Hello)
-IsAnswer version number (HelloSlots slots) = (version ≡ Two) × (number ≡ op_number op.Hello)
+IsAnswer version number (HelloSlots slots) = (version ≢ One) × (number ≡ op_number op.Hello)
 IsAnswer version number (Get id) = number ≡ op_number op.Get
 IsAnswer version number Snd = number ≡ op_number op.Snd
 IsAnswer version number (Rcv mtype) = number ≡ op_number op.Rcv
@@ -143,15 +153,19 @@ IsAnswer version number Set = number ≡ op_number op.Set
 IsAnswer version number Rm = number ≡ op_number op.Rm
 IsAnswer version number (Row None) = number ≡ op_number op.Row
 IsAnswer version number (Row (Some row)) = (number ≡ op_number op.Row) × (row.mode ≤ MAX_MODE)
+IsAnswer version number (Hold mtype) = number ≡ op_number op.Hold
+IsAnswer version number Done = number ≡ op_number op.Done
+IsAnswer version number Back = number ≡ op_number op.Back
 
--- The number of bytes after the error of a reply to a hello. In version 2 it is that of the number
--- of slots.
+-- The number of bytes after the error of a reply to a hello. From version 2 on it is that of the
+-- number of slots.
 abbrev pub hello_len : Version → ℕ
 hello_len One = 0
 hello_len Two = 4
+hello_len Three = 4
 
--- The result of an operation may have this number of bytes after the error. The reply to a receive
--- has a body after its fields, and a row may have a queue or none.
+-- The result of an operation may have this number of bytes after the error. The reply to a receive or
+-- a hold has a body after its fields, and a row may have a queue or none.
 abbrev pub IsAnswerLength : Version → Op → ℕ → Type 0
 IsAnswerLength version op.Hello n = n ≡ hello_len version
 IsAnswerLength version op.Get n = n ≡ 4
@@ -161,6 +175,9 @@ IsAnswerLength version op.Stat n = n ≡ 66
 IsAnswerLength version op.Set n = n ≡ 0
 IsAnswerLength version op.Rm n = n ≡ 0
 IsAnswerLength version op.Row n = (n ≡ 1) ⊎ (n ≡ 23)
+IsAnswerLength version op.Hold n = 8 ≤ n
+IsAnswerLength version op.Done n = n ≡ 0
+IsAnswerLength version op.Back n = n ≡ 0
 
 -- A reply of the operation with this error may have this number of bytes after the error.
 abbrev pub IsRestLength : Version → Op → ℕ → ℕ → Type 0
@@ -179,8 +196,13 @@ FitsContent Set = ⊤
 FitsContent Rm = ⊤
 FitsContent (Row None) = ⊤
 FitsContent (Row (Some row)) = FitsRow row
+FitsContent (Hold mtype) = FitsSigned w64 mtype
+FitsContent Done = ⊤
+FitsContent Back = ⊤
 
--- The reply is one that its operation may have, and the reply and its body can be sent.
+-- The reply is one that its operation may have, its version has the operation, and the reply and its
+-- body can be sent.
 abbrev pub FitsReply : Reply → List ℕ → Type 0
 FitsReply reply text =
     IsAnswer reply.version reply.op reply.result × FitsContent reply.result × (length text ≤ MESSAGE_BYTES)
+    × (reply.op ≤ last_op reply.version)

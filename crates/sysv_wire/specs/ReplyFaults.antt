@@ -12,24 +12,9 @@ use Rattle.sysv_wire.specs.declared.frame.Op.TheVariants as op
 use Rattle.sysv_wire.specs.declared.frame.TheConstants.{MIN_REPLY, MAX_REPLY, MAX_MODE}
 use Rattle.sysv_wire.specs.declared.frame.Version.{Version}
 use Rattle.sysv_wire.specs.Faults.{HeadFault}
-use Rattle.sysv_wire.specs.Frames.{IsNoVersion, IsVersion, op_number, version_number}
+use Rattle.sysv_wire.specs.Frames.{IsNoVersion, IsUpTo, Knows, last_op, op_number, version_number}
 use Rattle.sysv_wire.specs.Numbers.{u16_bytes, u32_bytes}
 use Rattle.sysv_wire.specs.Replies.{IsRestLength}
-
--- The number is no version's, or the length is not one that the operation has in that version with
--- this error.
-abbrev pub IsBadReply : ℕ → ℕ → ℕ → ℕ → Type 0
-IsBadReply n byte number error = IsNoVersion byte
-    ⊎ ((version : Version) × (version_number version ≡ byte)
-    × ((op : Op) × (op_number op ≡ number) × ¬ IsRestLength version op error (n - MIN_REPLY)))
-
--- Why a reply with this length, version, operation and error is refused before the rest is read.
-abbrev pub AnswerFault : ℕ → ℕ → ℕ → ℕ → Fault → Type 0
-AnswerFault n version number error BadField = IsBadReply n version number error
-AnswerFault n version number error BadOp = IsVersion version × (7 < number)
-AnswerFault n version number error Truncated = ⊥
-AnswerFault n version number error TooLong = ⊥
-AnswerFault n version number error Read = ⊥
 
 -- The number is not 0, and no error has it.
 abbrev pub IsNoError : ℕ → Type 0
@@ -57,6 +42,9 @@ IsBadAnswer op.Snd fields = ⊥
 IsBadAnswer op.Rcv fields = ⊥
 IsBadAnswer op.Set fields = ⊥
 IsBadAnswer op.Rm fields = ⊥
+IsBadAnswer op.Hold fields = ⊥
+IsBadAnswer op.Done fields = ⊥
+IsBadAnswer op.Back fields = ⊥
 
 -- Why the rest of a reply of the operation with this error is refused, if the rest has this number
 -- of bytes.
@@ -72,22 +60,42 @@ abbrev pub IsReplyHead : ℕ → ℕ → ℕ → ℕ → List ℕ → Type 0
 IsReplyHead n version number error taken =
     (MIN_REPLY ≤ n) × (n ≤ MAX_REPLY) × (taken ≡ u32_bytes n ++ version ∷ number ∷ error ∷ [])
 
--- The head of a reply, and what was taken of the rest.
-abbrev pub IsReplyRest : Fault → List ℕ → Type 0
-IsReplyRest fault taken =
-    (n : ℕ) × (version : Version) × (op : Op) × (error : ℕ) × (rest : List ℕ) × (MIN_REPLY ≤ n) × (n ≤ MAX_REPLY)
-    × IsRestLength version op error (n - MIN_REPLY) × RestFault op error (n - MIN_REPLY) fault rest
-    × (taken ≡ u32_bytes n ++ (version_number version ∷ op_number op ∷ error ∷ rest))
+-- What a reader with this newest version refuses.
+module _ (newest : Version) where
+  -- The number is no version's, or the length is not one that the operation has in that version with
+  -- this error.
+  abbrev pub IsBadReply : ℕ → ℕ → ℕ → ℕ → Type 0
+  IsBadReply n byte number error = IsNoVersion newest byte
+      ⊎ ((version : Version) × (version_number version ≡ byte)
+      × ((op : Op) × (op_number op ≡ number) × (¬ IsRestLength version op error (n - MIN_REPLY))
+      × Knows newest version op))
 
--- Why a reply is refused: because of its length, because of what is checked with the length, or
--- because of the rest.
-abbrev pub ReplyFault : Fault → List ℕ → Type 0
-ReplyFault Truncated taken = HeadFault MIN_REPLY MAX_REPLY Truncated taken ⊎ IsReplyRest Truncated taken
-ReplyFault TooLong taken = HeadFault MIN_REPLY MAX_REPLY TooLong taken
-ReplyFault BadOp taken = (n : ℕ) × (version : ℕ) × (number : ℕ) × (error : ℕ) × IsReplyHead n version number error taken
-    × AnswerFault n version number error BadOp
-ReplyFault BadField taken = (HeadFault MIN_REPLY MAX_REPLY BadField taken
-    ⊎ ((n : ℕ) × (version : ℕ) × (number : ℕ) × (error : ℕ) × IsReplyHead n version number error taken
-    × AnswerFault n version number error BadField))
-    ⊎ IsReplyRest BadField taken
-ReplyFault Read taken = ⊤
+  -- Why a reply with this length, version, operation and error is refused before the rest is read.
+  abbrev pub AnswerFault : ℕ → ℕ → ℕ → ℕ → Fault → Type 0
+  AnswerFault n byte number error BadField = IsBadReply n byte number error
+  AnswerFault n byte number error BadOp =
+      (version : Version) × (version_number version ≡ byte) × IsUpTo newest version × (last_op version < number)
+  AnswerFault n byte number error Truncated = ⊥
+  AnswerFault n byte number error TooLong = ⊥
+  AnswerFault n byte number error Read = ⊥
+
+  -- The head of a reply, and what was taken of the rest.
+  abbrev pub IsReplyRest : Fault → List ℕ → Type 0
+  IsReplyRest fault taken =
+      (n : ℕ) × (version : Version) × (op : Op) × (error : ℕ) × (rest : List ℕ) × (MIN_REPLY ≤ n) × (n ≤ MAX_REPLY)
+      × IsRestLength version op error (n - MIN_REPLY) × RestFault op error (n - MIN_REPLY) fault rest
+      × (taken ≡ u32_bytes n ++ (version_number version ∷ op_number op ∷ error ∷ rest)) × Knows newest version op
+
+  -- Why a reply is refused: because of its length, because of what is checked with the length, or
+  -- because of the rest.
+  abbrev pub ReplyFault : Fault → List ℕ → Type 0
+  ReplyFault Truncated taken = HeadFault MIN_REPLY MAX_REPLY Truncated taken ⊎ IsReplyRest Truncated taken
+  ReplyFault TooLong taken = HeadFault MIN_REPLY MAX_REPLY TooLong taken
+  ReplyFault BadOp taken =
+      (n : ℕ) × (version : ℕ) × (number : ℕ) × (error : ℕ) × IsReplyHead n version number error taken
+      × AnswerFault n version number error BadOp
+  ReplyFault BadField taken = (HeadFault MIN_REPLY MAX_REPLY BadField taken
+      ⊎ ((n : ℕ) × (version : ℕ) × (number : ℕ) × (error : ℕ) × IsReplyHead n version number error taken
+      × AnswerFault n version number error BadField))
+      ⊎ IsReplyRest BadField taken
+  ReplyFault Read taken = ⊤

@@ -1,6 +1,6 @@
 -- The one encoding of each request (this project's profile): the version, the operation, its fields
 -- in order, and after the fields of a send its body.
-use Rattle.std.specs.Prelude.{◌≡◌, ◌≤◌, ◌<◌, ◌+◌, ◌^◌, ℕ, length, Bool, true, false, List, [], ◌∷◌, ◌++◌, MatchBool}
+use Rattle.std.specs.Prelude.{◌≡◌, ◌≤◌, ◌<◌, ◌+◌, ◌^◌, ⊤, ℕ, length, Bool, true, false, List, [], ◌∷◌, ◌++◌, MatchBool}
 use Rattle.std.specs.Prelude.{if◌then◌else◌}
 use Rattle.std.specs.Int.{w32, w64}
 use Rattle.std.specs.Int.RustNames.{FitsSigned}
@@ -8,9 +8,9 @@ use Rattle.sysv_model.specs.declared.limits.TheConstants.{BODY_ROOM}
 use Rattle.sysv_wire.specs.declared.frame.Op.{Op}
 use Rattle.sysv_wire.specs.declared.frame.Op.TheVariants as op
 use Rattle.sysv_wire.specs.declared.request.Ask.{Ask}
-use Rattle.sysv_wire.specs.declared.request.Ask.TheVariants.{Hello, Get, Snd, Rcv, Stat, Set, Rm, Row}
+use Rattle.sysv_wire.specs.declared.request.Ask.TheVariants.{Hello, Get, Snd, Rcv, Stat, Set, Rm, Row, Hold, Done, Back}
 use Rattle.sysv_wire.specs.declared.request.Request.{Request}
-use Rattle.sysv_wire.specs.Frames.{op_number, version_number, frame}
+use Rattle.sysv_wire.specs.Frames.{HasOp, op_number, version_number, frame}
 use Rattle.sysv_wire.specs.Numbers.{u32_bytes, i32_bytes, i64_bytes}
 
 -- The operation of a request.
@@ -23,6 +23,9 @@ op_of (Stat id) = op.Stat
 op_of (Set id to) = op.Set
 op_of (Rm id) = op.Rm
 op_of (Row slot) = op.Row
+op_of (Hold id size mtype flags seconds) = op.Hold
+op_of Done = op.Done
+op_of Back = op.Back
 
 -- The fields without the body.
 unfoldable pub ask_fields : Ask → List ℕ
@@ -35,6 +38,10 @@ ask_fields (Set id to) =
     i32_bytes id ++ (u32_bytes to.uid ++ (u32_bytes to.gid ++ (u32_bytes to.mode ++ u32_bytes to.qbytes)))
 ask_fields (Rm id) = i32_bytes id
 ask_fields (Row slot) = u32_bytes slot
+ask_fields (Hold id size mtype flags seconds) =
+    i32_bytes id ++ (u32_bytes size ++ (i64_bytes mtype ++ (u32_bytes flags.0 ++ u32_bytes seconds)))
+ask_fields Done = []
+ask_fields Back = []
 
 -- The request has a body after its fields: only a send.
 abbrev pub has_text : Op → Bool
@@ -46,6 +53,9 @@ has_text op.Stat = false
 has_text op.Set = false
 has_text op.Rm = false
 has_text op.Row = false
+has_text op.Hold = false
+has_text op.Done = false
+has_text op.Back = false
 
 -- The body, if the operation has one.
 abbrev pub ask_text : Op → List ℕ → List ℕ
@@ -67,6 +77,9 @@ fields_len op.Stat = 4
 fields_len op.Set = 20
 fields_len op.Rm = 4
 fields_len op.Row = 4
+fields_len op.Hold = 24
+fields_len op.Done = 0
+fields_len op.Back = 0
 
 -- A request of the operation may have this length. With a body it may be any length that the fields
 -- fit in.
@@ -84,7 +97,12 @@ FitsAsk (Set id to) =
     FitsSigned w32 id × (to.uid < 2 ^ 32) × (to.gid < 2 ^ 32) × (to.mode < 2 ^ 32) × (to.qbytes < 2 ^ 32)
 FitsAsk (Rm id) = FitsSigned w32 id
 FitsAsk (Row slot) = slot < 2 ^ 32
+FitsAsk (Hold id size mtype flags seconds) =
+    FitsSigned w32 id × (size < 2 ^ 32) × FitsSigned w64 mtype × (flags.0 < 2 ^ 32) × (seconds < 2 ^ 32)
+FitsAsk Done = ⊤
+FitsAsk Back = ⊤
 
--- The request and its body can be sent.
+-- The request and its body can be sent: its version has its operation.
 abbrev pub FitsRequest : Request → List ℕ → Type 0
-FitsRequest request text = FitsAsk request.ask × (length text ≤ BODY_ROOM)
+FitsRequest request text =
+    FitsAsk request.ask × (length text ≤ BODY_ROOM) × HasOp request.version (op_of request.ask)

@@ -3,10 +3,9 @@ ghost use Rattle.std.specs.Prelude.{◌⊎◌, IfOk, IfErr};
 ghost use Rattle.sysv_wire.specs.Arrived.{EndsWithin, FrameAt, HoldsFault, HoldsRequest, ReadsAs};
 
 use crate::fault::Fault;
-use crate::frame::{LENGTH_BYTES, MAX_REQUEST, MIN_REQUEST};
+use crate::frame::{LENGTH_BYTES, MAX_REQUEST, MIN_REQUEST, Version};
 use crate::input::check_length;
 use crate::number::take_u32;
-use crate::requests::judge;
 
 /// What bytes that have arrived hold of the next request.
 #[derive(Clone, Copy, PartialEq, Eq, Debug)]
@@ -28,8 +27,8 @@ pub enum FrameIn {
     },
 }
 
-/// Returns what `bytes` hold of the next request, if more bytes may follow them. They are all that
-/// has arrived of the input after the request before.
+/// Returns what `bytes` hold of the next request of version 1 or 2, if more bytes may follow them.
+/// They are all that has arrived of the input after the request before.
 ///
 /// - `Whole` if and only if they begin with a request's frame. Whatever follows them,
 ///   `read_request` returns this request, and takes no byte after its `length` bytes.
@@ -44,10 +43,19 @@ pub enum FrameIn {
 /// All that is examined is the first six bytes and the number of bytes. No value of a field or a
 /// body is refused, so a request whose frame is whole has no fault.
 pub fn frame_in(bytes: &[u8]) -> FrameIn
-    ensures holds { FrameAt bytes.now result }
-    ensures reads { ReadsAs bytes.now result }
+    ensures holds { FrameAt Version.Two bytes.now result }
+    ensures reads { ReadsAs Version.Two bytes.now result }
 {
-    match needed(bytes) {
+    frame_in_up_to(Version::Two, bytes)
+}
+
+/// Returns what `bytes` hold of the next request of a version up to `newest`, like `frame_in`. This
+/// is what `read_request_up_to` does unless its reader fails.
+pub fn frame_in_up_to(newest: Version, bytes: &[u8]) -> FrameIn
+    ensures holds { FrameAt newest bytes.now result }
+    ensures reads { ReadsAs newest bytes.now result }
+{
+    match needed(newest, bytes) {
         Err(fault) => FrameIn::Refused { fault },
         Ok(least) if bytes.len() < least => FrameIn::More { least },
         Ok(length) => FrameIn::Whole { length },
@@ -56,9 +64,10 @@ pub fn frame_in(bytes: &[u8]) -> FrameIn
 
 /// Returns the number of bytes with which the first part of the request that is not checked yet is
 /// whole: the length field, the version and the operation, or the whole request.
-fn needed(bytes: &[u8]) -> Result<usize, Fault>
-    ensures ok { IfOk result (λ n. EndsWithin n bytes.now ⊎ HoldsRequest n bytes.now) }
-    ensures err { IfErr result (λ fault. HoldsFault fault bytes.now) }
+fn needed(newest: Version, bytes: &[u8]) -> Result<usize, Fault>
+    ensures ok { IfOk result (λ n.
+        EndsWithin newest n bytes.now ⊎ HoldsRequest newest n bytes.now) }
+    ensures err { IfErr result (λ fault. HoldsFault newest fault bytes.now) }
 {
     if bytes.len() < LENGTH_BYTES {
         return Ok(LENGTH_BYTES);
@@ -69,6 +78,6 @@ fn needed(bytes: &[u8]) -> Result<usize, Fault>
     if content.len() < least {
         return Ok(LENGTH_BYTES + least);
     }
-    judge(length, content[0], content[1])?;
+    newest.judge(length, content[0], content[1])?;
     Ok(LENGTH_BYTES + length as usize)
 }

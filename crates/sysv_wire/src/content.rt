@@ -37,7 +37,7 @@ pub(crate) fn errno_of(number: u8) -> Result<Errno, Fault>
 /// Returns the result of an operation whose reply has no body, from its fields.
 pub(crate) fn content_of(version: Version, op: Op, fields: &[u8]) -> Result<ReplyContent, Fault>
     requires len { IsAnswerLength version op (length fields.now) }
-    requires other { op ≢ Op.Rcv }
+    requires other { (op ≢ Op.Rcv) × (op ≢ Op.Hold) }
     ensures answer { IfOk result (λ content. IsAnswer version (op_number op) content) }
     ensures fits { IfOk result FitsContent }
     ensures error { IfOk result (λ content. error_number content ≡ 0) }
@@ -51,7 +51,7 @@ pub(crate) fn content_of(version: Version, op: Op, fields: &[u8]) -> Result<Repl
             id: only_i32(fields),
         }),
         Op::Snd => Ok(ReplyContent::Snd),
-        Op::Rcv => unreachable!(),
+        Op::Rcv | Op::Hold => unreachable!(),
         Op::Stat => {
             let stat = stat_of(fields);
             if stat.perm.mode > MAX_MODE {
@@ -65,6 +65,8 @@ pub(crate) fn content_of(version: Version, op: Op, fields: &[u8]) -> Result<Repl
             [] => unreachable!(),
             [mark, rest @ ..] => marked_row(*mark, rest),
         },
+        Op::Done => Ok(ReplyContent::Done),
+        Op::Back => Ok(ReplyContent::Back),
     }
 }
 
@@ -79,7 +81,7 @@ fn hello_of(version: Version, fields: &[u8]) -> ReplyContent
 {
     match version {
         Version::One => ReplyContent::Hello,
-        Version::Two => ReplyContent::HelloSlots {
+        Version::Two | Version::Three => ReplyContent::HelloSlots {
             slots: only_u32(fields),
         },
     }

@@ -10,7 +10,7 @@ pub enum Fault {
     /// The length is above the maximum.
     #[error("a frame is too long")]
     TooLong,
-    /// The operation's number is above 7.
+    /// No operation of the version has the number.
     #[error("an operation is not known")]
     BadOp,
     /// A field has no meaning: the version, a length below the minimum or not one that the

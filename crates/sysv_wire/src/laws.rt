@@ -4,6 +4,7 @@ ghost use Rattle.sysv_wire.specs.declared.frame.TheConstants.{LENGTH_BYTES, MAX_
 ghost use Rattle.sysv_wire.specs.Arrived.{FrameAlone, FrameStays, FrameTaken, OneFrame};
 ghost use Rattle.sysv_wire.specs.OneAnswer.{OneAnswerToReplies, OneAnswerToRequests};
 ghost use Rattle.sysv_wire.specs.OneEncoding.{OneRequest, OneReply};
+ghost use Rattle.sysv_wire.specs.declared.frame.Version.{Version};
 
 /// States the number of bytes in the length field of a frame, the limits of its length, and the
 /// maximum mode.
@@ -31,33 +32,33 @@ pub fn one_reply()
 /// States that at most one result of reading a request fits an input. So if the reader does not
 /// fail, the result is the one that fits.
 pub fn one_answer_to_requests()
-    ensures { OneAnswerToRequests }
+    ensures { (newest : Version) → OneAnswerToRequests newest }
 {}
 
 /// States that at most one result of reading a reply fits an input.
 pub fn one_answer_to_replies()
-    ensures { OneAnswerToReplies }
+    ensures { (newest : Version) → OneAnswerToReplies newest }
 {}
 
-/// States that at most one result of `frame_in` fits the same bytes: `Whole` if a request's frame
-/// begins them, `Refused` if they alone cause a fault, and otherwise `More`.
+/// States that at most one result of `frame_in_up_to` fits the same bytes: `Whole` if a request's
+/// frame begins them, `Refused` if they alone cause a fault, and otherwise `More`.
 pub fn one_frame()
-    ensures { OneFrame }
+    ensures { (newest : Version) → OneFrame newest }
 {}
 
-/// States that the result of `frame_in` stays the same if bytes follow: `More` until `least` bytes
-/// have arrived, and `Whole` and `Refused` always.
+/// States that the result of `frame_in_up_to` stays the same if bytes follow: `More` until `least`
+/// bytes have arrived, and `Whole` and `Refused` always.
 pub fn frame_stays()
-    ensures { FrameStays }
+    ensures { (newest : Version) → FrameStays newest }
 {}
 
 /// States that a whole frame is still whole without the bytes after it.
 pub fn frame_is_alone()
-    ensures { FrameAlone }
+    ensures { (newest : Version) → FrameAlone newest }
 {}
 
 /// States that reading a request from bytes that begin with a whole frame takes this frame and no
 /// byte after it, unless the reader fails.
 pub fn frame_is_taken()
-    ensures { FrameTaken }
+    ensures { (newest : Version) → FrameTaken newest }
 {}

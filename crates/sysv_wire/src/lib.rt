@@ -26,15 +26,15 @@ mod reply;
 mod request;
 mod requests;
 
-pub use arrived::{FrameIn, frame_in};
+pub use arrived::{FrameIn, frame_in, frame_in_up_to};
 pub use fault::Fault;
 pub use frame::{MAX_MODE, Op, Version};
 pub use laws::{
     frame_is_alone, frame_is_taken, frame_stays, numerals_of_frames, one_answer_to_replies,
     one_answer_to_requests, one_frame, one_reply, one_request,
 };
-pub use replies::{read_reply, write_reply};
+pub use replies::{read_reply, read_reply_up_to, write_reply};
 pub use reply::{Reply, ReplyContent};
 pub use request::{Ask, Request};
-pub use requests::{read_request, write_request};
+pub use requests::{read_request, read_request_up_to, write_request};
 pub use sysv_model::WriteFault;

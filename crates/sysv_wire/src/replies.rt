@@ -4,9 +4,9 @@ ghost use Rattle.std.specs.Io.KnownBytes.{Appends, Consumes};
 ghost use Rattle.sysv_model.specs.Instrumented.{stream_of, KeepsStream};
 ghost use Rattle.sysv_model.specs.Writing.{AppendsPrefix};
 ghost use Rattle.sysv_wire.specs.Faults.{Faults, is_read_fault};
-ghost use Rattle.sysv_wire.specs.Frames.{op_number, version_number};
+ghost use Rattle.sysv_wire.specs.Frames.{Knows, op_number, version_number};
 ghost use Rattle.sysv_wire.specs.declared.frame.Version.{Version as Versions};
-ghost use Rattle.sysv_wire.specs.Numbers.{u32_bytes};
+ghost use Rattle.sysv_wire.specs.Numbers.{i64_bytes, u32_bytes};
 ghost use Rattle.sysv_wire.specs.OneAnswer.{ReplyAt};
 ghost use Rattle.sysv_wire.specs.Reading.{ReadsReply};
 ghost use Rattle.sysv_wire.specs.Replies.{FitsContent, IsAnswer, IsAnswerLength, IsRestLength, count_fields, error_number, gives_text, hello_len as the_hello_len, content_fields, content_text, perm_fields, reply_encoding, row_fields, stat_fields, time_fields};
@@ -29,21 +29,28 @@ const MAX_FIELDS: usize = 66;
 /// The maximum number of bytes after the error of a reply.
 const MAX_REST: usize = 8200;
 
-/// Checks the version, then the operation, and then the length, which must be one that the
-/// operation has with this error. Returns the version, the operation and the number of bytes after
-/// the error.
-fn judge(length: u32, version: u8, number: u8, error: u8) -> Result<(Version, Op, usize), Fault>
+/// Checks the head of a reply that a reader with this newest version reads: the version, then the
+/// operation, and then the length, which must be one that the operation has with this error.
+/// Returns the version, the operation and the number of bytes after the error.
+fn judge(
+    newest: Version,
+    length: u32,
+    version: u8,
+    number: u8,
+    error: u8,
+) -> Result<(Version, Op, usize), Fault>
     requires { 3 ≤ length }
     ensures version { IfOk result (λ found. version_number found.0 ≡ version) }
     ensures op { IfOk result (λ found. op_number found.1 ≡ number) }
+    ensures known { IfOk result (λ found. Knows newest found.0 found.1) }
     ensures rest { IfOk result (λ found. (found.2 ≡ length - 3)
         × IsRestLength found.0 found.1 error found.2) }
-    ensures fault { IfErr result (AnswerFault length version number error) }
+    ensures fault { IfErr result (AnswerFault newest length version number error) }
 {
-    let Some(version) = Version::of(version) else {
+    let Some(version) = newest.up_to(version) else {
         return Err(Fault::BadField);
     };
-    let Some(op) = Op::of(number) else {
+    let Some(op) = Op::known(version, number) else {
         return Err(Fault::BadOp);
     };
     let rest = length as usize - 3;
@@ -66,6 +73,7 @@ fn hello_len(version: Version) -> usize
     match version {
         Version::One => 0,
         Version::Two => 4,
+        Version::Three => 4,
     }
 }
 
@@ -82,10 +90,13 @@ fn may_take(version: Version, op: Op, rest: usize) -> bool
         Op::Set => rest == 0,
         Op::Rm => rest == 0,
         Op::Row => rest == 1 || rest == 23,
+        Op::Hold => rest >= 8,
+        Op::Done => rest == 0,
+        Op::Back => rest == 0,
     }
 }
 
-/// Reads `rest` bytes, the fields of the result of an operation other than a receive.
+/// Reads `rest` bytes, the fields of the result of an operation other than a receive or a hold.
 fn read_fields<R: Read>(
     reader: &mut Instrumented<'_, R>,
     version: Version,
@@ -93,7 +104,7 @@ fn read_fields<R: Read>(
     rest: usize,
 ) -> Result<ReplyContent, Fault>
     requires len { IsAnswerLength version op rest }
-    requires other { op ≢ Op.Rcv }
+    requires other { (op ≢ Op.Rcv) × (op ≢ Op.Hold) }
     ensures taken { IfOk result (λ content.
         Consumes (R.remaining (stream_of reader.old)) (R.remaining (stream_of reader.new))
         (content_fields content)) }
@@ -113,25 +124,28 @@ fn read_fields<R: Read>(
     content_of(version, op, fields)
 }
 
-/// Reads `rest` bytes, the type and the body of a message.
+/// Reads `rest` bytes, the type and the body of a message that a receive or a hold returns.
 fn read_message<R: Read>(
     reader: &mut Instrumented<'_, R>,
+    op: Op,
     rest: usize,
     text: &mut Body,
 ) -> Result<ReplyContent, Fault>
     requires least { 8 ≤ rest }
     requires most { rest ≤ MAX_REST }
+    requires message { (op ≡ Op.Rcv) ⊎ (op ≡ Op.Hold) }
     requires empty { text.old ≡ [] }
     ensures taken { IfOk result (λ content.
         Consumes (R.remaining (stream_of reader.old)) (R.remaining (stream_of reader.new))
         (content_fields content ++ text.new)) }
     ensures len { IfOk result (λ content. length (content_fields content ++ text.new) ≡ rest) }
-    ensures answer { (version : Versions) → IfOk result (λ content. IsAnswer version 3 content) }
+    ensures answer { (version : Versions) → IfOk result (λ content.
+        IsAnswer version (op_number op) content) }
     ensures fits { IfOk result FitsContent }
     ensures error { IfOk result (λ content. error_number content ≡ 0) }
     ensures text { IfOk result (λ content. gives_text content ≡ true) }
     ensures fault { IfErr result (λ fault.
-        Faults (RestFault Op.Rcv 0 rest) fault (R.remaining (stream_of reader.old))
+        Faults (RestFault op 0 rest) fault (R.remaining (stream_of reader.old))
         (R.remaining (stream_of reader.new))) }
     ensures stream { KeepsStream reader.old reader.new (is_read_fault result) }
 {
@@ -139,7 +153,22 @@ fn read_message<R: Read>(
     fill_all(reader, &mut bytes)?;
     let mtype = only_i64(&bytes);
     read_text(reader, rest - 8, text)?;
-    Ok(ReplyContent::Rcv { mtype })
+    Ok(message_of(op, mtype))
+}
+
+/// Returns the result of a receive or a hold whose message has this type.
+fn message_of(op: Op, mtype: i64) -> ReplyContent
+    requires message { (op ≡ Op.Rcv) ⊎ (op ≡ Op.Hold) }
+    ensures fields { content_fields result ≡ i64_bytes mtype }
+    ensures answer { (version : Versions) → IsAnswer version (op_number op) result }
+    ensures fits { FitsContent result }
+    ensures error { error_number result ≡ 0 }
+    ensures text { gives_text result ≡ true }
+{
+    match op {
+        Op::Hold => ReplyContent::Hold { mtype },
+        _ => ReplyContent::Rcv { mtype },
+    }
 }
 
 /// Reads what follows the error of a reply.
@@ -173,12 +202,12 @@ fn read_rest<R: Read>(
         return Ok(ReplyContent::Refused(error));
     }
     match op {
-        Op::Rcv => read_message(reader, rest, text),
+        Op::Rcv | Op::Hold => read_message(reader, op, rest, text),
         _ => read_fields(reader, version, op, rest),
     }
 }
 
-/// Reads one reply. Returns `None` if the input ends before its first byte.
+/// Reads one reply of version 1 or 2. Returns `None` if the input ends before its first byte.
 ///
 /// The body of a received message is then in `text`. For any other reply and at the end of the
 /// input, `text` is empty. After an error its contents are unspecified.
@@ -202,24 +231,49 @@ pub fn read_reply<R: Read>(
     reader: &mut Instrumented<'_, R>,
     text: &mut Body,
 ) -> Result<Option<Reply>, Fault>
-    ensures reads { ReadsReply (R.remaining (stream_of reader.old))
+    ensures reads { ReadsReply Version.Two (R.remaining (stream_of reader.old))
         (R.remaining (stream_of reader.new)) result text.new }
     // The result is the one that fits what the reader had left, unless the reader fails.
     ensures only { (input : List ℕ) (answer : Result (Option Reply) Fault) →
-        R.remaining (stream_of reader.old) ≡ Some input → ReplyAt input answer →
+        R.remaining (stream_of reader.old) ≡ Some input → ReplyAt Version.Two input answer →
         (result ≡ answer) ⊎ (result ≡ Err Fault.Read) }
     // The reader stays the same, and fails in this call if and only if the result is `Read`.
     ensures stream { KeepsStream reader.old reader.new (is_read_fault result) }
 {
-    next_reply(reader, text)
+    read_reply_up_to(Version::Two, reader, text)
 }
 
-/// Reads one reply, like `read_reply`. The contract states only what was taken of the input.
-fn next_reply<R: Read>(
+/// Reads one reply of a version up to `newest`, like `read_reply`. The body of a held message is
+/// then in `text` too.
+///
+/// # Errors
+///
+/// Those of `read_reply`, with these versions for 1 and 2, and the number of the version's last
+/// operation for 7.
+pub fn read_reply_up_to<R: Read>(
+    newest: Version,
     reader: &mut Instrumented<'_, R>,
     text: &mut Body,
 ) -> Result<Option<Reply>, Fault>
-    ensures reads { ReadsReply (R.remaining (stream_of reader.old))
+    ensures reads { ReadsReply newest (R.remaining (stream_of reader.old))
+        (R.remaining (stream_of reader.new)) result text.new }
+    // The result is the one that fits what the reader had left, unless the reader fails.
+    ensures only { (input : List ℕ) (answer : Result (Option Reply) Fault) →
+        R.remaining (stream_of reader.old) ≡ Some input → ReplyAt newest input answer →
+        (result ≡ answer) ⊎ (result ≡ Err Fault.Read) }
+    // The reader stays the same, and fails in this call if and only if the result is `Read`.
+    ensures stream { KeepsStream reader.old reader.new (is_read_fault result) }
+{
+    next_reply(newest, reader, text)
+}
+
+/// Reads one reply, like `read_reply_up_to`. The contract states only what was taken of the input.
+fn next_reply<R: Read>(
+    newest: Version,
+    reader: &mut Instrumented<'_, R>,
+    text: &mut Body,
+) -> Result<Option<Reply>, Fault>
+    ensures reads { ReadsReply newest (R.remaining (stream_of reader.old))
         (R.remaining (stream_of reader.new)) result text.new }
     ensures stream { KeepsStream reader.old reader.new (is_read_fault result) }
 {
@@ -228,7 +282,7 @@ fn next_reply<R: Read>(
     let Some(length) = read_head(reader, MAX_REPLY, &mut head)? else {
         return Ok(None);
     };
-    let (version, op, rest) = judge(length, head[0], head[1], head[2])?;
+    let (version, op, rest) = judge(newest, length, head[0], head[1], head[2])?;
     let result = read_rest(reader, version, op, head[2], rest, text)?;
     Ok(Some(Reply {
         version,
@@ -277,7 +331,10 @@ pub fn write_reply<W: Write>(
 fn takes_text(content: &ReplyContent) -> bool
     ensures { result ≡ gives_text content.now }
 {
-    matches!(content, ReplyContent::Rcv { .. })
+    matches!(
+        content,
+        ReplyContent::Rcv { .. } | ReplyContent::Hold { .. }
+    )
 }
 
 /// Returns the number of the error, 0 if there is none.
@@ -295,6 +352,9 @@ fn error_of(content: &ReplyContent) -> u8
         ReplyContent::Set => 0,
         ReplyContent::Rm => 0,
         ReplyContent::Row(_) => 0,
+        ReplyContent::Hold { .. } => 0,
+        ReplyContent::Done => 0,
+        ReplyContent::Back => 0,
     }
 }
 
@@ -316,6 +376,9 @@ fn len_of(content: &ReplyContent) -> usize
         ReplyContent::Rm => 0,
         ReplyContent::Row(None) => 1,
         ReplyContent::Row(Some(_)) => 23,
+        ReplyContent::Hold { .. } => 8,
+        ReplyContent::Done => 0,
+        ReplyContent::Back => 0,
     }
 }
 
@@ -355,6 +418,9 @@ fn put_fields(fields: &mut Fields, content: &ReplyContent)
             fields.put_u8(1);
             put_row(fields, row);
         }
+        ReplyContent::Hold { mtype } => fields.put_i64(mtype),
+        ReplyContent::Done => {}
+        ReplyContent::Back => {}
     }
 }
 

@@ -7,7 +7,7 @@ use sysv_model::{Errno, Row, Stat};
 pub struct Reply {
     /// The version of the reply's frame. It is the version of the request.
     pub version: Version,
-    /// The number of the request's operation, 0 to 7.
+    /// The number of the request's operation, 0 to 7, or 10 in version 3.
     pub op: u8,
     /// The result of the operation.
     pub result: ReplyContent,
@@ -21,7 +21,7 @@ pub enum ReplyContent {
     Refused(Errno),
     /// The server knows the caller's credentials, in version 1.
     Hello,
-    /// The server knows the caller's credentials, in version 2.
+    /// The server knows the caller's credentials, in version 2 or 3.
     HelloSlots {
         /// The number of queue slots. A row may be requested for each number below it.
         slots: u32,
@@ -47,4 +47,13 @@ pub enum ReplyContent {
     /// One row of the list of queues, or `None` if the slot has no queue. The mode is at most
     /// 0o777.
     Row(Option<Row>),
+    /// A hold, with the message's body in the `Body`, at most 8,192 bytes.
+    Hold {
+        /// The message's type.
+        mtype: i64,
+    },
+    /// The message that was held is spent.
+    Done,
+    /// The message that was held is sent back.
+    Back,
 }

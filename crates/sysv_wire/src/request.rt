@@ -68,6 +68,23 @@ pub enum Ask {
         /// The slot's number, counted from 0.
         slot: u32,
     },
+    /// `msgrcv` of a message that comes back if it is not spent. Only version 3 has it.
+    Hold {
+        /// The queue's identifier.
+        id: i32,
+        /// The maximum number of bytes of the body to receive.
+        size: u32,
+        /// The type to receive, as `msgrcv` defines it.
+        mtype: i64,
+        /// The flags: all 32 bits as they were sent.
+        flags: Flags,
+        /// The number of seconds until the message comes back. 0 is no limit.
+        seconds: u32,
+    },
+    /// Spends the message that is held. Only version 3 has it.
+    Done,
+    /// Sends back the message that is held. Only version 3 has it.
+    Back,
 }
 
 impl Ask {
@@ -84,6 +101,9 @@ impl Ask {
             Ask::Set { .. } => Op::Set,
             Ask::Rm { .. } => Op::Rm,
             Ask::Row { .. } => Op::Row,
+            Ask::Hold { .. } => Op::Hold,
+            Ask::Done => Op::Done,
+            Ask::Back => Op::Back,
         }
     }
 }

@@ -4,7 +4,7 @@ ghost use Rattle.std.specs.Io.KnownBytes.{Appends, Consumes};
 ghost use Rattle.sysv_model.specs.Instrumented.{stream_of, KeepsStream};
 ghost use Rattle.sysv_model.specs.Writing.{AppendsPrefix};
 ghost use Rattle.sysv_wire.specs.Faults.{Faults, Breaks, IsShorter, OpFault, is_read_fault};
-ghost use Rattle.sysv_wire.specs.Frames.{op_number, version_number};
+ghost use Rattle.sysv_wire.specs.Frames.{Knows, op_number, version_number};
 ghost use Rattle.sysv_wire.specs.Numbers.{u32_bytes};
 ghost use Rattle.sysv_wire.specs.OneAnswer.{RequestAt};
 ghost use Rattle.sysv_wire.specs.Reading.{ReadsRequest};
@@ -22,7 +22,7 @@ use std::io::{Read, Write};
 use sysv_model::{BODY_ROOM, Body, Cred, Flags, Instrumented, SetTo, WriteFault};
 
 /// The maximum number of bytes in the fields of a request, without its body.
-const MAX_FIELDS: usize = 20;
+const MAX_FIELDS: usize = 24;
 
 /// Returns the number of bytes in the fields of a request, without its body.
 fn len_of(op: Op) -> usize
@@ -34,6 +34,8 @@ fn len_of(op: Op) -> usize
         Op::Snd => 16,
         Op::Rcv | Op::Set => 20,
         Op::Stat | Op::Rm | Op::Row => 4,
+        Op::Hold => 24,
+        Op::Done | Op::Back => 0,
     }
 }
 
@@ -44,31 +46,34 @@ fn takes_text(op: Op) -> bool
     matches!(op, Op::Snd)
 }
 
-/// Checks the version, then the operation, and then the length, which must be one that the
-/// operation has.
-pub(crate) fn judge(length: u32, version: u8, number: u8) -> Result<(Version, Op), Fault>
-    ensures version { IfOk result (λ found. version_number found.0 ≡ version) }
-    ensures op { IfOk result (λ found. (op_number found.1 ≡ number)
-        × IsRequestLength found.1 length) }
-    ensures fault { IfErr result (OpFault length version number) }
-{
-    let Some(version) = Version::of(version) else {
-        return Err(Fault::BadField);
-    };
-    let Some(op) = Op::of(number) else {
-        return Err(Fault::BadOp);
-    };
-    let length = length as usize;
-    let least = 2 + len_of(op);
-    let is_wanted = if takes_text(op) {
-        length >= least
-    } else {
-        length == least
-    };
-    if is_wanted {
-        Ok((version, op))
-    } else {
-        Err(Fault::BadField)
+impl Version {
+    /// Checks the head of a request that a reader with this newest version reads: the version, then
+    /// the operation, and then the length, which must be one that the operation has.
+    pub(crate) fn judge(self, length: u32, version: u8, number: u8) -> Result<(Version, Op), Fault>
+        ensures version { IfOk result (λ found. version_number found.0 ≡ version) }
+        ensures op { IfOk result (λ found. (op_number found.1 ≡ number)
+            × IsRequestLength found.1 length) }
+        ensures known { IfOk result (λ found. Knows self found.0 found.1) }
+        ensures fault { IfErr result (OpFault self length version number) }
+    {
+        let Some(version) = self.up_to(version) else {
+            return Err(Fault::BadField);
+        };
+        let Some(op) = Op::known(version, number) else {
+            return Err(Fault::BadOp);
+        };
+        let length = length as usize;
+        let least = 2 + len_of(op);
+        let is_wanted = if takes_text(op) {
+            length >= least
+        } else {
+            length == least
+        };
+        if is_wanted {
+            Ok((version, op))
+        } else {
+            Err(Fault::BadField)
+        }
     }
 }
 
@@ -88,6 +93,9 @@ fn ask_of(op: Op, fields: &[u8]) -> Ask
         Op::Set => set_of(fields),
         Op::Rm => rm_of(fields),
         Op::Row => row_of(fields),
+        Op::Hold => hold_of(fields),
+        Op::Done => Ask::Done,
+        Op::Back => Ask::Back,
     }
 }
 
@@ -205,6 +213,26 @@ fn row_of(fields: &[u8]) -> Ask
     }
 }
 
+#[tactic(auto, unfolding(crate::specs::Requests::ask_fields))]
+fn hold_of(fields: &[u8]) -> Ask
+    requires { length fields.now ≡ fields_len Op.Hold }
+    ensures op { op_of result ≡ Op.Hold }
+    ensures encoded { fields.now ≡ ask_fields result }
+    ensures fits { FitsAsk result }
+{
+    let (id, fields) = take_i32(fields);
+    let (size, fields) = take_u32(fields);
+    let (mtype, fields) = take_i64(fields);
+    let (flags, fields) = take_u32(fields);
+    Ask::Hold {
+        id,
+        size,
+        mtype,
+        flags: Flags::from_bits_retain(flags),
+        seconds: only_u32(fields),
+    }
+}
+
 /// Reads the fields and the body of a request whose length is `whole`.
 fn read_ask<R: Read>(
     reader: &mut Instrumented<'_, R>,
@@ -238,7 +266,7 @@ fn read_ask<R: Read>(
     Ok(ask)
 }
 
-/// Reads one request. Returns `None` if the input ends before its first byte.
+/// Reads one request of version 1 or 2. Returns `None` if the input ends before its first byte.
 ///
 /// The body of a send is then in `text`. For any other request and at the end of the input, `text`
 /// is empty. After an error its contents are unspecified.
@@ -259,24 +287,49 @@ pub fn read_request<R: Read>(
     reader: &mut Instrumented<'_, R>,
     text: &mut Body,
 ) -> Result<Option<Request>, Fault>
-    ensures reads { ReadsRequest (R.remaining (stream_of reader.old))
+    ensures reads { ReadsRequest Version.Two (R.remaining (stream_of reader.old))
         (R.remaining (stream_of reader.new)) result text.new }
     // The result is the one that fits what the reader had left, unless the reader fails.
     ensures only { (input : List ℕ) (answer : Result (Option Request) Fault) →
-        R.remaining (stream_of reader.old) ≡ Some input → RequestAt input answer →
+        R.remaining (stream_of reader.old) ≡ Some input → RequestAt Version.Two input answer →
         (result ≡ answer) ⊎ (result ≡ Err Fault.Read) }
     // The reader stays the same, and fails in this call if and only if the result is `Read`.
     ensures stream { KeepsStream reader.old reader.new (is_read_fault result) }
 {
-    next_request(reader, text)
+    read_request_up_to(Version::Two, reader, text)
 }
 
-/// Reads one request, like `read_request`. The contract states only what was taken of the input.
-fn next_request<R: Read>(
+/// Reads one request of a version up to `newest`, like `read_request`.
+///
+/// # Errors
+///
+/// Those of `read_request`, with these versions for 1 and 2, and the number of the version's last
+/// operation for 7.
+pub fn read_request_up_to<R: Read>(
+    newest: Version,
     reader: &mut Instrumented<'_, R>,
     text: &mut Body,
 ) -> Result<Option<Request>, Fault>
-    ensures reads { ReadsRequest (R.remaining (stream_of reader.old))
+    ensures reads { ReadsRequest newest (R.remaining (stream_of reader.old))
+        (R.remaining (stream_of reader.new)) result text.new }
+    // The result is the one that fits what the reader had left, unless the reader fails.
+    ensures only { (input : List ℕ) (answer : Result (Option Request) Fault) →
+        R.remaining (stream_of reader.old) ≡ Some input → RequestAt newest input answer →
+        (result ≡ answer) ⊎ (result ≡ Err Fault.Read) }
+    // The reader stays the same, and fails in this call if and only if the result is `Read`.
+    ensures stream { KeepsStream reader.old reader.new (is_read_fault result) }
+{
+    next_request(newest, reader, text)
+}
+
+/// Reads one request, like `read_request_up_to`. The contract states only what was taken of the
+/// input.
+fn next_request<R: Read>(
+    newest: Version,
+    reader: &mut Instrumented<'_, R>,
+    text: &mut Body,
+) -> Result<Option<Request>, Fault>
+    ensures reads { ReadsRequest newest (R.remaining (stream_of reader.old))
         (R.remaining (stream_of reader.new)) result text.new }
     ensures stream { KeepsStream reader.old reader.new (is_read_fault result) }
 {
@@ -285,7 +338,7 @@ fn next_request<R: Read>(
     let Some(length) = read_head(reader, MAX_REQUEST, &mut head)? else {
         return Ok(None);
     };
-    let (version, op) = judge(length, head[0], head[1])?;
+    let (version, op) = newest.judge(length, head[0], head[1])?;
     let ask = read_ask(reader, length, op, text)?;
     Ok(Some(Request { version, ask }))
 }
@@ -371,6 +424,20 @@ fn fields_of(ask: &Ask) -> Fields
         }
         Ask::Rm { id } => fields.put_i32(id),
         Ask::Row { slot } => fields.put_u32(slot),
+        Ask::Hold {
+            id,
+            size,
+            mtype,
+            flags,
+            seconds,
+        } => {
+            fields.put_i32(id);
+            fields.put_u32(size);
+            fields.put_i64(mtype);
+            fields.put_u32(flags.bits());
+            fields.put_u32(seconds);
+        }
+        Ask::Done | Ask::Back => {}
     }
     fields
 }

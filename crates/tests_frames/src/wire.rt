@@ -5,3 +5,4 @@ mod faults;
 mod fields;
 mod frames;
 mod streams;
+mod third;

@@ -27,7 +27,7 @@ impl Conversing {
             + length result.conversation.unsent.marks ≡ 0 }
     {
         Conversing {
-            conversation: Conversation::open(alloc),
+            conversation: Conversation::open(alloc, Version::Two),
             text: open_body(alloc).expect(rt, "a second try"),
             given: open_body(alloc).expect(rt, "a second try"),
         }

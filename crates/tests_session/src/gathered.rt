@@ -241,7 +241,7 @@ fn a_session_is_taken_up_step_by_step(rt: HostRuntime) {
     let mut pieces = Pieces::new(SESSION, usize::MAX);
     let mut reader = Instrumented::new(&mut pieces);
     let mut gathering = Gathering {
-        session: Session::open(),
+        session: Session::open(Version::Two),
         outbox: Outbox::open(rt.alloc()),
         text: open_body(rt.alloc()).expect(&rt, "a second try"),
         given: open_body(rt.alloc()).expect(&rt, "a second try"),

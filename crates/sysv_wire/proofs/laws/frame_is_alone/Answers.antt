@@ -2,4 +2,4 @@ use Rattle.sysv_wire.proofs.ArrivedLemmas as arrived
 use Rattle.sysv_wire.proofs.laws.frame_is_alone.Goals as goal
 
 pub returns : goal.returns
-returns c = arrived.frame_alone
+returns c = λ newest. arrived.frame_alone newest

@@ -3,6 +3,7 @@ use Rattle.std.proofs.Common.{Bor}
 use Rattle.sysv_keys.specs.declared.identifier.TheConstants.{SLOTS}
 use Rattle.sysv_model.specs.Instrumented.{stream_of}
 use Rattle.sysv_seats.specs.declared.handler.ServiceHandler.{ServiceHandler}
+use Rattle.sysv_wire.specs.declared.frame.Version.TheVariants.{Two}
 use Rattle.sysv_seats.proofs.Sessions.{serves}
 use Rattle.sysv_seats.proofs.handler.ServiceHandler.serve_instrumented.Goals as goal
 
@@ -13,7 +14,7 @@ returns g c =
     (λ (k : ServiceHandler g.row.C.Denot g.row.R.Denot g.C.Clock). k.clock)
     (λ (k : ServiceHandler g.row.C.Denot g.row.R.Denot g.C.Clock). k.pass)
     (λ (clock : Bor g.row.C.Denot). g.C.Clock.may clock.now)
-    ⊥ SLOTS c.serve_instrumented.result c.args.self.now c.serve_instrumented.new.handler
+    ⊥ Two SLOTS c.serve_instrumented.result c.args.self.now c.serve_instrumented.new.handler
     (g.I.Read.remaining (stream_of c.args.reader.now))
     (g.I.Read.remaining (stream_of c.serve_instrumented.new.reader))
     (g.O.Write.contents (stream_of c.args.writer.now)) (g.O.Write.contents (stream_of c.serve_instrumented.new.writer))
