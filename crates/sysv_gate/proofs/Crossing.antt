@@ -26,8 +26,7 @@ use Rattle.sysv_gate.specs.contracts.table.place.Place as place
 use Rattle.sysv_gate.specs.contracts.gate.seat.Key as key
 use Rattle.sysv_gate.specs.contracts.gate.seat.Seat as seat
 use Rattle.sysv_gate.specs.contracts.gate.seat.Seat.TheInside as inside
-use Rattle.sysv_doorbells.specs.contracts.doorbells.Doorbells as doorbells
-use Rattle.sysv_doorbells.proofs.doorbells.Doorbells.TheSendSync as doorbells_cross
+use Rattle.sysv_doorbells.proofs.doorbells.Doorbells.TheSendSync as doorbells
 use Rattle.sysv_gate.specs.contracts.gate.Gate as gate
 use Rattle.std.specs.contracts.vec.Vec as vec
 use Rattle.std.specs.contracts.impls.GlobalAllocator.TheImpl as global
@@ -86,10 +85,7 @@ lock_sync O C R g = view_sync (lock_inside.the_row O C R g) _ _ _ _
       as_row_sync usize-field (search sendable),
       (
         as_row_sync usize-field (search sendable),
-        (
-          as_row_sync (snapshot.the_field O) (snapshot_sync O),
-          (as_row_sync doorbells.the_field doorbells_cross.the_field_sync, tt),
-        ),
+        (as_row_sync (snapshot.the_field O) (snapshot_sync O), (doorbells.the_sync, tt)),
       ),
     ))
 
