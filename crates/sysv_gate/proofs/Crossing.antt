@@ -26,14 +26,7 @@ use Rattle.sysv_gate.specs.contracts.table.place.Place as place
 use Rattle.sysv_gate.specs.contracts.gate.seat.Key as key
 use Rattle.sysv_gate.specs.contracts.gate.seat.Seat as seat
 use Rattle.sysv_gate.specs.contracts.gate.seat.Seat.TheInside as inside
-use Rattle.sysv_gate.specs.contracts.lock.doorbell.Doorbell as doorbell
-use Rattle.sysv_gate.proofs.lock.doorbell.Doorbell.TheSendSync as doorbells
-use Rattle.std.specs.contracts.sync.atomic.AtomicU64 as atomic
-use Rattle.std.proofs.sync.atomic.AtomicU64.TheSendSync as atomics
-use Rattle.sysv_gate.specs.contracts.lock.doorbell.Entrance as entrance
-use Rattle.sysv_gate.proofs.lock.doorbell.Entrance.TheSendSync as entrances
-use Rattle.sysv_gate.specs.contracts.lock.doorbell.TurnDoorbells as turns
-use Rattle.sysv_gate.proofs.lock.doorbell.TurnDoorbells.TheSendSync as turn_doorbells
+use Rattle.sysv_doorbells.proofs.doorbells.Doorbells.TheSendSync as doorbells
 use Rattle.sysv_gate.specs.contracts.gate.Gate as gate
 use Rattle.std.specs.contracts.vec.Vec as vec
 use Rattle.std.specs.contracts.impls.GlobalAllocator.TheImpl as global
@@ -92,22 +85,7 @@ lock_sync O C R g = view_sync (lock_inside.the_row O C R g) _ _ _ _
       as_row_sync usize-field (search sendable),
       (
         as_row_sync usize-field (search sendable),
-        (
-          as_row_sync (snapshot.the_field O) (snapshot_sync O),
-          (
-            as_row_sync atomic.the_field atomics.the_sync,
-            (
-              as_row_sync entrance.the_field entrances.the_field_sync,
-              (
-                as_row_sync turns.the_field turn_doorbells.the_field_sync,
-                (
-                  as_row_sync doorbell.the_field doorbells.the_field_sync,
-                  (as_row_sync doorbell.the_field doorbells.the_field_sync, tt),
-                ),
-              ),
-            ),
-          ),
-        ),
+        (as_row_sync (snapshot.the_field O) (snapshot_sync O), (doorbells.the_sync, tt)),
       ),
     ))
 

@@ -1,5 +1,5 @@
 //! One place of a table, and the steps on its words.
-ghost use Rattle.std.specs.Prelude.{◌≡◌, ◌+◌, ◌*◌, ◌^◌, ◌<◌, ◌≤◌, cond, true, [], length};
+ghost use Rattle.std.specs.Prelude.{◌≡◌, ◌+◌, ◌*◌, ◌^◌, ◌<◌, ◌≤◌, cond, true, [], length, IfSome};
 ghost use mathlib.Core.Option.{none};
 ghost use Rattle.atomic_table.specs.Table.{step};
 ghost use Rattle.sysv_gate.specs.History.{Moves, AreUpTo, after_all};
@@ -16,15 +16,16 @@ pub(crate) mod turns;
 pub(crate) mod waits;
 
 use crate::count::Count;
-use crate::lock::doorbell::{Doorbell, Entrance, TurnDoorbells};
+use crate::lock::doorbell::DOORBELLS;
 use crate::object::Object;
 use crate::table::words::{SERVING, TICKET};
 use crate::table::{
     Announcing, Drawing, Entering, Looking, PlaceTable, Reading, TableToken, Weighing,
 };
+use std::alloc::Global;
 use std::marker::Model;
 use std::snapshot::Snapshot;
-use std::sync::atomic::AtomicU64;
+use sysv_doorbells::Doorbells;
 
 /// One of several places that share a table, with the doorbells of the threads that wait there.
 #[derive(Drop)]
@@ -34,16 +35,8 @@ pub struct PlaceLock<O: Object> {
     base: usize,
     /// The object that was at the place when the table was laid.
     opening: Snapshot<O>,
-    /// The number of threads that have entered any doorbell of the place and not left.
-    pub(crate) sleepers: AtomicU64,
-    /// The doorbell of the threads that wait for their turn without a ticket.
-    pub(crate) entrance: Entrance,
-    /// The doorbells of the threads that wait for their turn with a ticket.
-    pub(crate) turns: TurnDoorbells,
-    /// The doorbell of the threads that wait for the first count.
-    pub(crate) arrived: Doorbell,
-    /// The doorbell of the threads that wait for the second count.
-    pub(crate) freed: Doorbell,
+    /// The doorbells of the threads that wait at the place.
+    pub(crate) doorbells: Doorbells,
 }
 
 impl<O: Object> Model for PlaceLock<O> {
@@ -56,31 +49,28 @@ impl<O: Object> Model for PlaceLock<O> {
     ghost view = { λ d. record { place = d.place; opening = d.opening.value } };
 
     ghost invariant = { λ d. (d.base ≡ 80 * d.place) × (d.base ≤ 2 ^ 60)
-        × AreUpTo (2 ^ 61) (O.counted d.opening.value) };
+        × (d.doorbells.words ≡ 72) × AreUpTo (2 ^ 61) (O.counted d.opening.value) };
 }
 
 impl<O: Object> PlaceLock<O> {
-    /// Makes the lock of the place, where `object` is.
+    /// Makes the lock of the place, where `object` is. Returns `None` if memory is refused.
     ///
     /// # Conditions
     ///
     /// - `80 * place` is at most 2^60.
     /// - Both counts of `object` are at most 2^61.
-    pub fn new(place: usize, object: &O) -> PlaceLock<O>
+    pub fn new(alloc: Global, place: usize, object: &O) -> Option<PlaceLock<O>>
         requires place { 80 * place ≤ 2 ^ 60 }
         requires counts { AreUpTo (2 ^ 61) (O.counted object.now) }
-        ensures { (result.place ≡ place) × (result.opening ≡ object.now) }
+        ensures { IfSome result (λ l. (l.place ≡ place) × (l.opening ≡ object.now)) }
     {
-        PlaceLock {
+        let doorbells = Doorbells::open(alloc, DOORBELLS as usize)?;
+        Some(PlaceLock {
             place,
             base: 80 * place,
             opening: Snapshot::of(object),
-            sleepers: AtomicU64::new(0),
-            entrance: Entrance::new(),
-            turns: TurnDoorbells::new(),
-            arrived: Doorbell::new(),
-            freed: Doorbell::new(),
-        }
+            doorbells,
+        })
     }
 
     /// Returns the number of this place's word among the words of the table.

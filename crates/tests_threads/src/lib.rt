@@ -1,11 +1,13 @@
-//! Tests of buffers, of workers, and of the words that wake a sleeper and tell it of changes, by one
-//! thread and by several.
+//! Tests of buffers, of workers, of doorbells, and of the words that wake a sleeper and tell it of
+//! changes, by one thread and by several.
 #![tactic(auto)]
 
 #[cfg(test)]
 mod bells;
 #[cfg(test)]
 mod buffer;
+#[cfg(test)]
+mod doorbells;
 #[cfg(test)]
 mod examples;
 #[cfg(test)]

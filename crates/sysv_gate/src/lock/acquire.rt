@@ -5,12 +5,12 @@ ghost use Rattle.sysv_gate.specs.Tables.{me_at};
 ghost use Rattle.sysv_gate.specs.Locks.{IsLockIn, IsPassAt, IsSame};
 
 use crate::lock::PlaceLock;
+use crate::lock::doorbell::ENTRANCE;
 use crate::object::Object;
 use crate::table::words::{LIMIT, SERVING, TICKET};
 use crate::table::{PlaceTable, TableToken};
 use std::hint;
 use std::sync::Wait;
-use std::sync::atomic::Ordering::SeqCst;
 
 /// The number of looks whether no ticket is out before the thread sleeps without a ticket.
 const TRIES: u64 = 128;
@@ -132,13 +132,11 @@ impl<O: Object> PlaceLock<O> {
     fn doze_outside(&self, rt: &impl Wait, table: &PlaceTable<O>)
         requires { IsLockIn table.now.shared self.now }
     {
-        self.sleepers.fetch_add(1, SeqCst);
-        let rung = self.entrance.enter();
+        let sleeper = self.doorbells.enter(ENTRANCE);
         if self.is_busy(table) {
-            self.entrance.sleep(rt, rung);
+            self.doorbells.sleep(rt, &sleeper);
         }
-        self.entrance.leave();
-        self.sleepers.fetch_sub(1, SeqCst);
+        self.doorbells.leave(sleeper);
     }
 
     /// Returns whether a ticket is out and more can be drawn.

@@ -6,6 +6,7 @@ ghost use Rattle.sysv_gate.specs.Tables.{me_at, ReadsInOrder};
 ghost use Rattle.sysv_gate.specs.Locks.{IsLockIn, IsPassAt, IsSame, EndsOrder, Idles, HasCalled, HasTried};
 
 use crate::lock::PlaceLock;
+use crate::lock::doorbell::DOORBELLS;
 use crate::lock::turns::Entry;
 use crate::object::Object;
 use crate::refusals::{TryRefused, Worn};
@@ -99,7 +100,8 @@ impl<O: Object> PlaceLock<O> {
 
     /// Wakes every thread that waits at the place, like `Gate::wake`.
     pub fn wake(&self, _rt: &impl Wait) {
-        self.turns.ring_all();
-        self.ring();
+        for bell in 0..DOORBELLS {
+            self.doorbells.ring(bell);
+        }
     }
 }

@@ -12,6 +12,7 @@ ghost use Rattle.sysv_lists.specs.Numbers.{times};
 
 use crate::count::Count;
 use crate::lock::PlaceLock;
+use crate::lock::doorbell::{ARRIVED, ENTRANCE, FREED, of_ticket};
 use crate::object::Object;
 use crate::table::place::{Done, Place};
 use crate::table::words::{LIMIT, SERVING};
@@ -19,7 +20,6 @@ use crate::table::{Ending, PlaceTable, Spot, TableToken};
 use std::hint;
 use std::snapshot::Snapshot;
 use std::sync::Wait;
-use std::sync::atomic::Ordering::SeqCst;
 
 /// The number of looks for the seat's ticket before the thread sleeps.
 pub(crate) const LOOKS: u64 = 16_384;
@@ -179,15 +179,12 @@ impl<O: Object> PlaceLock<O> {
         ensures waits { result ≢ ticket
             → SawMore (me_at self.now.place token.old.me).0 (me_at self.now.place token.new.me) }
     {
-        let doorbell = self.turns.of(ticket);
-        self.sleepers.fetch_add(1, SeqCst);
-        let rung = doorbell.enter();
+        let sleeper = self.doorbells.enter(of_ticket(ticket));
         let served = self.look(table, token);
         if served != ticket {
-            doorbell.sleep(rt, rung);
+            self.doorbells.sleep(rt, &sleeper);
         }
-        doorbell.leave();
-        self.sleepers.fetch_sub(1, SeqCst);
+        self.doorbells.leave(sleeper);
         served
     }
 
@@ -257,7 +254,7 @@ impl<O: Object> PlaceLock<O> {
     pub(crate) fn wake_after(&self, ticket: u64, rose: Rose)
         requires { ticket < 2 ^ 62 }
     {
-        if self.sleepers.load(SeqCst) > 0 {
+        if self.doorbells.has_sleepers().0 {
             self.wake_sleepers(ticket, rose);
         }
     }
@@ -268,14 +265,14 @@ impl<O: Object> PlaceLock<O> {
     fn wake_sleepers(&self, ticket: u64, rose: Rose)
         requires { ticket < 2 ^ 62 }
     {
-        if !self.turns.of(ticket + 1).ring() {
-            self.entrance.call_one();
+        if !self.doorbells.ring(of_ticket(ticket + 1)).0 {
+            self.doorbells.call_one();
         }
         if rose.arrived {
-            let _ = self.arrived.ring();
+            self.doorbells.ring(ARRIVED);
         }
         if rose.freed {
-            let _ = self.freed.ring();
+            self.doorbells.ring(FREED);
         }
     }
 
@@ -290,8 +287,8 @@ impl<O: Object> PlaceLock<O> {
     /// Wakes the threads that sleep without a ticket or wait for a count.
     #[cold]
     pub(crate) fn ring(&self) {
-        self.entrance.ring();
-        let _ = self.arrived.ring();
-        let _ = self.freed.ring();
+        self.doorbells.ring(ENTRANCE);
+        self.doorbells.ring(ARRIVED);
+        self.doorbells.ring(FREED);
     }
 }

@@ -7,13 +7,12 @@ ghost use Rattle.sysv_gate.specs.Locks.{IsLockIn, IsPassAt, IsSame};
 use crate::awaited::Awaited;
 use crate::count::Count;
 use crate::lock::PlaceLock;
-use crate::lock::doorbell::Doorbell;
+use crate::lock::doorbell::of_count;
 use crate::object::Object;
 use crate::table::words::LIMIT;
 use crate::table::{PlaceTable, TableToken};
 use std::hint;
 use std::sync::Wait;
-use std::sync::atomic::Ordering::SeqCst;
 
 /// The number of looks at a count before the thread sleeps.
 pub(crate) const LOOKS: u64 = 256;
@@ -88,14 +87,6 @@ impl<O: Object> PlaceLock<O> {
         None
     }
 
-    /// Returns the doorbell of the threads that wait for this count.
-    fn doorbell(&self, count: Count) -> &Doorbell {
-        match count {
-            Count::Arrived => &self.arrived,
-            Count::Freed => &self.freed,
-        }
-    }
-
     /// Sleeps until the count may have risen, unless the wait is over already.
     fn doze(
         &self,
@@ -115,15 +106,12 @@ impl<O: Object> PlaceLock<O> {
             (ReadMore count (me_at self.now.place token.old.me)
             (me_at self.now.place token.new.me)) }
     {
-        let doorbell = self.doorbell(count);
-        self.sleepers.fetch_add(1, SeqCst);
-        let rung = doorbell.enter();
+        let sleeper = self.doorbells.enter(of_count(count));
         let found = self.judge(table, token, count, goal);
         if found.is_none() {
-            doorbell.sleep(rt, rung);
+            self.doorbells.sleep(rt, &sleeper);
         }
-        doorbell.leave();
-        self.sleepers.fetch_sub(1, SeqCst);
+        self.doorbells.leave(sleeper);
         found
     }
 

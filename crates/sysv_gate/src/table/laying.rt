@@ -47,7 +47,10 @@ fn locks_for<O: Object>(
         return None;
     };
     for place in 0..objects.len() {
-        locks.push_reserved(PlaceLock::new(place, &objects[place]));
+        let Some(lock) = PlaceLock::new(alloc, place, &objects[place]) else {
+            return None;
+        };
+        locks.push_reserved(lock);
     }
     Some(locks)
 }

@@ -16,7 +16,7 @@ loop-place-preserved g c =
     let at = at_index c.args.objects.now.items c.loop-place.place _ (omega arith) c.index.ensures in
     record {
       locks = one_lock c.args.objects.now.items c.loop-place.place _ _ _ _ c.loop-place.invariant.locks
-          c.push_reserved.ensures.items at c.new.ensures.0 c.new.ensures.1;
+          c.push_reserved.ensures.items at c.in-Some.ensures.0 c.in-Some.ensures.1;
       room = search rules;
     }
 

@@ -1,0 +1,5 @@
+pub mod Counts
+pub mod SleeperKeepsRule
+pub mod RingerKeepsRule
+pub mod OpenedMeetsRule
+pub mod LawsFromRule

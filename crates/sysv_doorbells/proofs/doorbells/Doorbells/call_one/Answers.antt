@@ -1,0 +1,54 @@
+use Rattle.std.proofs.Common.{rules, Bool, cond, ap, refl, arith, ◌∙◌}
+use Rattle.sysv_doorbells.specs.declared.view.Stage.TheVariants.{Ringing, Passed}
+use Rattle.sysv_doorbells.proofs.RingerKeepsRule.{nears, rings_out}
+use Rattle.sysv_doorbells.proofs.Counts.{found_near, found_nobody, same_trace}
+use Rattle.sysv_doorbells.proofs.doorbells.Doorbells.call_one.Goals as goal
+
+pub load_new_seat-found-requires : goal.load_new_seat-found-requires
+load_new_seat-found-requires c =
+    let many = c.self.invariant.0 in
+    let words = ap (λ z. z.words) c.self.view_is in
+    let within = c.requires.within in
+    (omega arith, nears _ _ _ (0, omega arith, refl))
+
+pub calls-requires-clause-near : goal.calls-requires-clause-near
+calls-requires-clause-near c =
+    let me = c.load_new_seat-found.ensures.2 in
+    (ap (λ m. m.0.stage) me ∙ found_near _ c.if-found-eq0.false, ap (λ m. m.0.at) me)
+
+pub fetch_add-requires : goal.fetch_add-requires
+fetch_add-requires c =
+    let many = c.self.invariant.0 in
+    let words = ap (λ z. z.words) c.self.view_is in
+    let within = c.requires.within in
+    let me = c.load_new_seat-found.ensures.2 in
+    let called = c.calls.ensures.called in (
+      search rules,
+      omega arith,
+      rings_out _ _ _ _ _ (0, omega arith, refl)
+          (ap (λ m. m.0.stage) called ∙ ap (λ (b : Bool). cond b Ringing Passed) c.if-calls.true)
+          (ap (λ m. m.0.at) called ∙ ap (λ m. m.0.at) me),
+    )
+
+pub returns-then-found-eq0 : goal.returns-then-found-eq0
+returns-then-found-eq0 c =
+    let me = c.load_new_seat-found.ensures.2 in
+    same_trace _ _ _ _ _ _ (c.load_new_seat-found.ensures.0 ∙ c.self.view_is)
+    (ap (λ m. m.0.stage) me ∙ (found_nobody _ c.if-found-eq0.true).1) (ap (λ m. m.0.at) me)
+
+pub returns-then-calls : goal.returns-then-calls
+returns-then-calls c =
+    let me = c.load_new_seat-found.ensures.2 in
+    let called = c.calls.ensures.called in
+    let made = c.fetch_add.ensures.2 in
+    same_trace _ _ _ _ _ _
+    (c.fetch_add.ensures.0 ∙ c.calls.ensures.table ∙ c.load_new_seat-found.ensures.0 ∙ c.self.view_is)
+    (ap (λ m. m.0.stage) made) (ap (λ m. m.0.at) made ∙ ap (λ m. m.0.at) called ∙ ap (λ m. m.0.at) me)
+
+pub returns : goal.returns
+returns c =
+    let me = c.load_new_seat-found.ensures.2 in
+    let called = c.calls.ensures.called in
+    same_trace _ _ _ _ _ _ (c.calls.ensures.table ∙ c.load_new_seat-found.ensures.0 ∙ c.self.view_is)
+    (ap (λ m. m.0.stage) called ∙ ap (λ (b : Bool). cond b Ringing Passed) c.if-calls.false)
+    (ap (λ m. m.0.at) called ∙ ap (λ m. m.0.at) me)
