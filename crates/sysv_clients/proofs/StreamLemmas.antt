@@ -16,7 +16,7 @@ use Rattle.sysv_clients.specs.declared.style.Style.{Style}
 use Rattle.sysv_clients.specs.Asks.{find_ask, receive_ask, request_of}
 use Rattle.sysv_clients.specs.Calls.{BreaksPlan, Call, Each, IsCallDone, Made, read_by, written_by}
 use Rattle.sysv_clients.specs.Stream.{AreTakenByScreen, EndsTakes, EndsTaking, IsRefusedIn, IsReplied, IsUnshown}
-use Rattle.sysv_clients.specs.Stream.{TakesAll, ahead_of}
+use Rattle.sysv_clients.specs.Stream.{StopsAtLast, TakesAll, ahead_of}
 use Rattle.sysv_clients.specs.Stream.{count_of, finding_plan, received_text, repeated_encoding, shown_by, taking_ask}
 use Rattle.sysv_clients.specs.Style.{style_of_receipt}
 use Rattle.sysv_clients.specs.Taking.{Finds, IsTaken, MeetsFault, ShowsBut, ShowsPart, Stops, Takes, TakesBut}
@@ -146,6 +146,7 @@ unfound page receiving (Refused error) left rest taken more shown is (opened, un
   writes = subst (λ l. Appends taken written (written_by l)) (sym (append-nil opened)) made.writes;
   ends = inl (record { no_takes = refl; none = refl; breaks = breaks });
   shows = ([], sym is, Appends-nil shown);
+  alone = λ one. is;
 }
 unfound page receiving NoReply left rest taken more shown is (opened, unread, written, made, breaks) = record {
   opened = opened;
@@ -161,6 +162,7 @@ unfound page receiving NoReply left rest taken more shown is (opened, unread, wr
   writes = subst (λ l. Appends taken written (written_by l)) (sym (append-nil opened)) made.writes;
   ends = inl (record { no_takes = refl; none = refl; breaks = breaks });
   shows = ([], sym is, Appends-nil shown);
+  alone = λ one. is;
 }
 unfound page receiving NoMemory left rest taken more shown is (opened, unread, written, made, breaks) = absurd breaks.2
 
@@ -181,6 +183,7 @@ refused receiving left taken shown = record {
   writes = Appends-nil taken;
   ends = record { no_calls = refl; no_takes = refl; none = refl; read = refl; wrote = refl };
   shows = Appends-nil shown;
+  at_once = tt;
 }
 
 -- The queue was found, and nothing was received yet.
@@ -200,6 +203,7 @@ begins page receiving taking left rest taken more shown empty (opened, made, fou
       (subst (Appends taken more) (sym (append-nil (written_by (opened ++ []))))
       (subst (λ l. Appends taken more (written_by l)) (sym (append-nil opened)) made.writes));
   shows = ([], sym empty, Appends-nil shown);
+  alone = λ one. empty;
   owes = omega (arith, count);
   due = omega (arith, none);
   few = omega (arith, none);
@@ -243,6 +247,7 @@ asks_more page receiving left rest taken more most shown after taking now added 
           (Appends-trans taken more most _ _ so_far.writes
           (subst (λ (a : Ask). Appends more most (repeated_encoding a added)) so_far.ask wrote));
       shows = so_far.shows;
+      alone = so_far.alone;
       owes = omega (arith, so_far.owes, owes);
       due = omega (arith, due, owes);
       few = few;
@@ -395,16 +400,21 @@ same_so page now shown so after style takes one none same kept before =
     ∙ append-nil (shown_by style takes)))
     (but_same page now (shown_by style takes) shown so after same kept before)
 
+-- A receive that is alone has no others.
+only_one : (ahead waiting fewer : ℕ) → ahead ≡ 1 → waiting ≤ ahead → waiting ≡ fewer + 1 → fewer ≡ 0
+only_one ahead waiting fewer single few some = omega (arith, single, few, some)
+
 -- One more message was received and shown.
 pub takes_more : (page now : List ℕ) (receiving : Receiving) (answer : ReplyContent) (given : List ℕ)
     (left mid rest taken more shown so after : Option (List ℕ)) (taking : Taking) (owed fewer : ℕ)
     → Takes page receiving left mid taken more shown so taking → taking.waiting ≡ fewer + 1 → taking.owed ≡ owed + 1
     → Consumes mid rest (reply_encoding (reply_to taking.ask answer) given) → IsDone taking.ask answer given
     → ShowsBut now (page ++ received_text (style_of_receipt receiving.receipt) answer given) so after
+    → (fewer ≡ 0 → page ≡ [] → now ≡ [])
     → Takes now receiving left rest taken more shown after
     (record { ask = taking.ask; owed = owed; waiting = fewer })
 takes_more page now receiving answer given left mid rest taken more shown so after taking owed fewer so_far some due
-    read done shows =
+    read done shows clears =
     let ask = taking_ask receiving so_far.opened in
     let one = call_of ask [] answer given in
     record {
@@ -420,6 +430,8 @@ takes_more page now receiving answer given left mid rest taken more shown so aft
       writes = writes_so taken more so_far.opened so_far.takes ask answer given taking.waiting fewer some
           so_far.writes;
       shows = shows_so page now shown so after (style_of_receipt receiving.receipt) so_far.takes one so_far.shows shows;
+      alone = λ single. clears (only_one (ahead_of receiving) taking.waiting fewer single so_far.few some)
+          (so_far.alone single);
       owes = omega (arith, so_far.owes, due, length-append so_far.takes (one ∷ []));
       due = omega (arith, so_far.due, some, due);
       few = omega (arith, so_far.few, some);
@@ -549,6 +561,7 @@ finishes page receiving left rest taken more shown after taking so_far none =
         wrote = refl;
       };
       shows = so_far.shows;
+      alone = so_far.alone;
     }
 
 -- What was read is no reply to a receive.
@@ -582,6 +595,7 @@ loses page now receiving left mid rest taken more shown after so taking so_far s
       });
       shows = but_same page now (shown_by (style_of_receipt receiving.receipt) so_far.takes) shown after so same kept
           so_far.shows;
+      alone = λ single. same ∙ so_far.alone single;
     }
 
 -- The writer failed in more receives.
@@ -607,6 +621,7 @@ stops_writing page receiving left rest taken more most shown after taking added 
       writes = so_far.writes;
       breaks = subst (λ (a : Ask). AppendsPrefix more most (repeated_encoding a added)) so_far.ask wrote;
       shows = so_far.shows;
+      alone = so_far.alone;
       owed = omega (arith, so_far.owes, due);
       few = few;
     }
@@ -647,6 +662,7 @@ stops_at page now receiving error left mid rest taken more shown after so taking
           so_far.writes;
       breaks = whole_prefix more more [] (Appends-nil more);
       shows = same_so page now shown after so style so_far.takes one refl same kept so_far.shows;
+      alone = λ single. same ∙ so_far.alone single;
       owed = omega (arith, so_far.owes, so_far.due, some, length-append so_far.takes (one ∷ []));
       few = omega (arith, so_far.few, some);
     }
@@ -658,6 +674,37 @@ ends_all : (ask : Ask) (left taken more : Option (List ℕ)) (count : ℕ)
     → EndsTaking ask count left left taken more
 ends_all ask left taken more count (inl (none, same)) = inl (none, refl, same)
 ends_all ask left taken more count (inr (some, wrote)) = inr (inl (wrote, refl))
+
+-- If no receive is on its way, nothing was written of one.
+none_left : (waiting : ℕ) (taken more : Option (List ℕ)) (Part : Type 0) → waiting ≡ 0
+    → ((waiting ≡ 0) × (more ≡ taken)) ⊎ ((1 ≤ waiting) × Part) → more ≡ taken
+none_left waiting taken more Part none (inl (same, wrote)) = wrote
+none_left waiting taken more Part none (inr (some, part)) = absurd (not_some waiting none some)
+  where
+    not_some : (count : ℕ) → count ≡ 0 → 1 ≤ count → ⊥
+    not_some count none some = omega (arith, none, some)
+
+-- The screen failed at the message of a receive that was alone.
+at_last : (page : List ℕ) (style : Style) (takes : List Call) (one : Call) (waiting : ℕ)
+    (rest taken more shown so after : Option (List ℕ)) (Part : Type 0) → page ≡ [] → waiting ≡ 0
+    → ((waiting ≡ 0) × (more ≡ taken)) ⊎ ((1 ≤ waiting) × Part)
+    → ShowsBut page (shown_by style takes) shown so
+    → ShowsPart (page ++ received_text style one.answer one.given) so after
+    → StopsAtLast style (takes ++ one ∷ []) waiting rest rest taken more shown after
+at_last page style takes one waiting rest taken more shown so after Part empty free left (part, is, adds)
+    (bytes, fails) =
+    record {
+      before = takes;
+      last = one;
+      split = refl;
+      none = free;
+      read = refl;
+      wrote = none_left waiting taken more Part free left;
+      mid = so;
+      showed = subst (Appends shown so) (sym (is ∙ ap (λ (l : List ℕ). part ++ l) empty ∙ append-nil part)) adds;
+      shows = subst (λ (l : List ℕ). AppendsPrefix so after (l ++ received_text style one.answer one.given)) empty
+          fails;
+    }
 
 -- The screen failed at a message.
 pub unshown : (page : List ℕ) (receiving : Receiving) (answer : ReplyContent) (given : List ℕ)
@@ -698,6 +745,9 @@ unshown page receiving answer given left mid rest taken more shown so after taki
         ends = ends_all ask rest parted.written more fewer parted.left;
       };
       shows = part.1;
+      at_once = λ single. at_last page style so_far.takes one fewer rest parted.written more shown so after
+          (AppendsPrefix parted.written more (repeated_encoding ask fewer)) (so_far.alone single)
+          (only_one (ahead_of receiving) taking.waiting fewer single so_far.few some) parted.left so_far.shows shows;
     }
 
 -- A later receive has a reply, after one that was refused.
@@ -721,6 +771,15 @@ meets_more (Refused error) ahead waiting fewer unwritten takes one some done mee
 meets_more NoReply ahead waiting fewer unwritten takes one some done meets =
     (each_more IsCallDone takes one meets.0 done, meets.1)
 meets_more NoMemory ahead waiting fewer unwritten takes one some done meets = absurd meets
+
+-- After a fault no receive is on its way that was alone.
+none_waits : (why : ClientFault) (ahead waiting fewer unwritten : ℕ) (takes : List Call) → ahead ≡ 1
+    → MeetsFault why ahead waiting unwritten takes → waiting + unwritten ≤ ahead → waiting ≡ fewer + 1 → ⊥
+none_waits (Refused error) ahead waiting fewer unwritten takes single meets few some =
+    omega (arith, single, meets.few, some)
+none_waits NoReply ahead waiting fewer unwritten takes single meets few some =
+    omega (arith, single, meets.1, few, some)
+none_waits NoMemory ahead waiting fewer unwritten takes single meets few some = absurd meets
 
 -- After a fault, one more message was received and shown.
 pub stops_more : (page now : List ℕ) (receiving : Receiving) (why : ClientFault) (answer : ReplyContent)
@@ -751,6 +810,8 @@ stops_more page now receiving why answer given left mid rest taken more shown so
           so_far.writes;
       breaks = so_far.breaks;
       shows = shows_so page now shown so after (style_of_receipt receiving.receipt) so_far.takes one so_far.shows shows;
+      alone = λ single. absurd (none_waits why (ahead_of receiving) waiting fewer so_far.unwritten so_far.takes single
+          so_far.meets so_far.few some);
       owed = omega (arith, so_far.owed, some, length-append so_far.takes (one ∷ []));
       few = omega (arith, so_far.few, some);
     }
@@ -800,6 +861,7 @@ stops_again page now receiving why error left mid rest taken more shown so after
       breaks = so_far.breaks;
       shows = same_so page now shown so after (style_of_receipt receiving.receipt) so_far.takes one refl same kept
           so_far.shows;
+      alone = λ single. same ∙ so_far.alone single;
       owed = omega (arith, so_far.owed, some, length-append so_far.takes (one ∷ []));
       few = omega (arith, so_far.few, some);
     }
@@ -852,6 +914,7 @@ stops_lost page now receiving why left mid rest taken more shown after so ask wa
           front so_far.breaks (subst (λ (a : Ask). HasNoReply a mid rest) so_far.asks none));
       shows = but_same page now (shown_by (style_of_receipt receiving.receipt) so_far.takes) shown after so same kept
           so_far.shows;
+      alone = λ single. same ∙ so_far.alone single;
     }
   where
     ends_lost : (ask : Ask) (left rest taken mid more : Option (List ℕ)) (waiting unwritten : ℕ) → 0 < waiting
@@ -899,6 +962,7 @@ stops_all page receiving why left rest taken more shown after ask waiting so_far
           parted.written more (omega (arith, none)) so_far.found so_far.meets
           (ends_all of rest parted.written more so_far.unwritten parted.left);
       shows = so_far.shows;
+      alone = so_far.alone;
     }
 
 by_screen : (why : ClientFault) (ahead waiting unwritten : ℕ) (takes : List Call)
@@ -948,6 +1012,8 @@ stops_unshown page receiving why answer given left mid rest taken more shown so 
         ends = ends_all of rest parted.written more count parted.left;
       };
       shows = part.1;
+      at_once = λ single. absurd (none_waits why (ahead_of receiving) waiting fewer so_far.unwritten so_far.takes single
+          so_far.meets so_far.few some);
     }
 
 -- All of the page was shown.
@@ -983,6 +1049,7 @@ shown_all page receiving None left rest taken more shown so after all adds = rec
   writes = all.writes;
   ends = all.ends;
   shows = but_shown page (shown_by (style_of_receipt receiving.receipt) all.takes) shown so after all.shows adds;
+  at_once = tt;
 }
 shown_all page receiving (Some why) left rest taken more shown so after all adds = record {
   opened = all.opened;
@@ -998,6 +1065,7 @@ shown_all page receiving (Some why) left rest taken more shown so after all adds
   writes = all.writes;
   ends = all.ends;
   shows = but_shown page (shown_by (style_of_receipt receiving.receipt) all.takes) shown so after all.shows adds;
+  at_once = tt;
 }
 
 pub shown_done : (page : List ℕ) (receiving : Receiving) (left rest taken more shown so after : Option (List ℕ))
@@ -1048,6 +1116,10 @@ ends_unshown receiving (Some NoReply) opened takes waiting left rest taken more 
 ends_unshown receiving (Some NoMemory) opened takes waiting left rest taken more some ends =
     absurd (no_takes_shown (style_of_receipt receiving.receipt) takes ends.no_takes some)
 
+no_page : (page : List ℕ) → page ≡ [] → 0 < length page → ⊥
+no_page page none some =
+    let nothing : 0 < 0 = subst (λ (l : List ℕ). 0 < length l) none some in omega (arith, nothing)
+
 -- The screen failed at the messages that were left.
 pub closes_unshown : (page : List ℕ) (receiving : Receiving) (fault : Option ClientFault) (told : Unshown)
     (left rest taken more shown so after : Option (List ℕ))
@@ -1071,4 +1143,5 @@ closes_unshown page receiving fault told left rest taken more shown so after all
       ends = ends_unshown receiving fault all.opened all.takes all.waiting all.unread rest all.written more part.0
           all.ends;
       shows = part.1;
+      at_once = λ single. absurd (no_page page (all.alone single) fails.0);
     }

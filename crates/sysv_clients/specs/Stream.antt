@@ -146,6 +146,29 @@ pub record IsUnfound (opened takes : List Call) (waiting : ℕ) (left rest taken
   pub read : rest ≡ left
   pub wrote : more ≡ taken
 
+-- The screen failed at the message of the last receive with a reply. What it had taken before it is the
+-- messages before that one, and of that one it has a prefix. Nothing was requested or read afterwards.
+pub record StopsAtLast (style : Style) (takes : List Call) (waiting : ℕ)
+    (left rest taken more shown after : Option (List ℕ)) : Type 0 where
+  pub before : List Call
+  pub last : Call
+  pub split : takes ≡ before ++ last ∷ []
+  pub none : waiting ≡ 0
+  pub read : rest ≡ left
+  pub wrote : more ≡ taken
+  pub mid : Option (List ℕ)  -- what the screen had taken before that message
+  pub showed : Appends shown mid (shown_by style before)
+  pub shows : AppendsPrefix mid after (received_text style last.answer last.given)
+
+-- If only one receive is on its way at a time, the session stops at the message that the screen failed at.
+abbrev pub StopsAtOnce : Receiving → Result ⊤ Stop → (takes : List Call) → (waiting : ℕ) →
+    (left rest taken more shown after : Option (List ℕ)) → Type 0
+StopsAtOnce receiving (Ok done) takes waiting left rest taken more shown after = ⊤
+StopsAtOnce receiving (Err (Fault why)) takes waiting left rest taken more shown after = ⊤
+StopsAtOnce receiving (Err (Screen unshown)) takes waiting left rest taken more shown after =
+    ahead_of receiving ≡ 1
+    → StopsAtLast (style_of_receipt receiving.receipt) takes waiting left rest taken more shown after
+
 -- How a session ends after these calls, with this number of receives on their way: all messages
 -- came, or the screen failed, or a request is refused or has no reply, or memory was refused.
 abbrev pub EndsTakes : Receiving → Result ⊤ Stop → (opened takes : List Call) → (waiting : ℕ) →
@@ -195,6 +218,7 @@ pub record TakesAll (receiving : Receiving) (ended : Result ⊤ Stop)
   pub writes : Appends taken written (written_by (opened ++ takes))
   pub ends : EndsTakes receiving ended opened takes waiting unread rest written more
   pub shows : ShowsCalls ended (shown_by (style_of_receipt receiving.receipt) takes) shown after
+  pub at_once : StopsAtOnce receiving ended takes waiting unread rest written more shown after
 
 -- The line that reports why a session ended early. It is empty if the screen failed.
 abbrev pub stop_line : Stop → List ℕ

@@ -60,6 +60,7 @@ pub record Takes (page : List ℕ) (receiving : Receiving) (left rest taken more
   pub writes : Appends taken more
       (written_by (opened ++ takes) ++ repeated_encoding (taking_ask receiving opened) taking.waiting)
   pub shows : ShowsBut page (shown_by (style_of_receipt receiving.receipt) takes) shown after
+  pub alone : ahead_of receiving ≡ 1 → page ≡ []
   pub owes : length takes + taking.owed ≡ count_of receiving
   pub due : taking.waiting ≤ taking.owed
   pub few : taking.waiting ≤ ahead_of receiving
@@ -75,17 +76,18 @@ RequestsMore owed ahead (Err fault) waiting now ask taken more =
     × AppendsPrefix taken more (repeated_encoding ask added)
 
 -- What was read as the reply to this receive, and what was collected on the page and shown of it. If
--- the screen failed, it is a message.
-abbrev pub TakesOne : Style → Ask → Took → (left rest : Option (List ℕ)) → (page now : List ℕ) →
+-- the screen failed, it is a message. If there are no others on their way, nothing stays on the page.
+abbrev pub TakesOne : (others : ℕ) → Style → Ask → Took → (left rest : Option (List ℕ)) → (page now : List ℕ) →
     (shown after : Option (List ℕ)) → Type 0
-TakesOne style ask Message left rest page now shown after =
+TakesOne others style ask Message left rest page now shown after =
     (answer : ReplyContent) × (given : List ℕ) × Consumes left rest (reply_encoding (reply_to ask answer) given)
     × IsDone ask answer given × ShowsBut now (page ++ received_text style answer given) shown after
-TakesOne style ask (Refused error) left rest page now shown after =
+    × (others ≡ 0 → page ≡ [] → now ≡ [])
+TakesOne others style ask (Refused error) left rest page now shown after =
     Consumes left rest (reply_encoding (reply_to ask (content.Refused error)) []) × (now ≡ page) × (after ≡ shown)
-TakesOne style ask Lost left rest page now shown after =
+TakesOne others style ask Lost left rest page now shown after =
     HasNoReply ask left rest × (now ≡ page) × (after ≡ shown)
-TakesOne style ask (Unshown unshown) left rest page now shown after =
+TakesOne others style ask (Unshown unshown) left rest page now shown after =
     (answer : ReplyContent) × (given : List ℕ) × Consumes left rest (reply_encoding (reply_to ask answer) given)
     × IsDone ask answer given × ShowsPart (page ++ received_text style answer given) shown after
 
@@ -127,6 +129,7 @@ pub record Stops (page : List ℕ) (receiving : Receiving) (why : ClientFault)
       (written_by (opened ++ takes) ++ repeated_encoding (taking_ask receiving opened) waiting)
   pub breaks : AppendsPrefix written more (repeated_encoding (taking_ask receiving opened) unwritten)
   pub shows : ShowsBut page (shown_by (style_of_receipt receiving.receipt) takes) shown after
+  pub alone : ahead_of receiving ≡ 1 → page ≡ []
   pub owed : length takes + (waiting + unwritten) ≤ count_of receiving
   pub few : waiting + unwritten ≤ ahead_of receiving
 
@@ -152,3 +155,4 @@ pub record TakesBut (page : List ℕ) (receiving : Receiving) (ended : Result �
   pub writes : Appends taken written (written_by (opened ++ takes))
   pub ends : EndsTakes receiving ended opened takes waiting unread rest written more
   pub shows : ShowsBut page (shown_by (style_of_receipt receiving.receipt) takes) shown after
+  pub alone : ahead_of receiving ≡ 1 → page ≡ []

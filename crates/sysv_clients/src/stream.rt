@@ -1,7 +1,7 @@
 //! A `rcv` of several messages: a session that shows each message as it comes, and messages that
 //! came together in one write.
 
-ghost use Rattle.std.specs.Prelude.{◌≡◌, ◌+◌, ◌*◌, ◌<◌, ◌≤◌, ℕ, List, Option, [], ◌++◌, length, is_err, Err, IfOk, IfErr, OnOk, OnErr};
+ghost use Rattle.std.specs.Prelude.{◌≡◌, ◌+◌, ◌*◌, ◌<◌, ◌≤◌, ℕ, List, Option, [], ◌++◌, false, length, is_err, Err, IfOk, IfErr, OnOk, OnErr};
 ghost use Rattle.std.specs.Io.KnownBytes.{Appends};
 ghost use Rattle.sysv_clients.specs.declared.page.TheConstants.{PAGE_ROOM};
 ghost use Rattle.sysv_clients.specs.declared.stream.Receiving.{Receiving as AReceiving};
@@ -123,9 +123,10 @@ impl From<Unshown> for Stop {
 ///
 /// The client writes a hello, the request that finds the queue, and a request for each message, all
 /// of version 2. At most `receiving.ahead` receives are written and have no reply, and no more than
-/// there are messages to receive. Requests are flushed before a reply is read. Messages are written
-/// and flushed as soon as the reader has no whole frame left, so those that came together are one
-/// write if they fit in one. Only messages are written to the screen.
+/// there are messages to receive. Requests are flushed before a reply is read. A message is written
+/// and flushed at once, unless other receives are on their way and the reader has a whole frame
+/// left: messages that came together are one write if they fit in one. Only messages are written to
+/// the screen.
 ///
 /// # Errors
 ///
@@ -299,7 +300,7 @@ impl Taker {
                     return self.finish(&style, reader, screen, &taking, why);
                 }
             }
-            match self.take(&style, taking.ask, reader, screen) {
+            match self.take(&style, taking.ask, taking.waiting - 1, reader, screen) {
                 Took::Message => {
                     taking.owed -= 1;
                     taking.waiting -= 1;
@@ -371,25 +372,30 @@ impl Taker {
         Ok(())
     }
 
-    /// Reads the reply to a receive, and collects or shows the message in it.
+    /// Reads the reply to a receive, and collects or shows the message in it. This number of others
+    /// is on its way.
     fn take<R: ReadAhead, S: Write>(
         &mut self,
         style: &Style,
         ask: Ask,
+        others: u32,
         reader: &mut R,
         screen: &mut Instrumented<'_, S>,
     ) -> Took
-        ensures takes { TakesOne style.now ask result (R.remaining reader.old)
+        ensures takes { TakesOne others style.now ask result (R.remaining reader.old)
             (R.remaining reader.new) self.old.page self.new.page
             (S.contents (stream_of screen.old)) (S.contents (stream_of screen.new)) }
         ensures text { self.new.text ≡ self.old.text }
         ensures screen { KeepsStream screen.old screen.new (is_unshown result) }
     {
         match hear_plain(reader, ask, &mut self.given) {
-            Ok(answer) => match self.show(style, &answer, reader.has_frame(), screen) {
-                Ok(()) => Took::Message,
-                Err(unshown) => Took::Unshown(unshown),
-            },
+            Ok(answer) => {
+                let has_more = others > 0 && reader.has_frame();
+                match self.show(style, &answer, has_more, screen) {
+                    Ok(()) => Took::Message,
+                    Err(unshown) => Took::Unshown(unshown),
+                }
+            }
             Err(ClientFault::Refused(error)) => Took::Refused(error),
             Err(ClientFault::NoReply) => Took::Lost,
             Err(ClientFault::NoMemory) => Took::Lost,
@@ -423,7 +429,7 @@ impl Taker {
         let mut why = fault;
         let mut waiting = taking.waiting;
         while waiting > 0 {
-            match self.take(style, taking.ask, reader, screen) {
+            match self.take(style, taking.ask, waiting - 1, reader, screen) {
                 Took::Message => {}
                 Took::Refused(error) => why = first_of(why, error),
                 Took::Lost => return Ok(Some(why)),
@@ -445,6 +451,7 @@ impl Taker {
     ) -> Result<(), Unshown>
         requires { length self.old.given ≤ MESSAGE_BYTES }
         ensures text { self.new.text ≡ self.old.text }
+        ensures page { has_more ≡ false → self.old.page ≡ [] → OnOk result (self.new.page ≡ []) }
         ensures ok { OnOk result (ShowsBut self.new.page
             (self.old.page ++ received_text style.now answer.now self.old.given)
             (S.contents (stream_of screen.old)) (S.contents (stream_of screen.new))) }

@@ -80,7 +80,7 @@ loop-taking-preserved g c =
       takes = takes_more _ _ c.args.receiving.now h.0 h.1 _ _ _ _ _ _ _ _ c.request.new.taking
           (c.request.new.taking.owed - 1) (c.request.new.taking.waiting - 1) asked (omega (arith, r.2))
           (omega (arith, c.loop-taking-test.true, c.request.ensures.owed)) h.2 h.3
-          (as_shown _ _ _ _ h.0 h.1 _ _ c.of_receipt-style.ensures h.4);
+          (as_shown _ _ _ _ h.0 h.1 _ _ c.of_receipt-style.ensures h.4) h.5;
       text = c.take.ensures.text ∙ c.loop-taking.invariant.text;
       screen = record {
         same = c.take.ensures.screen.same ∙ c.loop-taking.invariant.screen.same;
