@@ -9,7 +9,7 @@ const SESSION: &str = "\
 Clients state user 1000, group 1000 and process 1, and the server does not
 verify that. --me or SYSVMSG_ME=1 states your own.
 Errors of commands are printed on standard output, as `sysvmsg: ENOMSG`, and in
-a sentence on standard error if standard output is no terminal. Those of an
+a sentence on standard error if standard output is not a terminal. Those of an
 `rcv` with --count, --follow, --raw, --zero, --json or --show-type are sentences
 on standard error.
 Exit status: 0 if all is done, 1 after an error, 2 if the command line is not
@@ -276,7 +276,7 @@ Example:
         (
             "ahead",
             Form::ValueWith("A", "count"),
-            "Requests up to A messages ahead, 1 to 64 [default: 1]",
+            "Requests up to A messages ahead, 1 to 256 [default: 1]",
         ),
         ("follow", Form::Flag, "Receives messages until interrupted"),
         (
