@@ -18,7 +18,6 @@ mod connections;
 mod counter;
 mod counts;
 mod dealing;
-mod doorbell;
 mod fault;
 mod heeding;
 mod laws;

@@ -6,8 +6,7 @@ ghost use Rattle.sysv_engine.specs.Counting.{IsNothing};
 
 use crate::alarm::{Alarm, Rest};
 use crate::counts::{Counted, Counts, Moved, SlotCounts, zeros};
-use crate::doorbell::Doorbell;
-use crate::moment::{Moment, NO_DESCRIPTOR, await_doorbell};
+use crate::moment::{Moment, await_doorbell};
 use crate::terms::Patience;
 use crossbeam_queue::ArrayQueue;
 use std::alloc::Global;
@@ -16,6 +15,7 @@ use std::sync::atomic::{AtomicBool, AtomicU64, Ordering};
 use sysv_keys::SLOTS;
 use sysv_parking::{Change, Envelope, WORDS};
 use sysv_queue::Tally;
+use sysv_system::{Doorbell, Watched};
 
 /// The number of bits in a word, and so of workers that a word can name.
 const BITS: usize = 64;
@@ -127,11 +127,11 @@ impl ServerState {
         self.patience
     }
 
-    /// Returns the descriptor of a worker's doorbell, or a negative number.
-    pub fn doorbell_of(&self, worker: usize) -> i32 {
+    /// Returns the descriptor of a worker's doorbell, or that of no file.
+    pub fn doorbell_of(&self, worker: usize) -> Watched {
         match self.posts.get(worker) {
             Some(post) => post.alarm.doorbell(),
-            None => NO_DESCRIPTOR,
+            None => Watched::NONE,
         }
     }
 
@@ -377,9 +377,9 @@ impl ServerState {
         self.starved.load(Ordering::SeqCst)
     }
 
-    /// Returns the descriptor of the doorbell for the accepting thread, or a negative number.
-    pub fn doorbell(&self) -> i32 {
-        self.turn.fd()
+    /// Returns the descriptor of the doorbell for the accepting thread.
+    pub fn doorbell(&self) -> Watched {
+        self.turn.watched()
     }
 
     /// Ends the ringing of that doorbell.
