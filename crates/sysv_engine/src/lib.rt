@@ -39,7 +39,7 @@ mod worker;
 pub use alarm::Rest;
 pub use arrivals::Arrivals;
 pub use connections::{serve_all, serve_connections};
-pub use counts::{Counted, SlotCounts};
+pub use counts::{Counted, SlotCounts, Totals};
 pub use fault::ServeFault;
 pub use laws::{each_lifetime_is_one_run, each_session_makes_calls};
 pub use moment::Moment;

@@ -5,7 +5,7 @@ ghost use Rattle.sysv_keys.specs.declared.identifier.TheConstants.{SLOTS as slot
 ghost use Rattle.sysv_engine.specs.Counting.{IsNothing};
 
 use crate::alarm::{Alarm, Rest};
-use crate::counts::{Counted, Counts, Moved, SlotCounts, zeros};
+use crate::counts::{Counted, Counts, Moved, SlotCounts, Totals, zeros};
 use crate::moment::{Moment, await_doorbell};
 use crate::terms::Patience;
 use crossbeam_queue::ArrayQueue;
@@ -91,6 +91,8 @@ impl ServerState {
         ensures workers { IfSome result (λ both. vec_len both.0.posts ≡ workers) }
         ensures rests { IfSome result (λ both. vec_len both.1 ≡ workers) }
         ensures at_once { IfSome result (λ both. both.0.at_once ≡ at_once) }
+        ensures times { IfSome result (λ both. (both.0.patience ≡ patience)
+            × (both.0.drain ≡ drain)) }
     {
         let turn = Doorbell::open()?;
         let (posts, rests) = open_posts(alloc, workers)?;
@@ -251,8 +253,8 @@ impl ServerState {
 
     /// Returns what the workers have counted. The numbers are read one after another, while the
     /// workers go on.
-    pub fn counted(&self) -> Counted
-        ensures at_once { result.at_once ≡ self.now.at_once }
+    pub fn counted(&self) -> Totals
+        ensures at_once { result.counted.at_once ≡ self.now.at_once }
     {
         let mut sum = Counted {
             over: self.over.load(Ordering::SeqCst),
@@ -267,7 +269,7 @@ impl ServerState {
             post.counts.add_all(&mut sum);
         }
         sum.at_once = self.at_once;
-        sum
+        Totals::of(sum)
     }
 
     /// Tells a worker to take one more connection.
