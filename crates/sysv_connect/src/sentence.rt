@@ -145,7 +145,7 @@ impl Words<'_> {
         };
         let Cred { uid, gid, .. } = command.cred;
         write!(f, "{what} to user {uid}, group {gid}")?;
-        if uid == libc::geteuid() && gid == libc::getegid() {
+        if uid == sysv_system::user() && gid == sysv_system::group() {
             return Ok(());
         }
         write!(f, "; --me states your own")

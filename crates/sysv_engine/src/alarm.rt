@@ -9,13 +9,13 @@ ghost use Rattle.sysv_parking.specs.Agenda.{IsAtRest, KeepsWork};
 ghost use Rattle.sysv_parking.specs.Changes.{IsThere, number_of};
 ghost use Rattle.sysv_engine.specs.Waking.{WakesUp};
 
-use crate::doorbell::{Doorbell, Ring};
 use crate::watch::{Ready, Watch};
 use std::alloc::Global;
 use std::sync::Arc;
 use sysv_bells::{Bells, Sleeper, Teller};
 use sysv_parking::{Agenda, CHANGE_WORDS, Change};
 use sysv_seats::NonBlocking;
+use sysv_system::{Doorbell, Ring, Watched};
 
 /// What wakes a worker: the words by which it is told of changes, and its doorbell.
 #[derive(Drop)]
@@ -54,8 +54,8 @@ impl Alarm {
     }
 
     /// Returns the descriptor of the doorbell.
-    pub(crate) fn doorbell(&self) -> i32 {
-        self.doorbell.fd()
+    pub(crate) fn doorbell(&self) -> Watched {
+        self.doorbell.watched()
     }
 
     /// Ends the ringing of the doorbell.

@@ -59,6 +59,29 @@ pub struct Counted {
     pub in_use: u64,
 }
 
+/// What the workers had counted when it was read. Only `ServerState::counted` makes a value of this
+/// type.
+#[derive(Clone, Copy, Debug)]
+pub struct Totals {
+    counted: Counted,
+}
+
+impl Totals {
+    /// Takes what was read of the workers.
+    pub(crate) fn of(counted: Counted) -> Totals
+        ensures { result.counted ≡ counted }
+    {
+        Totals { counted }
+    }
+
+    /// Returns what they had counted.
+    pub fn counted(&self) -> Counted
+        ensures { result ≡ self.now.counted }
+    {
+        self.counted
+    }
+}
+
 /// Messages that moved, all of them to one queue or all of them from one queue.
 #[derive(Clone, Copy)]
 pub(crate) struct Moved {

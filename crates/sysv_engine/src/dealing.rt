@@ -103,7 +103,7 @@ impl<'s, 'c, S> Dealing<'s, 'c, S> {
 
     /// Returns whether the call of a client waits.
     fn has_waiting(&self) -> bool {
-        let counted = self.server.counted();
+        let counted = self.server.counted().counted();
         counted.slots.receives > 0 || counted.slots.sends > 0 || counted.for_blocks > 0
     }
 

@@ -1,16 +1,9 @@
-//! Points in time, and waits for descriptors up to one.
+//! Points in time, and waits up to one.
 ghost use Rattle.std.specs.Prelude.{◌≡◌, ◌+◌, ◌-◌, ◌^◌, min};
 
-use libc::net::{POLLIN, poll};
-use libc::types::{pollfd, timespec};
-use libc::{CLOCK_MONOTONIC, clock_gettime};
-
-/// A descriptor that refers to no file. `poll` ignores negative descriptors.
-pub(crate) const NO_DESCRIPTOR: i32 = -1;
+use sysv_system::{Event, Watched, await_event, present_millis};
 
 const MILLIS_PER_SECOND: u64 = 1000;
-
-const NANOS_PER_MILLI: i64 = 1_000_000;
 
 /// The number of milliseconds from one tick to the next.
 const TICK_MILLIS: u64 = 100;
@@ -23,18 +16,7 @@ pub struct Moment(u64);
 impl Moment {
     /// Returns the present.
     pub fn now() -> Moment {
-        let mut time = timespec {
-            tv_sec: 0,
-            tv_nsec: 0,
-        };
-        clock_gettime(CLOCK_MONOTONIC, &mut time);
-        let seconds = u64::try_from(time.tv_sec).unwrap_or(0);
-        let millis = u64::try_from(time.tv_nsec / NANOS_PER_MILLI).unwrap_or(0);
-        Moment(
-            seconds
-                .saturating_mul(MILLIS_PER_SECOND)
-                .saturating_add(millis),
-        )
+        Moment(present_millis())
     }
 
     /// Returns the moment this number of seconds from now, or `None` (never) for 0.
@@ -72,30 +54,7 @@ impl Moment {
     }
 }
 
-/// Waits for this number of milliseconds, or less if a signal comes.
-pub(crate) fn pause(millis: i32) {
-    poll(&mut [asking(NO_DESCRIPTOR, 0)], millis);
-}
-
 /// Waits until the doorbell is rung, or until the deadline.
-pub(crate) fn await_doorbell(doorbell: i32, deadline: Option<Moment>) {
-    let limit = timeout(deadline.map(Moment::left));
-    poll(&mut [asking(doorbell, POLLIN)], limit);
-}
-
-/// Returns the time limit of a `poll` for this number of milliseconds, or none.
-fn timeout(left: Option<u64>) -> i32 {
-    match left {
-        Some(millis) => i32::try_from(millis).unwrap_or(i32::MAX),
-        None => -1,
-    }
-}
-
-/// Returns a poll request for these events of `fd`.
-pub(crate) fn asking(fd: i32, events: i16) -> pollfd {
-    pollfd {
-        fd,
-        events,
-        revents: 0,
-    }
+pub(crate) fn await_doorbell(doorbell: Watched, deadline: Option<Moment>) {
+    await_event(Event::readable(doorbell), deadline.map(Moment::left));
 }

@@ -8,9 +8,8 @@ ghost use Rattle.sysv_engine.specs.declared.counter.Kind.TheVariants.{CutOff};
 
 use crate::alarm::{Alarm, Rest};
 use crate::counter::{Added, Counter, Kind};
-use crate::counts::{Counted, Counts, Moved, SlotCounts, zeros};
-use crate::doorbell::Doorbell;
-use crate::moment::{Moment, NO_DESCRIPTOR, await_doorbell};
+use crate::counts::{Counted, Counts, Moved, SlotCounts, Totals, zeros};
+use crate::moment::{Moment, await_doorbell};
 use crate::terms::{Patience, Setting};
 use crossbeam_queue::ArrayQueue;
 use std::alloc::Global;
@@ -19,6 +18,7 @@ use std::sync::atomic::{AtomicBool, AtomicU64, Ordering};
 use sysv_keys::SLOTS;
 use sysv_parking::{Change, Envelope, WORDS};
 use sysv_queue::Tally;
+use sysv_system::{Doorbell, Watched};
 
 /// The number of bits in a word, and so of workers that a word can name.
 const BITS: usize = 64;
@@ -150,7 +150,7 @@ impl ServerState {
     pub fn doorbell_of(&self, worker: usize) -> i32 {
         match self.posts.get(worker) {
             Some(post) => post.alarm.doorbell(),
-            None => NO_DESCRIPTOR,
+            None => Watched::NONE,
         }
     }
 
@@ -270,8 +270,8 @@ impl ServerState {
 
     /// Returns what the workers have counted. The numbers are read one after another, while the
     /// workers go on.
-    pub fn counted(&self) -> Counted
-        ensures at_once { result.at_once ≡ self.now.at_once }
+    pub fn counted(&self) -> Totals
+        ensures at_once { result.counted.at_once ≡ self.now.at_once }
     {
         let mut sum = Counted {
             over: self.over.load(Ordering::SeqCst),
@@ -286,7 +286,7 @@ impl ServerState {
             post.counts.add_all(&mut sum);
         }
         sum.at_once = self.at_once;
-        sum
+        Totals::of(sum)
     }
 
     /// Tells a worker to take one more connection.
@@ -399,9 +399,9 @@ impl ServerState {
         self.starved.load(Ordering::SeqCst)
     }
 
-    /// Returns the descriptor of the doorbell for the accepting thread, or a negative number.
-    pub fn doorbell(&self) -> i32 {
-        self.turn.fd()
+    /// Returns the descriptor of the doorbell for the accepting thread.
+    pub fn doorbell(&self) -> Watched {
+        self.turn.watched()
     }
 
     /// Ends the ringing of that doorbell.

@@ -6,7 +6,6 @@ ghost use Rattle.sysv_thread_laws.specs.Hiring.{Gives, TakesIn};
 ghost use Rattle.sysv_engine.specs.Added.{all_added, capped};
 ghost use Rattle.sysv_engine.specs.Places.{IsOpened, KeepsAll, is_vacant};
 
-use crate::moment::pause;
 use crate::place::Place;
 use crate::sums::Sums;
 use crate::watch::ROUND_MILLIS;
@@ -14,6 +13,7 @@ use std::alloc::Global;
 use std::sync::Wait;
 use sysv_seats::{Limit, NonBlocking, Tools};
 use sysv_service::{Pass, Service};
+use sysv_system::pause;
 
 /// Fills `places` with a place for each of the last books, as many as it has room for, in the order
 /// of the books. A pass is split off from `pass` for each, for the last one first.

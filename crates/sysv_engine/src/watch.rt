@@ -3,15 +3,13 @@ ghost use Rattle.std.specs.Prelude.{◌≡◌, IfSome, false, vec_len};
 ghost use Rattle.sysv_seats.specs.Breaking.{MayBreak};
 
 use crate::alarm::Rest;
-use crate::moment::pause;
 use crate::server_state::ServerState;
-use mio::unix::SourceFd;
 use mio::{Events, Interest, Poll, Token};
 use std::alloc::Global;
 use std::net::Net;
-use std::os::fd::AsRawFd;
 use std::time::Duration;
 use sysv_seats::{NonBlocking, SocketStream};
+use sysv_system::{Watched, pause};
 
 /// The token of a worker's doorbell.
 const DOORBELL: usize = usize::MAX;
@@ -20,7 +18,7 @@ const DOORBELL: usize = usize::MAX;
 const MOST_EVENTS: usize = 256;
 
 /// The time between two rounds over connections that report nothing, in milliseconds.
-pub(crate) const ROUND_MILLIS: i32 = 1;
+pub(crate) const ROUND_MILLIS: u64 = 1;
 
 /// An event of a place.
 #[derive(Clone, Copy)]
@@ -79,38 +77,32 @@ pub struct Polled {
 impl Polled {
     /// Opens a poll that the doorbell, whose descriptor is given, ends. Returns `None` if the
     /// system refuses one.
-    pub(crate) fn open(net: &impl Net, alloc: Global, doorbell: i32) -> Option<Polled> {
+    pub(crate) fn open(net: &impl Net, alloc: Global, doorbell: Watched) -> Option<Polled> {
         let poll = Poll::new(net).ok()?;
         let events = Events::with_capacity(alloc, MOST_EVENTS).ok()?;
-        let interest = Interest::READABLE;
-        poll.registry()
-            .register(&mut SourceFd(&doorbell), Token(DOORBELL), interest)
-            .ok()?;
+        if !doorbell.register(&poll, Token(DOORBELL), Interest::READABLE) {
+            return None;
+        }
         Some(Polled { poll, events })
     }
 }
 
 impl Watch<SocketStream> for Polled {
     fn add(&mut self, connection: &SocketStream, place: usize) -> bool {
-        let fd = connection.as_raw_fd();
-        let interest = Interest::READABLE;
-        self.poll
-            .registry()
-            .register(&mut SourceFd(&fd), Token(place), interest)
-            .is_ok()
+        connection
+            .watched()
+            .register(&self.poll, Token(place), Interest::READABLE)
     }
 
     fn await_room(&mut self, connection: &SocketStream, place: usize, awaits: bool) {
-        let fd = connection.as_raw_fd();
         let interest = if awaits {
             Interest::READABLE | Interest::WRITABLE
         } else {
             Interest::READABLE
         };
-        let _ = self
-            .poll
-            .registry()
-            .reregister(&mut SourceFd(&fd), Token(place), interest);
+        let _ = connection
+            .watched()
+            .reregister(&self.poll, Token(place), interest);
     }
 
     fn look(&mut self, ready: &mut Vec<Ready>) {

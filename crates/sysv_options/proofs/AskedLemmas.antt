@@ -1,7 +1,9 @@
 -- What a client's command asks for, a command line with it asks for.
-use Rattle.std.proofs.Common.{◌≡◌, ℕ, List, Option, Some, Result, Ok, Err, codes, sym, subst}
-use Rattle.std.specs.Prelude.{IfOk}
-use Rattle.clap.specs.Words.{App, Row}
+use Rattle.std.proofs.Common.{◌≡◌, ◌∙◌, ℕ, Bool, true, false, List, Option, Some, Result, Ok, Err, codes, refl, sym}
+use Rattle.std.proofs.Common.{subst}
+use Rattle.std.specs.Prelude.{IfOk, ◌&&◌}
+use Rattle.clap.specs.Words.{App, HasMatchesOf, Row, subcommand_rows_of, takes}
+use Rattle.clap.specs.declared.parser.matches.ArgMatches.{ArgMatches}
 use Rattle.sysv_clients.specs.declared.command.Task.{Task}
 use Rattle.sysv_options.specs.declared.asked.Asked.{Asked}
 use Rattle.sysv_options.specs.declared.asked.Asked.TheVariants.{Script, Serve, Look, Client}
@@ -43,6 +45,18 @@ as_command name words found (Err bad) is not_script not_serve not_stats none =
     none asked
     (to_client name words not_script not_serve not_stats asked
     (subst (λ (o : Option (List ℕ × List Row)). AsksFor o asked) is h))
+
+both_true : (one other : Bool) → one && other ≡ true → one ≡ true
+both_true true other both = refl
+both_true false other both = both
+
+-- If the matches of some words ask for nothing, and clap takes the words, they ask for nothing.
+pub asks_nothing : (line : App) (words : List (List ℕ)) (matches : ArgMatches) → HasMatchesOf line words matches
+    → ((asked : Asked) → ¬ AsksFor (subcommand_rows_of matches) asked) → takes line words ≡ true → (asked : Asked)
+    → ¬ IsAskedBy line words asked
+asks_nothing line words matches has none taken asked = λ (other, its, asks).
+    let simple = both_true _ _ taken in
+    none asked (subst (λ (o : Option (List ℕ × List Row)). AsksFor o asked) ((its simple).1 ∙ sym (has simple).1) asks)
 
 -- What a command line with these words asks for, the words mean.
 pub is_meant : {E : Type 0} (r : Result Asked E) (line : App) (words : List (List ℕ)) →

@@ -1,6 +1,9 @@
 -- The request that a parsed command line makes (this project's programs).
-use Rattle.std.specs.Prelude.{◌≡◌, ℕ, List, codes, Option, Some, None}
-use Rattle.clap.specs.Words.{App, HasMatchesOf, Row, subcommand_rows_of}
+use Rattle.std.specs.Prelude.{◌≡◌, ℕ, true, List, codes, Option, Some, None}
+use Rattle.clap.specs.Values.{kind_of}
+use Rattle.clap.specs.Words.{App, HasMatchesOf, Row, subcommand_rows_of, takes}
+use Rattle.clap.specs.declared.error.Error.{Error}
+use Rattle.clap.specs.declared.error.kind.ErrorKind.TheVariants.{OutOfMemory}
 use Rattle.clap.specs.declared.parser.matches.ArgMatches.{ArgMatches}
 use Rattle.sysv_options.specs.declared.asked.Asked.{Asked}
 use Rattle.sysv_options.specs.declared.asked.Asked.TheVariants.{Script, Serve, Look, Client}
@@ -32,6 +35,12 @@ AsksFor None asked = ⊥
 abbrev pub IsAskedBy : App → List (List ℕ) → Asked → Type 0
 IsAskedBy line words asked =
     (matches : ArgMatches) × HasMatchesOf line words matches × AsksFor (subcommand_rows_of matches) asked
+
+-- These words were refused on this command line by this error. If clap takes them, and memory was not refused,
+-- they make no request. It takes no words on a command line with groups of options.
+abbrev pub IsRefused : App → List (List ℕ) → Error → Type 0
+IsRefused line words error =
+    takes line words ≡ true → ¬ (kind_of error ≡ OutOfMemory) → (asked : Asked) → ¬ IsAskedBy line words asked
 
 -- These words, on the command line of some table of commands, make this request.
 abbrev pub IsMeant : List (List ℕ) → Asked → Type 0

@@ -1,11 +1,11 @@
 //! The request that a command line makes.
 
-ghost use Rattle.std.specs.Prelude.{◌≡◌, ◌≤◌, ◌⊎◌, ℕ, IfOk, IfSome, MatchOption, OnOk, Some, codes, false, is_some, map, not, pos, true};
+ghost use Rattle.std.specs.Prelude.{◌≡◌, ◌≤◌, ◌⊎◌, ℕ, IfErr, IfOk, IfSome, MatchOption, OnOk, Some, codes, false, is_some, map, not, pos, true};
 ghost use Rattle.clap.specs.Values.{kind_of};
 ghost use Rattle.clap.specs.Words.{app_of, subcommand_rows_of};
 ghost use Rattle.clap.specs.declared.error.kind.ErrorKind.TheVariants.{InvalidValue, OutOfMemory};
 ghost use Rattle.sysv_options.specs.Asked.{AreAtOnce, AreBlocks, AreTerms, AreWorkers, HasLimits, IsWithinLimits};
-ghost use Rattle.sysv_options.specs.Requests.{AsksFor, ClientAsks, IsAskedBy, IsMeant};
+ghost use Rattle.sysv_options.specs.Requests.{AsksFor, ClientAsks, IsAskedBy, IsMeant, IsRefused};
 ghost use Rattle.sysv_options.specs.Servers.{AsksForAtOnce, AsksForBlocks, AsksForFile, AsksForFileAt, AsksForTerms, AsksForWorkers, AsksToLook, AsksToServe, HasPath, MayAskForStats};
 ghost use Rattle.sysv_options.specs.Tasks.{AsksToList, AsksToMake, AsksToReceive, AsksToRemove, AsksToSend, HasTask, HasHow, NamesTarget, IsAhead, Receives, ShowsIn, StatesWho, is_json};
 ghost use Rattle.sysv_options.specs.Words.{ArePartsOf, AreSeconds, Has, HasFlag, HasMaybe, HasOr, IsMode, IsOctalMode, IsOn, IsRead, IsThousandths, IsTime, IsUnsigned, WantsType, word_of, words_in};
@@ -176,11 +176,20 @@ fn read_line<'a, S: AsStr>(
 ) -> Result<Asked<'a>, Error>
     ensures limits { IfOk result IsWithinLimits }
     ensures meaning { IfOk result (IsAskedBy (app_of line.old) (map S.text words.entry.now)) }
+    ensures refused { IfErr result (IsRefused (app_of line.old) (map S.text words.entry.now)) }
 {
     let matches = line.try_get_matches_from_mut(words)?;
     match task_of(&matches) {
         Ok(task) => Ok(task),
-        Err(bad) => Err(bad_value(alloc, &matches, bad)?),
+        Err(bad) => Err(refusal(alloc, &matches, bad)),
+    }
+}
+
+/// Returns the error that a value is not valid, or that memory was refused for it.
+fn refusal(alloc: Global, matches: &ArgMatches<'_>, bad: Bad) -> Error {
+    match bad_value(alloc, matches, bad) {
+        Ok(error) => error,
+        Err(error) => Error::from(error),
     }
 }
 

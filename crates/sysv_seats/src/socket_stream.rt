@@ -2,14 +2,15 @@
 //! they tell no bytes and leave nothing in a book.
 ghost use Rattle.std.specs.Prelude.{◌≡◌, None, false, IfOk};
 ghost use Rattle.std.specs.Io.{ReadsAtMost, WritesAtMost};
+ghost use Rattle.std.specs.Net.Unix.{unix_stream_raw_fd};
 ghost use Rattle.sysv_seats.specs.Sockets.{filled_of};
 
 use crate::limits::{Limit, Limits};
 use crate::non_blocking::{Drained, Filled, NonBlocking, Over};
 use std::io;
 use std::io::{ErrorKind, Read, Write};
-use std::os::fd::{AsRawFd, RawFd};
 use std::os::unix::net::UnixStream;
+use sysv_system::Watched;
 
 /// A connection on a Unix socket.
 ///
@@ -45,6 +46,13 @@ impl SocketStream {
             refuses: false,
             limits,
         })
+    }
+
+    /// Returns the descriptor, by which an event loop watches the connection.
+    pub fn watched(&self) -> Watched
+        ensures { result.number ≡ unix_stream_raw_fd self.now.stream }
+    {
+        Watched::of(&self.stream)
     }
 
     /// Reads from the stream, again while a signal interrupts the call.
@@ -132,18 +140,6 @@ impl NonBlocking for SocketStream {
     }
 
     fn close(self, _book: &mut ()) {}
-}
-
-impl AsRawFd for SocketStream {
-    ghost use Rattle.std.specs.Prelude.{Some};
-    ghost use Rattle.std.specs.Net.Unix.{unix_stream_raw_fd};
-
-    ghost raw_fd = { λ socket. Some (unix_stream_raw_fd socket.stream) };
-
-    /// Returns the number of the socket's descriptor, by which an event loop watches it.
-    fn as_raw_fd(&self) -> RawFd {
-        self.stream.as_raw_fd()
-    }
 }
 
 /// Returns what a read of a stream into a buffer that is not empty means, which returned this.

@@ -4,6 +4,7 @@ use Rattle.std.specs.Prelude.{◌≡◌, ℕ, ◌+◌, ◌-◌, List, [], ◌∷
 use Rattle.std.specs.Int.{from_bool}
 use Rattle.sysv_engine.specs.Added.{capped}
 use Rattle.sysv_engine.specs.declared.counts.Counted.{Counted}
+use Rattle.sysv_engine.specs.declared.counts.Totals.{Totals}
 use Rattle.sysv_server.specs.declared.report.Admission.{Admission}
 use Rattle.sysv_server.specs.declared.report.TheConstants.{LARGEST}
 
@@ -31,7 +32,7 @@ numbers_of counted admission =
     ∷ free_blocks admission.blocks counted.in_use
     ∷ []
 
--- These are the numbers of a server with this maximum of sessions at once.
-abbrev pub AreNumbers : (at_once : ℕ) → Admission → List ℕ → Type 0
-AreNumbers at_once admission numbers =
-    (counted : Counted) × (counted.at_once ≡ at_once) × (numbers ≡ numbers_of counted admission)
+-- These are the numbers of a server with this maximum of sessions at once, by these totals of its workers.
+abbrev pub AreNumbers : (at_once : ℕ) → Totals → Admission → List ℕ → Type 0
+AreNumbers at_once totals admission numbers =
+    (totals.counted.at_once ≡ at_once) × (numbers ≡ numbers_of totals.counted admission)

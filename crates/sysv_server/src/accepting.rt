@@ -8,23 +8,20 @@ ghost use Rattle.sysv_server.specs.Listening.{added, IsOver};
 use crate::desk::Desk;
 use crate::host::{Host, Notice, Reason};
 use crate::listening::{Input, Listens};
-use crate::polling::{NO_DESCRIPTOR, asking, pause};
 use crate::visitor::View;
-use libc::net::{POLLIN, poll};
-use libc::types::pollfd;
-use libc::{EAGAIN, ECONNABORTED, EMFILE, ENOMEM, EPERM};
 use std::alloc::Global;
 use std::io;
 use std::io::ErrorKind;
 use std::sync::Wait;
 use sysv_engine::{Arrivals, Rows, ServerState};
 use sysv_seats::{Limits, SocketStream};
+use sysv_system::{EAGAIN, ECONNABORTED, EMFILE, ENOMEM, EPERM, Event, Watched, await_any, pause};
 
 /// The maximum number of bytes of the input that are read at once and dropped.
 const INPUT_BYTES: usize = 512;
 
 /// The time from an accept that failed to the next one, in milliseconds.
-const HOLD_MILLIS: i32 = 100;
+const HOLD_MILLIS: u64 = 100;
 
 /// Too many files are open in the system.
 const ENFILE: i32 = 23;
@@ -318,7 +315,7 @@ impl<H: Host> Acceptor<'_, '_, H> {
     /// Waits until the input, whose descriptor is given, can be read, until something happens at
     /// the desk, or until there is a connection and room for one more client. It may return early.
     /// Tells the host of the first session whose memory was refused.
-    fn wait(&self, told: &mut bool, input: i32, desk: &Desk) -> Arrived {
+    fn wait(&self, told: &mut bool, input: Watched, desk: &Desk) -> Arrived {
         let View {
             server,
             listener,
@@ -334,44 +331,46 @@ impl<H: Host> Acceptor<'_, '_, H> {
         }
         server.await_turn(true);
         let limit = if server.has_room(accepted) {
-            0
+            Some(0)
         } else {
             desk.limit()
         };
-        let arrived = self.arrived(input, NO_DESCRIPTOR, desk, limit);
+        let arrived = self.arrived(input, Watched::NONE, desk, limit);
         server.await_turn(false);
         arrived
     }
 
     /// Waits until the input, the listener or the doorbell can be read, or something happens at the
     /// desk, for at most `limit` milliseconds, and hushes the doorbell.
-    fn arrived(&self, input: i32, listener: i32, desk: &Desk, limit: i32) -> Arrived {
+    fn arrived(
+        &self,
+        input: Watched,
+        listener: Watched,
+        desk: &Desk,
+        limit: Option<u64>,
+    ) -> Arrived {
         let server = self.view.server;
-        let [input, listener, doorbell] = [input, listener, server.doorbell()].map(readable);
-        let mut asked = [input, listener, doorbell, desk.asking()];
-        let any = poll(&mut asked, limit) > 0;
-        if any && asked[2].revents != 0 {
+        let files = [input, listener, server.doorbell()];
+        let [input, listener, doorbell] = files.map(Event::readable);
+        let awaited = [input, listener, doorbell, desk.awaited()];
+        let [input, connection, is_rung, reader] = await_any(awaited, limit);
+        if is_rung {
             server.hush();
         }
         Arrived {
-            connection: any && asked[1].revents != 0,
-            input: any && asked[0].revents != 0,
-            reader: any && asked[3].revents != 0,
+            connection,
+            input,
+            reader,
         }
     }
 }
 
 /// Returns the descriptor of the input, or that of no file.
-fn descriptor<I: Input>(input: &Option<I>) -> i32 {
+fn descriptor<I: Input>(input: &Option<I>) -> Watched {
     match input {
         Some(input) => input.descriptor(),
-        None => NO_DESCRIPTOR,
+        None => Watched::NONE,
     }
-}
-
-/// Returns a poll request for whether `fd` can be read.
-fn readable(fd: i32) -> pollfd {
-    asking(fd, POLLIN)
 }
 
 /// Returns whether an accept failed for want of something that may come back, or because the client

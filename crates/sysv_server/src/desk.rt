@@ -1,15 +1,11 @@
 //! Where the state of a server is shown.
 ghost use Rattle.sysv_engine.specs.Looks.{Looks};
 
-use crate::polling::{FOREVER, NO_DESCRIPTOR, asking};
 use crate::visitor::{View, Visitor};
-use libc::net::{POLLIN, POLLOUT};
-use libc::types::{pollfd, timespec};
-use libc::{CLOCK_REALTIME, clock_gettime};
-use std::os::fd::AsRawFd;
 use std::os::unix::net::UnixListener;
 use std::sync::Wait;
 use sysv_engine::Rows;
+use sysv_system::{Event, Watched, present_seconds};
 
 /// Where the state of a server is shown: a second socket, which the thread that accepts connections
 /// serves between two connections, one reader at a time. A reader that is slow or silent is given
@@ -28,7 +24,7 @@ impl Desk {
         Desk {
             listener: None,
             visitor: None,
-            started: present(),
+            started: present_seconds(),
         }
     }
 
@@ -42,21 +38,20 @@ impl Desk {
         self.listener = listener;
     }
 
-    /// Returns the poll request for the next thing that happens here.
-    pub(crate) fn asking(&self) -> pollfd {
+    /// Returns the next thing that happens here.
+    pub(crate) fn awaited(&self) -> Event {
         match (&self.visitor, &self.listener) {
-            (Some(visitor), _) if visitor.is_told() => asking(visitor.fd(), POLLOUT),
-            (Some(visitor), _) => asking(visitor.fd(), POLLIN),
-            (None, Some(listener)) => asking(listener.as_raw_fd(), POLLIN),
-            (None, None) => asking(NO_DESCRIPTOR, POLLIN),
+            (Some(visitor), _) => visitor.awaited(),
+            (None, Some(listener)) => Event::readable(Watched::of(listener)),
+            (None, None) => Event::readable(Watched::NONE),
         }
     }
 
-    /// Returns the number of milliseconds that a poll may wait.
-    pub(crate) fn limit(&self) -> i32 {
+    /// Returns the number of milliseconds for which that may be awaited, or `None` for any time.
+    pub(crate) fn limit(&self) -> Option<u64> {
         match &self.visitor {
-            Some(visitor) => i32::try_from(visitor.left()).unwrap_or(i32::MAX),
-            None => FOREVER,
+            Some(visitor) => Some(visitor.left()),
+            None => None,
         }
     }
 
@@ -81,14 +76,4 @@ impl Desk {
         let (stream, _address) = self.listener.as_ref()?.accept().ok()?;
         Visitor::new(stream)
     }
-}
-
-/// Returns the present time in seconds since 1970, or 0 if the clock is set before that.
-fn present() -> u64 {
-    let mut time = timespec {
-        tv_sec: 0,
-        tv_nsec: 0,
-    };
-    clock_gettime(CLOCK_REALTIME, &mut time);
-    u64::try_from(time.tv_sec).unwrap_or(0)
 }

@@ -6,7 +6,6 @@ mod accepting;
 mod desk;
 mod host;
 mod listening;
-mod polling;
 mod report;
 mod serving;
 mod terms;

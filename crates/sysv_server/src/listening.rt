@@ -6,12 +6,12 @@ ghost use Rattle.sysv_seats.specs.Untold.{limits_of};
 ghost use Rattle.sysv_server.specs.Listening.{added};
 
 use crate::host::Host;
-use crate::polling::NO_DESCRIPTOR;
 use std::io;
 use std::io::{ErrorKind, Read};
 use std::os::fd::AsRawFd;
 use std::os::unix::net::UnixListener;
 use sysv_seats::{Limits, SocketStream};
+use sysv_system::Watched;
 
 /// A socket that connections are accepted from.
 pub trait Listens {
@@ -40,7 +40,7 @@ pub trait Listens {
         ensures same { accepted self.new ≡ accepted self.old };
 
     /// Returns the descriptor that can be read when a client waits to be accepted.
-    fn descriptor(&self) -> i32;
+    fn descriptor(&self) -> Watched;
 
     /// Accepts the next connection, whose client may be cut off under these limits.
     ///
@@ -67,7 +67,7 @@ pub trait Input {
     ghost reads: { Self → ℕ → Result ℕ Error → Self → Type 0 };
 
     /// Returns the descriptor that can be read when there are bytes, or the end.
-    fn descriptor(&self) -> i32;
+    fn descriptor(&self) -> Watched;
 
     /// Reads some bytes. It returns 0 at the end of the input.
     ///
@@ -116,8 +116,8 @@ impl Listens for Lent<'_> {
         Ok(())
     }
 
-    fn descriptor(&self) -> i32 {
-        self.listener.as_raw_fd()
+    fn descriptor(&self) -> Watched {
+        Watched::of(self.listener)
     }
 
     fn accept(&mut self, limits: Limits) -> io::Result<SocketStream> {
@@ -164,10 +164,10 @@ impl<H: Host> Listens for Hosted<'_, H> {
         Ok(())
     }
 
-    fn descriptor(&self) -> i32 {
+    fn descriptor(&self) -> Watched {
         match &self.listener {
-            Some(listener) => listener.as_raw_fd(),
-            None => NO_DESCRIPTOR,
+            Some(listener) => Watched::of(listener),
+            None => Watched::NONE,
         }
     }
 
@@ -202,8 +202,8 @@ impl<I: Read + AsRawFd + Drop> Input for Reading<I> {
     ghost reads = { λ _ room told new. MatchResult told
         (λ count. count ≡ 0 → 0 < room → IsAtEnd (I.remaining new.0)) (λ _. ⊤) };
 
-    fn descriptor(&self) -> i32 {
-        self.0.as_raw_fd()
+    fn descriptor(&self) -> Watched {
+        Watched::of(&self.0)
     }
 
     fn read(&mut self, piece: &mut [u8]) -> io::Result<usize> {

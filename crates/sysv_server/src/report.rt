@@ -7,7 +7,7 @@ use crate::VERSION;
 use itoa::{Buffer, Integer};
 use std::alloc::Global;
 use std::sync::Wait;
-use sysv_engine::{Counted, Rows, ServerState, SlotCounts};
+use sysv_engine::{Counted, Rows, ServerState, SlotCounts, Totals};
 use sysv_keys::SLOTS;
 use sysv_model::Row;
 
@@ -223,6 +223,8 @@ pub(crate) struct Admission {
 /// The state of a server.
 #[derive(Drop)]
 pub(crate) struct State {
+    /// What the workers had counted.
+    totals: Totals,
     numbers: [u64; OF_SERVER.len()],
     slots: Vec<Slot>,
 }
@@ -238,7 +240,7 @@ impl State {
     ) -> Option<State>
         ensures looks { Looks rows.old rows.new }
         ensures numbers { IfSome result (λ state.
-            AreNumbers server.now.at_once admission.now state.numbers) }
+            AreNumbers server.now.at_once state.totals admission.now state.numbers) }
     {
         let mut slots = Vec::new(alloc);
         for slot in 0..SLOTS {
@@ -251,8 +253,10 @@ impl State {
                 slots.push(found).ok()?;
             }
         }
+        let totals = server.counted();
         Some(State {
-            numbers: numbers(&server.counted(), admission),
+            totals,
+            numbers: numbers(&totals.counted(), admission),
             slots,
         })
     }

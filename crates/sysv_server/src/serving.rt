@@ -1,5 +1,5 @@
 //! The server.
-ghost use Rattle.std.specs.Prelude.{◌≡◌, ◌≤◌, false, IfErr, IfOk, IfSome, is_some, vec_len};
+ghost use Rattle.std.specs.Prelude.{◌≡◌, ◌≤◌, false, IfErr, IfOk, IfSome, is_some, min, vec_len};
 ghost use Rattle.sysv_model.specs.declared.limits.TheConstants.{MIN_BLOCKS, MAX_BLOCKS};
 ghost use Rattle.sysv_workers.specs.declared.workers.TheConstants.{MAX_WORKERS};
 ghost use Rattle.sysv_engine.specs.Added.{IsBalanced};
@@ -18,7 +18,7 @@ use std::os::fd::AsRawFd;
 use std::os::unix::net::{UnixListener, UnixStream};
 use std::sync::Wait;
 use std::thread::Threads;
-use sysv_engine::{Ended, Patience, ServeFault, ServerState, Sums, serve_arrivals, watches};
+use sysv_engine::{Ended, Patience, Rest, ServeFault, ServerState, Sums, serve_arrivals, watches};
 use sysv_seats::Limits;
 
 /// The largest number of clients at once.
@@ -206,7 +206,7 @@ fn run<L: Listens, I: Input + Drop, H: Host, R: Threads + Wait + Net + Sync>(
 {
     let Terms {
         blocks,
-        workers,
+        workers: _,
         at_once,
         sessions,
         patience,
@@ -214,9 +214,7 @@ fn run<L: Listens, I: Input + Drop, H: Host, R: Threads + Wait + Net + Sync>(
         stats,
     } = terms;
     *reason = None;
-    let workers = workers.min(at_once);
-    let opened = ServerState::open(alloc, workers as usize, at_once as usize, patience, drain);
-    let Some((server, rests)) = opened else {
+    let Some((server, rests)) = opened_for(alloc, &terms) else {
         return Err(ServeFault::NoMemory);
     };
     let Some(mut books) = empty_books(alloc, at_once) else {
@@ -243,6 +241,21 @@ fn run<L: Listens, I: Input + Drop, H: Host, R: Threads + Wait + Net + Sync>(
     given_back(left);
     *reason = why;
     outcome
+}
+
+/// Opens what the workers of a server on these terms share, and what each of them rests with. There
+/// are no more workers than clients at once. Returns `None` if memory or a descriptor is refused.
+fn opened_for(alloc: Global, terms: &Terms) -> Option<(ServerState, Vec<Rest>)>
+    ensures workers { IfSome result (λ both.
+        vec_len both.0.posts ≡ min terms.now.workers terms.now.at_once) }
+    ensures rests { IfSome result (λ both. vec_len both.1 ≡ vec_len both.0.posts) }
+    ensures at_once { IfSome result (λ both. both.0.at_once ≡ terms.now.at_once) }
+    ensures times { IfSome result (λ both. (both.0.patience ≡ terms.now.patience)
+        × (both.0.drain ≡ terms.now.drain)) }
+{
+    let workers = terms.workers.min(terms.at_once) as usize;
+    let at_once = terms.at_once as usize;
+    ServerState::open(alloc, workers, at_once, terms.patience, terms.drain)
 }
 
 /// Uses the reference once more. This use ties it to the parameter that lent it.

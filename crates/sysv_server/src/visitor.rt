@@ -1,15 +1,14 @@
 //! A reader of the state of a server.
 ghost use Rattle.sysv_engine.specs.Looks.{Looks};
 
-use crate::polling::has_come;
 use crate::report::{Admission, Form, State};
 use std::alloc::Global;
 use std::io;
 use std::io::{ErrorKind, Read, Write};
-use std::os::fd::AsRawFd;
 use std::os::unix::net::UnixStream;
 use std::sync::Wait;
 use sysv_engine::{Moment, Rows, ServerState};
+use sysv_system::{Event, Watched, await_event};
 
 /// The maximum number of bytes that are read of what a reader asks.
 const MOST_ASKED: usize = 4_096;
@@ -60,7 +59,7 @@ pub(crate) struct View<'v> {
     pub(crate) alloc: Global,
     pub(crate) server: &'v ServerState,
     /// The descriptor of the listener through which clients come.
-    pub(crate) listener: i32,
+    pub(crate) listener: Watched,
     /// The number of blocks in the pool.
     pub(crate) blocks: u32,
     /// The number of clients that were accepted.
@@ -85,7 +84,7 @@ impl View<'_> {
         let admission = Admission {
             blocks,
             accepted,
-            has_waiting: has_come(listener),
+            has_waiting: await_event(Event::readable(listener), Some(0)),
             started,
         };
         let state = State::read(alloc, server, rows, &admission)?;
@@ -147,14 +146,15 @@ impl Visitor {
         })
     }
 
-    /// Returns the descriptor of the connection.
-    pub(crate) fn fd(&self) -> i32 {
-        self.stream.as_raw_fd()
-    }
-
-    /// Returns whether it has asked, and the answer is to be written.
-    pub(crate) fn is_told(&self) -> bool {
-        self.answer.is_some()
+    /// Returns the next thing that happens to the connection: what is asked can be read, or, once
+    /// it has asked, the answer can be written.
+    pub(crate) fn awaited(&self) -> Event {
+        let watched = Watched::of(&self.stream);
+        if self.answer.is_some() {
+            Event::writable(watched)
+        } else {
+            Event::readable(watched)
+        }
     }
 
     /// Returns the number of milliseconds after which it is given up or answered.

@@ -12,12 +12,9 @@ use process::System;
 use running::exit_of;
 use std::fs::File;
 use std::io;
-use std::os::fd::{AsRawFd, RawFd};
 use std::process::ExitCode;
 use sysv_connect::{Screen, Socket};
-
-/// The descriptor of the last of the three standard streams.
-const STANDARD_ERROR: RawFd = 2;
+use sysv_system::Watched;
 
 fn main(rt: HostRuntime) -> ExitCode {
     let _stand_ins = [stand_in(&rt), stand_in(&rt), stand_in(&rt)];
@@ -34,5 +31,5 @@ fn main(rt: HostRuntime) -> ExitCode {
 /// stream is closed, or if `/dev/null` cannot be opened.
 fn stand_in(rt: &HostRuntime) -> Option<File> {
     let file = File::open(rt, "/dev/null").ok()?;
-    (file.as_raw_fd() <= STANDARD_ERROR).then_some(file)
+    Watched::of(&file).is_standard().then_some(file)
 }

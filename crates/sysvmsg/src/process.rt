@@ -1,6 +1,5 @@
 //! The process that the program runs in. Each method makes one call of the system, of which no
 //! contract says what it returns.
-use crate::room::open_files;
 use std::env::Env;
 use std::io::IsTerminal;
 use std::{env, io};
@@ -38,15 +37,15 @@ impl Process for System<'_> {
     }
 
     fn user(&self) -> u32 {
-        libc::geteuid()
+        sysv_system::user()
     }
 
     fn group(&self) -> u32 {
-        libc::getegid()
+        sysv_system::group()
     }
 
     fn number(&self) -> u32 {
-        libc::getpid().unsigned_abs()
+        sysv_system::number()
     }
 
     fn is_terminal(&self) -> bool {
@@ -54,6 +53,6 @@ impl Process for System<'_> {
     }
 
     fn open_files(&self) -> Option<u64> {
-        open_files()
+        sysv_system::open_files()
     }
 }

@@ -2,9 +2,6 @@
 ghost use Rattle.std.specs.Prelude.{◌≡◌, ◌≤◌};
 ghost use Rattle.sysvmsg.specs.Room.{places_within};
 
-use libc::types::rlimit;
-use libc::{RLIMIT_NOFILE, getrlimit};
-
 /// The number of descriptors of a server beside those of its workers and its clients: the standard
 /// streams, the listener and a doorbell.
 const OWN: u64 = 5;
@@ -14,18 +11,6 @@ const OF_STATS: u64 = 2;
 
 /// The number of descriptors of a worker: its doorbell and its poll.
 const OF_WORKER: u64 = 2;
-
-/// Returns the limit of open files of the process, or `None` if it is not known.
-pub(crate) fn open_files() -> Option<u64> {
-    let mut limit = rlimit {
-        rlim_cur: 0,
-        rlim_max: 0,
-    };
-    if getrlimit(RLIMIT_NOFILE, &mut limit) != 0 {
-        return None;
-    }
-    Some(limit.rlim_cur)
-}
 
 /// Returns how many clients a server with this number of workers serves at once under this limit of
 /// open files: `most`, or fewer if it has fewer descriptors, but at least 1. `has_stats` is whether

@@ -8,8 +8,6 @@ ghost use Rattle.sysvmsg.specs.Ends.{EndsWithin, HasServed, HasServedAll, RanWit
 
 use crate::room::room;
 use crate::socket::listen_at;
-use libc::net::{POLLOUT, poll};
-use libc::types::pollfd;
 use std::io::{Eprint, ErrorKind, Read, Write};
 use std::net::Net;
 use std::os::fd::AsRawFd;
@@ -25,9 +23,7 @@ use sysv_options::Serving;
 use sysv_server::{
     Ended, Host, MAX_CLIENTS, Notice, Reason, ServeFault, Sums, Terms, serve_listener,
 };
-
-/// The descriptor of standard error.
-const STANDARD_ERROR: i32 = 2;
+use sysv_system::{Event, Watched, await_event};
 
 /// The host of a server: it opens the socket, and reports on standard error.
 #[derive(Drop)]
@@ -121,12 +117,7 @@ impl<R: Files> Reporter<'_, R> {
 /// Returns whether standard error takes a line without a wait, or fails. A server drops what it
 /// would report otherwise: it does not wait for whoever reads its standard error.
 fn takes_line() -> bool {
-    let mut asked = [pollfd {
-        fd: STANDARD_ERROR,
-        events: POLLOUT,
-        revents: 0,
-    }];
-    poll(&mut asked, 0) > 0
+    await_event(Event::writable(Watched::STANDARD_ERROR), Some(0))
 }
 
 /// Serves at a path under this limit of open files, reports on standard error that it listens, and

@@ -3,10 +3,10 @@ ghost use Rattle.std.specs.Prelude.{◌≡◌};
 
 use super::*;
 use std::net::Shutdown;
-use std::os::fd::AsRawFd;
 use std::snapshot::Snapshot;
 use sysv_seats::{Limits, SocketStream};
 use sysv_server::{Input, Listens, serve_from};
+use sysv_system::Watched;
 
 /// A listener to which some clients have connected. It is open until it is closed.
 #[derive(Drop)]
@@ -37,8 +37,8 @@ impl Listens for Connected {
         Ok(())
     }
 
-    fn descriptor(&self) -> i32 {
-        self.readable.as_raw_fd()
+    fn descriptor(&self) -> Watched {
+        Watched::of(&self.readable)
     }
 
     fn accept(&mut self, limits: Limits) -> io::Result<SocketStream> {
@@ -70,8 +70,8 @@ impl Input for Typed {
     ghost reads = { λ old room told new. (told ≡ Ok (min old.left room))
         × (new.left ≡ old.left - min old.left room) };
 
-    fn descriptor(&self) -> i32 {
-        self.readable.as_raw_fd()
+    fn descriptor(&self) -> Watched {
+        Watched::of(&self.readable)
     }
 
     fn read(&mut self, piece: &mut [u8]) -> io::Result<usize> {

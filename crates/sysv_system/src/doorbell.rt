@@ -1,6 +1,7 @@
-//! A doorbell: one thread rings it, and others wait for it in a `poll`.
+//! A doorbell: one thread rings it, and others wait for it.
 ghost use Rattle.std.specs.Prelude.{◌≡◌};
 
+use crate::watched::Watched;
 use libc::net::{EFD_CLOEXEC, EFD_NONBLOCK, eventfd};
 use libc::{close, read, write};
 
@@ -12,30 +13,32 @@ const MOST_TRIES: u32 = 64;
 
 /// A doorbell was written. Only `Doorbell::ring` makes a value of this type.
 #[derive(Clone, Copy)]
-pub(crate) struct Ring {
+pub struct Ring {
     /// The doorbell's descriptor.
     fd: i32,
 }
 
 /// A doorbell. Its descriptor can be read from a ring until the doorbell is hushed.
-pub(crate) struct Doorbell {
+pub struct Doorbell {
     fd: i32,
 }
 
 impl Doorbell {
     /// Opens a doorbell. Returns `None` if the system refuses a descriptor.
-    pub(crate) fn open() -> Option<Doorbell> {
+    pub fn open() -> Option<Doorbell> {
         let fd = eventfd(0, EFD_CLOEXEC | EFD_NONBLOCK);
         if fd < 0 { None } else { Some(Doorbell { fd }) }
     }
 
-    /// Returns the descriptor.
-    pub(crate) fn fd(&self) -> i32 {
-        self.fd
+    /// Returns its descriptor, which can be read from a ring until the doorbell is hushed.
+    pub fn watched(&self) -> Watched
+        ensures { result.number ≡ self.now.fd }
+    {
+        Watched::numbered(self.fd)
     }
 
     /// Rings the doorbell, again if the system refuses that.
-    pub(crate) fn ring(&self) -> Ring
+    pub fn ring(&self) -> Ring
         ensures { result.fd ≡ self.now.fd }
     {
         for _ in 0..MOST_TRIES {
@@ -47,7 +50,7 @@ impl Doorbell {
     }
 
     /// Ends the ringing.
-    pub(crate) fn hush(&self) {
+    pub fn hush(&self) {
         let mut rings = ONE.to_ne_bytes();
         read(self.fd, &mut rings);
     }
