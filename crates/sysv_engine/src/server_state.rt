@@ -146,8 +146,8 @@ impl ServerState {
         }
     }
 
-    /// Returns the descriptor of a worker's doorbell, or a negative number.
-    pub fn doorbell_of(&self, worker: usize) -> i32 {
+    /// Returns the descriptor of a worker's doorbell, or that of no file.
+    pub fn doorbell_of(&self, worker: usize) -> Watched {
         match self.posts.get(worker) {
             Some(post) => post.alarm.doorbell(),
             None => Watched::NONE,
