@@ -16,7 +16,7 @@ _sysvmsg_words() {
     ipcs) echo "-i --json --wait $credentials --help --version" ;;
     ipcmk) echo "--mode --qbytes --wait $credentials --help --version" ;;
     ipcrm) echo "-q -Q --all --wait $credentials --help --version" ;;
-    snd) echo "--stdin --lines --type --nowait --wait $credentials --help --version" ;;
+    snd) echo "--stdin --lines --progress --type --nowait --wait $credentials --help --version" ;;
     rcv)
         echo "--type --upto --except --size --nowait --noerror --wait --count --ahead --follow --purge --show-type --raw --create --mode"
         echo "--zero --json $credentials --help --version"

@@ -68,6 +68,7 @@ complete -c sysvmsg -n '__sysvmsg_is serve' -l until-eof -d 'End once standard i
 set -l snd -c sysvmsg -n '__sysvmsg_is snd'
 complete $snd -l stdin -d 'Send the bytes of standard input'
 complete $snd -l lines -d 'Send each line of standard input'
+complete $snd -l progress -d 'Report how many lines were sent'
 complete $snd -l type -x -d 'The type of the message'
 complete $snd -l nowait -d 'Fail with EAGAIN if there is no room'
 complete $snd -l wait -x -d 'Wait at most this time for room'

@@ -9,3 +9,4 @@ pub mod Visits
 pub mod Telling
 pub mod Patience
 pub mod Purge
+pub mod Progress

@@ -9,6 +9,8 @@ pub struct How {
     pub from_input: bool,
     /// Whether a `snd` sends each line of the standard input, in place of the body of the task.
     pub lines: bool,
+    /// Whether a `snd` of lines reports how many of them were sent while it sends them.
+    pub progress: bool,
     /// Whether a `rcv` receives messages until it is ended.
     pub follow: bool,
     /// Whether a `rcv` takes messages until there is none, and shows only their number.

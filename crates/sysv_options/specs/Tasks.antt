@@ -36,6 +36,7 @@ IsAhead word ahead = IsNat32 word ahead × (1 ≤ ahead) × (ahead ≤ MAX_AHEAD
 pub record HasHow (words : List Row) (how : How) : Type 0 where
   pub from_input : HasFlag words (codes "stdin") how.from_input
   pub lines : HasFlag words (codes "lines") how.lines
+  pub progress : HasFlag words (codes "progress") how.progress
   pub follow : HasFlag words (codes "follow") how.follow
   pub purge : HasFlag words (codes "purge") how.purge
   pub count : HasMaybe IsNat32 (word_of words (codes "count")) how.count

@@ -296,6 +296,7 @@ fn how_of(words: &ArgMatches<'_>) -> Result<How, Bad>
     Ok(How {
         from_input: has_flag(words, "stdin"),
         lines: has_flag(words, "lines"),
+        progress: has_flag(words, "progress"),
         follow: has_flag(words, "follow"),
         purge: has_flag(words, "purge"),
         count: number_if(words, "count", COUNT)?,

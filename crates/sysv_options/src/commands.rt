@@ -210,6 +210,11 @@ Example:
             "Sends each line of standard input as a message",
         ),
         (
+            "progress",
+            Form::Flag,
+            "Reports on standard error how many lines were sent",
+        ),
+        (
             "type",
             Form::Value("N"),
             "The type, 1 to 9223372036854775807 [default: 1]",
@@ -234,6 +239,14 @@ Example:
         Group {
             of: &["text", "stdin", "lines"],
             required: true,
+        },
+        Group {
+            of: &["text", "progress"],
+            required: false,
+        },
+        Group {
+            of: &["stdin", "progress"],
+            required: false,
         },
         Group {
             of: &["nowait", "wait"],

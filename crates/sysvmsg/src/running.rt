@@ -18,7 +18,7 @@ use std::sync::Wait;
 use std::thread::Threads;
 use sysv_clients::Command;
 use sysv_connect::{
-    Contact, How, Link, Looking, Place, Screen, Telling, Visit, look_at, run_as, say,
+    Contact, How, Link, Looking, Place, Progress, Screen, Telling, Visit, look_at, run_as, say,
 };
 use sysv_options::{
     Asked, NoWords, Process, Surroundings, credentials, no_text, read_words, surroundings, telling,
@@ -151,7 +151,7 @@ fn answer<
                 telling: telling(how.telling, around),
                 ..how
             };
-            let mut input = input;
+            let mut input = Progress::new(rt, input, how.progress);
             run_as(rt, &mut input, place, path, &command, &how, screen)
         }
     }

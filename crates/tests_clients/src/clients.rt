@@ -3,6 +3,7 @@ mod ahead;
 mod connecting;
 mod growths;
 mod options;
+mod progress;
 mod several;
 mod together;
 

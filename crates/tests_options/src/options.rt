@@ -36,6 +36,7 @@ const NOBODY: Who = Who {
 const PLAIN: How = How {
     from_input: false,
     lines: false,
+    progress: false,
     follow: false,
     purge: false,
     count: None,

@@ -61,6 +61,7 @@ impl<'a> Place for Desk<'a> {
 const PLAIN: How = How {
     from_input: false,
     lines: false,
+    progress: false,
     follow: false,
     purge: false,
     count: None,

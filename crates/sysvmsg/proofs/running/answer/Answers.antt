@@ -1,5 +1,6 @@
 -- What each request asks for is what its callee did.
-use Rattle.std.proofs.Common.{subst, sym}
+use Rattle.std.proofs.Common.{ap, subst, sym}
+use Rattle.std.specs.Prelude.{ℕ, List, Option}
 use Rattle.std.specs.declared.process.ExitCode.{ExitCode}
 use Rattle.sysv_connect.specs.Clients.{IsDone, IsUnmade}
 use Rattle.sysv_connect.specs.declared.how.Telling.{Telling}
@@ -30,7 +31,7 @@ returns-in-Client g c =
     let task = c.in-Client.task in
     let exit = c.run_as.result.exit in
     let fed = g.I.Read.remaining c.args.input in
-    let unfed = g.I.Read.remaining c.run_as.new.input in
+    let unfed = g.I.Read.remaining c.run_as.new.input.input in
     let shown = g.S.Write.contents c.args.screen.now.writer in
     let after = g.S.Write.contents c.run_as.new.screen.writer in
     rw c.in-Client.is (
@@ -51,5 +52,14 @@ returns-in-Client g c =
           IsDone (way_by cred task how) cred task how exit (g.P.Place.incoming c.args.place path)
           (left_by g.P.Input.Read.remaining link) (g.P.Place.outgoing c.args.place path)
           (taken_by g.P.Output.Write.contents link) fed unfed shown after) c.run_as.result.contact)
-          c.credentials.ensures c.run_as.ensures),
+          c.credentials.ensures
+          (subst (λ (fed : Option (List ℕ)).
+          let how = record c.in-Client.how { telling = c.telling-in-Client.result } in
+          let cred = c.credentials.result in
+          Visited (g.P.Place.refuses c.args.place path) c.args.place (IsUnmade how exit fed unfed shown after)
+          (λ link.
+          IsDone (way_by cred task how) cred task how exit (g.P.Place.incoming c.args.place path)
+          (left_by g.P.Input.Read.remaining link) (g.P.Place.outgoing c.args.place path)
+          (taken_by g.P.Output.Write.contents link) fed unfed shown after) c.run_as.result.contact)
+          (ap g.I.Read.remaining c.new.ensures) c.run_as.ensures)),
     )
