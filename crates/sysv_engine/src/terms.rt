@@ -31,21 +31,21 @@ pub struct Setting {
 impl Setting {
     /// Returns the number of workers.
     pub fn workers(self) -> usize
-        ensures { result ≡ self.entry.workers }
+        ensures { result ≡ self.workers }
     {
         self.workers
     }
 
     /// Returns how long a client might take.
     pub fn patience(self) -> Patience
-        ensures { result ≡ self.entry.patience }
+        ensures { result ≡ self.patience }
     {
         self.patience
     }
 
     /// Returns the number of seconds after which an orderly end was to cut sessions off, 0 for never.
     pub fn drain(self) -> u32
-        ensures { result ≡ self.entry.drain }
+        ensures { result ≡ self.drain }
     {
         self.drain
     }
