@@ -1,0 +1,22 @@
+-- After one more request the client is still one of the same session.
+use Rattle.std.proofs.Common.{◌∙◌, ap}
+use Rattle.sysv_seats.specs.Sits.{Sitting}
+use Rattle.sysv_seats.proofs.ClientLemmas.{keeps_on, keeps_with_from}
+use Rattle.sysv_seats.proofs.client.Client.take_share.Goals as goal
+
+pub loop-preserved : goal.loop-preserved
+loop-preserved g c =
+    let t = g.T.NonBlocking in
+    record {
+      keeps = keeps_on t.incoming t.outgoing c.args.self.now c.args.handler.now.pass c.loop.self c.loop.handler.pass
+          c.take_up.new.self c.take_up.new.handler.pass c.loop.invariant.keeps
+          (keeps_with_from t.incoming t.outgoing c.loop.self _ c.loop.handler.pass c.take_up.new.self
+          c.take_up.new.handler.pass c.self.view_is c.take_up.ensures.keeps);
+      handles = (
+        c.take_up.ensures.handles.0 ∙ c.loop.invariant.handles.0,
+        c.take_up.ensures.handles.1 ∙ c.loop.invariant.handles.1,
+      );
+      breaks = c.take_up.ensures.breaks
+          ∙ (ap (λ (client : Sitting g.row.T.Denot). t.closes.breaks client.connection) c.self.view_is
+          ∙ c.loop.invariant.breaks);
+    }
