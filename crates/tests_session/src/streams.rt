@@ -3,7 +3,6 @@ use crate::parts::{assert_is, assert_that};
 use std::alloc::Global;
 use std::io::{Read, Write};
 use std::net::Net;
-use std::os::fd::AsRawFd;
 use std::os::unix::net::UnixStream;
 use std::process::Abort;
 use sysv_seats::{
@@ -102,7 +101,7 @@ fn failures_stay(rt: HostRuntime) {
 #[test]
 fn a_socket_that_ends(rt: HostRuntime) {
     let (mut stream, mut client) = socket(&rt);
-    assert_that(&rt, stream.as_raw_fd() >= 0);
+    assert_that(&rt, !stream.watched().is_standard());
     assert_is(&rt, reads(&mut stream), Filled::NothingNow);
     assert_that(&rt, client.write_all(b"abcdef").is_ok());
     assert_that(&rt, gives(&mut stream, b"abcd"));
