@@ -14,17 +14,17 @@ use Rattle.sysv_engine.specs.declared.sums.Sums.{Sums}
 use Rattle.sysv_server.specs.declared.terms.Terms.{Terms}
 use Rattle.sysvmsg.specs.Room.{places_within}
 
+-- A line that begins with the sums of a server, and goes on with this.
+abbrev pub line_of : Sums → List ℕ → List ℕ
+line_of sums rest =
+    codes "sessions " ++ decimal sums.sessions ++ codes " taken " ++ decimal sums.taken ++ codes " written "
+    ++ decimal sums.written ++ codes " lost " ++ decimal sums.lost ++ rest
+
 -- The line with the sums of a server. That of a server that may have an input also has the number of
 -- calls that its end cut off.
-abbrev pub sums_of : Sums → List ℕ
-sums_of sums =
-    codes "sessions " ++ decimal sums.sessions ++ codes " taken " ++ decimal sums.taken ++ codes " written "
-    ++ decimal sums.written ++ codes " lost " ++ decimal sums.lost
-
 abbrev pub sums_line : (has_input : Bool) → Ended → List ℕ
-sums_line false ended = sums_of ended.sums ++ 10 ∷ []
-sums_line true ended =
-    sums_of ended.sums ++ codes " cut " ++ decimal ended.cut ++ 10 ∷ []
+sums_line false ended = line_of ended.sums (10 ∷ [])
+sums_line true ended = line_of ended.sums (codes " cut " ++ decimal ended.cut ++ 10 ∷ [])
 
 -- What is printed of a server that did not serve to its end. A thread that cannot be started lacks memory
 -- or is one too many.

@@ -1,10 +1,10 @@
 //! The server.
-ghost use Rattle.std.specs.Prelude.{◌≡◌, IfOk};
+ghost use Rattle.std.specs.Prelude.{◌≡◌, ◌∷◌, [], true, IfOk};
 ghost use Rattle.std.specs.Io.KnownBytes.{Appends};
 ghost use Rattle.sysv_connect.specs.Ends.{Fails, SucceedsOnlyIf};
 ghost use Rattle.sysv_options.specs.Asked.{HasLimits};
 ghost use Rattle.sysv_server.specs.Serving.{HasReason};
-ghost use Rattle.sysvmsg.specs.Ends.{EndsWithin, HasServed, HasServedAll, RanWithin, sums_line, words_of};
+ghost use Rattle.sysvmsg.specs.Ends.{EndsWithin, HasServed, HasServedAll, RanWithin, line_of, sums_line, words_of};
 
 use crate::room::room;
 use crate::socket::listen_at;
@@ -251,6 +251,38 @@ fn tell<S: Write>(screen: &mut S, ended: &Ended, has_input: bool) -> ExitCode
     ensures { SucceedsOnlyIf (Appends (S.contents screen.old) (S.contents screen.new)
         (sums_line has_input ended.now)) result }
 {
+    if has_input {
+        tell_cut(screen, ended)
+    } else {
+        tell_sums(screen, &ended.sums)
+    }
+}
+
+/// Prints the sums.
+fn tell_sums<S: Write>(screen: &mut S, sums: &Sums) -> ExitCode
+    ensures { SucceedsOnlyIf (Appends (S.contents screen.old) (S.contents screen.new)
+        (line_of sums.now (10 ∷ []))) result }
+{
+    let Sums {
+        sessions,
+        taken,
+        written,
+        lost,
+    } = *sums;
+    match writeln!(
+        screen,
+        "sessions {sessions} taken {taken} written {written} lost {lost}"
+    ) {
+        Ok(()) => ExitCode::SUCCESS,
+        Err(_) => ExitCode::from(FAULT),
+    }
+}
+
+/// Prints the sums, and the number of calls that the end cut off.
+fn tell_cut<S: Write>(screen: &mut S, ended: &Ended) -> ExitCode
+    ensures { SucceedsOnlyIf (Appends (S.contents screen.old) (S.contents screen.new)
+        (sums_line true ended.now)) result }
+{
     let Sums {
         sessions,
         taken,
@@ -258,18 +290,10 @@ fn tell<S: Write>(screen: &mut S, ended: &Ended, has_input: bool) -> ExitCode
         lost,
     } = ended.sums;
     let cut = ended.cut;
-    let told = if has_input {
-        writeln!(
-            screen,
-            "sessions {sessions} taken {taken} written {written} lost {lost} cut {cut}"
-        )
-    } else {
-        writeln!(
-            screen,
-            "sessions {sessions} taken {taken} written {written} lost {lost}"
-        )
-    };
-    match told {
+    match writeln!(
+        screen,
+        "sessions {sessions} taken {taken} written {written} lost {lost} cut {cut}"
+    ) {
         Ok(()) => ExitCode::SUCCESS,
         Err(_) => ExitCode::from(FAULT),
     }

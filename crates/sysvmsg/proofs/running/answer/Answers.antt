@@ -61,5 +61,5 @@ returns-in-Client g c =
           IsDone (way_by cred task how) cred task how exit (g.P.Place.incoming c.args.place path)
           (left_by g.P.Input.Read.remaining link) (g.P.Place.outgoing c.args.place path)
           (taken_by g.P.Output.Write.contents link) fed unfed shown after) c.run_as.result.contact)
-          (ap g.I.Read.remaining c.new.ensures) c.run_as.ensures)),
+          (ap g.I.Read.remaining c.new-input.ensures) c.run_as.ensures)),
     )
