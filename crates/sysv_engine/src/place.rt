@@ -16,17 +16,23 @@ use std::alloc::Global;
 use std::marker::Model;
 use std::sync::Wait;
 use sysv_parking::Key;
-use sysv_seats::{Client, Limit, NonBlocking, ServiceHandler, Tools, ZERO, Zero};
+use sysv_seats::{
+    Client, Keeper, Limit, NonBlocking, Parked, ServiceHandler, Tools, ZERO, Zero,
+};
 use sysv_service::{Pass, Service};
 use sysv_session::{End, Served};
+use sysv_wire::Version;
 
 /// A place of a server. Clients have it one after another.
 ///
 /// It has a handler with a pass of its own, the client that has it now, the sums of its sessions,
-/// the number of those whose memory was refused, and its book.
+/// the number of those whose memory was refused, and its book. A client that is closed while it holds
+/// a message leaves the message at the place, which gives it back before it has another client.
 pub(crate) struct Place<'a, R: Wait, T: NonBlocking> {
-    handler: ServiceHandler<'a, Zero, R>,
+    handler: Keeper<'a, Zero, R>,
     client: Option<Client<T>>,
+    /// The send that gives back the message that the last client held, if that send waits.
+    returning: Option<Parked>,
     sums: Sums,
     refused: u64,
     book: T::Book,
@@ -35,6 +41,12 @@ pub(crate) struct Place<'a, R: Wait, T: NonBlocking> {
     in_turns: bool,
     /// Whether the watch reports when the connection may take bytes.
     awaits_room: bool,
+    /// Memory for messages, if clients may hold any.
+    memory: Option<Global>,
+    /// Whether the place is counted as one that holds a message, or whose client waits for one.
+    holds: bool,
+    /// Whether a message that the last client held is given back.
+    returns: bool,
 }
 
 impl<'a, R: Wait, T: NonBlocking> Model for Place<'a, R, T> {
@@ -70,14 +82,18 @@ impl<'a, R: Wait, T: NonBlocking> Place<'a, R, T> {
         } }
     {
         Place {
-            handler: ServiceHandler::new(rt, service, &ZERO, pass),
+            handler: Keeper::new(ServiceHandler::new(rt, service, &ZERO, pass)),
             client: None,
+            returning: None,
             sums: Sums::open(),
             refused: 0,
             book,
             times: Times::new(),
             in_turns: false,
             awaits_room: false,
+            memory: None,
+            holds: false,
+            returns: false,
         }
     }
 
@@ -92,12 +108,16 @@ impl<'a, R: Wait, T: NonBlocking> Place<'a, R, T> {
         let Place {
             handler,
             client,
+            returning: _,
             sums,
             refused,
             book,
             times: _,
             in_turns: _,
             awaits_room: _,
+            memory: _,
+            holds: _,
+            returns: _,
         } = self;
         match client {
             Some(_) => unreachable!(),
@@ -105,14 +125,19 @@ impl<'a, R: Wait, T: NonBlocking> Place<'a, R, T> {
         }
     }
 
-    /// Gives a vacant place to the client of a connection.
-    pub(crate) fn adopt(&mut self, alloc: Global, connection: T)
+    /// Gives a vacant place to the client of a connection, whose session reads versions up to
+    /// `newest`. From version 3 on, it may hold a message.
+    pub(crate) fn adopt(&mut self, alloc: Global, connection: T, newest: Version)
         requires { self.old.client ≡ None }
         ensures { TakesIn T.incoming T.outgoing T.closes connection self.old self.new }
     {
         self.times = Times::new();
         self.awaits_room = false;
-        self.seat(Client::open(alloc, connection));
+        self.memory = match newest {
+            Version::One | Version::Two => None,
+            Version::Three => Some(alloc),
+        };
+        self.seat(Client::open(alloc, connection, newest));
     }
 
     /// Gives a vacant place to a client.
@@ -141,12 +166,68 @@ impl<'a, R: Wait, T: NonBlocking> Place<'a, R, T> {
     }
 
     /// Ends the client if there is a limit for an orderly end, and closes it if nothing else is left
-    /// to do.
-    pub(crate) fn end(&mut self)
+    /// to do. A message that it held is given back if its queue has room now, and else discarded.
+    pub(crate) fn end(&mut self, tools: &mut Tools)
         ensures keeps { KeepsPlace T.incoming T.outgoing T.closes self.old self.new }
     {
         self.cut(Limit::Drain);
         self.close();
+        if self.client.is_none() {
+            self.give_back_at_last(tools);
+        }
+    }
+
+    /// Gives back the message that the last client held if its queue has room now, and else discards
+    /// it.
+    fn give_back_at_last(&mut self, tools: &mut Tools) {
+        self.give_back(tools);
+        self.go_on(tools);
+        self.handler.discard();
+        self.returning = None;
+        self.returns = false;
+        self.count_hold(tools);
+    }
+
+    /// Begins to give back the message that the last client held, if it held one.
+    pub(crate) fn give_back(&mut self, tools: &mut Tools) {
+        if self.client.is_none() && self.returning.is_none() {
+            self.returns = self.handler.has_message();
+            self.returning = self.handler.give_back(tools);
+            self.count_hold(tools);
+        }
+    }
+
+    /// Returns whether what the last client held was given back since this was last asked.
+    pub(crate) fn has_given_back(&mut self) -> bool {
+        let has_given_back = self.returns && !self.handler.has_message();
+        self.returns = self.returns && self.handler.has_message();
+        has_given_back
+    }
+
+    /// Lets the session hold a message, unless too many places hold one.
+    fn allow_hold(&mut self, tools: &Tools) {
+        if self.holds || tools.may_hold_more() {
+            self.handler.set_memory(self.memory);
+        } else {
+            self.handler.set_memory(None);
+        }
+    }
+
+    /// Takes note of whether the place holds a message, or its client waits for one.
+    fn count_hold(&mut self, tools: &mut Tools) {
+        let holds = self.handler.has_message() || self.awaits_hold();
+        if holds != self.holds {
+            tools.count_hold(holds);
+            self.holds = holds;
+        }
+    }
+
+    /// Returns whether the client waits for a message to hold.
+    fn awaits_hold(&self) -> bool {
+        match &self.client {
+            Some(client) => client.awaits_hold(),
+            None => false,
+        }
     }
 
     /// Continues the parked call, and takes up and answers a share of what has arrived.
@@ -194,19 +275,25 @@ impl<'a, R: Wait, T: NonBlocking> Place<'a, R, T> {
     pub(crate) fn take_turn(&mut self, tools: &mut Tools)
         ensures keeps { KeepsPlace T.incoming T.outgoing T.closes self.old self.new }
     {
+        self.allow_hold(tools);
         if let Some(client) = &mut self.client {
             client.take_turn(&mut self.handler, tools);
             client.drain();
         }
+        self.count_hold(tools);
     }
 
-    /// Continues the parked call, if it may go on.
+    /// Continues the parked call, or the send that gives back a message, if it may go on.
     pub(crate) fn go_on(&mut self, tools: &mut Tools)
         ensures keeps { KeepsPlace T.incoming T.outgoing T.closes self.old self.new }
     {
+        self.allow_hold(tools);
         if let Some(client) = &mut self.client {
             client.go_on(&mut self.handler, tools);
+        } else if let Some(parked) = self.returning {
+            self.returning = self.handler.give_back_on(parked, tools);
         }
+        self.count_hold(tools);
     }
 
     /// Gives the connection as many bytes of the replies as it takes now.
@@ -237,11 +324,13 @@ impl<'a, R: Wait, T: NonBlocking> Place<'a, R, T> {
         self.cut(limit);
     }
 
-    /// Returns what the parked call waits for, if there is one.
+    /// Returns what the parked call waits for, or the send that gives back a message, if one waits.
     pub(crate) fn key(&self) -> Option<Key> {
-        let client = self.client.as_ref()?;
-        let waiting = client.waiting()?;
-        Some(key_of(&waiting, client.parked_length()))
+        let parked = match &self.client {
+            Some(client) => client.parked()?,
+            None => self.returning?,
+        };
+        Some(key_of(&parked.waiting(), parked.length()))
     }
 
     /// Returns the number of blocks that calls at the place reserved and did not release, modulo
@@ -259,10 +348,21 @@ impl<'a, R: Wait, T: NonBlocking> Place<'a, R, T> {
     }
 
     /// Returns whether there is a client.
-    pub(crate) fn is_taken(&self) -> bool
+    pub(crate) fn has_client(&self) -> bool
         ensures { result ≡ is_some self.now.client }
     {
         self.client.is_some()
+    }
+
+    /// Returns whether a message is held at the place: by its client, or by the last one, whose
+    /// message is given back.
+    pub(crate) fn has_message(&self) -> bool {
+        self.handler.has_message()
+    }
+
+    /// Returns whether there is a client, or a message is given back.
+    pub(crate) fn is_taken(&self) -> bool {
+        self.has_client() || self.has_message()
     }
 
     /// Returns whether nothing is left to do but to close the client.

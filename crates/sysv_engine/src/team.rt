@@ -61,7 +61,7 @@ pub(crate) fn vacate<R: Wait, T: NonBlocking>(
     ensures count { vec_len places.new ≡ vec_len places.old }
 {
     for _ in rt.forever() {
-        close_all(places);
+        close_all(places, tools);
         if are_vacant(places) {
             return;
         }
@@ -72,12 +72,15 @@ pub(crate) fn vacate<R: Wait, T: NonBlocking>(
 
 /// Cuts off each client for whose orderly end there is a limit, and closes each for which nothing is
 /// left to do.
-fn close_all<R: Wait, T: NonBlocking>(places: &mut Vec<Place<'_, R, T>>)
+fn close_all<R: Wait, T: NonBlocking>(places: &mut Vec<Place<'_, R, T>>, tools: &mut Option<Tools>)
     ensures keeps { KeepsAll T.incoming T.outgoing T.closes places.old.items places.new.items }
     ensures count { vec_len places.new ≡ vec_len places.old }
 {
+    let Some(tools) = tools else {
+        return;
+    };
     for at in 0..places.len() {
-        places[at].end();
+        places[at].end(tools);
     }
 }
 

@@ -17,6 +17,7 @@ use std::sync::Wait;
 use sysv_parking::{Agenda, Key};
 use sysv_seats::{Limit, NonBlocking, Tools};
 use sysv_session::Served;
+use sysv_wire::Version;
 
 /// Of this number of messages that have arrived, one goes to another worker first.
 const SHARE_OF_MESSAGES: usize = 8;
@@ -92,7 +93,8 @@ impl<'a, R: Wait, T: NonBlocking, W: Drop> Kit<'a, R, T, W> {
         let ready = Vec::with_capacity(alloc, MOST_READY).ok()?;
         let agenda = Agenda::open(alloc, number, count)?;
         let turns = VecDeque::with_capacity(alloc, count).ok()?;
-        let tools = Tools::open(alloc).ok()?;
+        let mut tools = Tools::open(alloc).ok()?;
+        tools.share_places(count);
         let places = room_for(alloc, count)?;
         Some(Kit {
             places,
@@ -272,20 +274,49 @@ impl<'a, R: Wait, T: NonBlocking, W: Watch<T>> Worker<'a, R, T, W> {
 
     /// Gives a vacant place to the client of a connection, and has its connection watched.
     #[tactic(auto, using(crate::proofs::PlaceLists::adopts_at))]
-    pub(crate) fn adopt(&mut self, place: usize, alloc: Global, connection: T)
+    pub(crate) fn adopt(&mut self, place: usize, alloc: Global, connection: T, newest: Version)
         requires { IsVacantAt place self.old.places.items }
         ensures { AdoptsOne T.incoming T.outgoing T.closes connection self.old.places.items
             self.new.places.items }
     {
         let there = &mut self.places[place];
-        there.adopt(alloc, connection);
+        there.adopt(alloc, connection, newest);
         there.begin(&mut self.watch, place);
     }
 
     /// Returns whether the place has a client.
-    pub(crate) fn is_taken(&self, place: usize) -> bool {
+    pub(crate) fn has_client(&self, place: usize) -> bool {
         match self.places.get(place) {
-            Some(there) => there.is_taken(),
+            Some(there) => there.has_client(),
+            None => false,
+        }
+    }
+
+    /// Returns whether a message is held at the place.
+    pub(crate) fn has_message(&self, place: usize) -> bool {
+        match self.places.get(place) {
+            Some(there) => there.has_message(),
+            None => false,
+        }
+    }
+
+    /// Returns whether no place has a client.
+    pub(crate) fn has_no_clients(&self) -> bool {
+        self.places.iter().all(|place| !place.has_client())
+    }
+
+    /// Begins to give back the message that the last client of the place held.
+    pub(crate) fn give_back(&mut self, place: usize) {
+        if let Some(there) = self.places.get_mut(place) {
+            there.give_back(&mut self.tools);
+        }
+    }
+
+    /// Returns whether what the last client of the place held was given back since this was last
+    /// asked.
+    pub(crate) fn has_given_back(&mut self, place: usize) -> bool {
+        match self.places.get_mut(place) {
+            Some(there) => there.has_given_back(),
             None => false,
         }
     }

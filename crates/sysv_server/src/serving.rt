@@ -73,6 +73,7 @@ pub fn serve_on<R: Threads + Wait + Net + Sync>(
         patience: Patience::UNBOUNDED,
         drain: 0,
         stats: false,
+        hold: false,
     };
     let mut lent = Lent::new(listener);
     let mut reason = None;
@@ -209,13 +210,17 @@ fn run<L: Listens, I: Input + Drop, H: Host, R: Threads + Wait + Net + Sync>(
         patience,
         drain,
         stats,
+        hold,
     } = terms;
     *reason = None;
     let workers = workers.min(at_once);
     let opened = ServerState::open(alloc, workers as usize, at_once as usize, patience, drain);
-    let Some((server, rests)) = opened else {
+    let Some((mut server, rests)) = opened else {
         return Err(ServeFault::NoMemory);
     };
+    if hold {
+        server.allow_hold();
+    }
     let Some(mut books) = empty_books(alloc, at_once) else {
         return Err(ServeFault::NoMemory);
     };

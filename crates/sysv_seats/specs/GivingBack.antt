@@ -1,0 +1,83 @@
+-- How the message that a session held at its end is given back (this project's profile): by a send of the
+-- same body with the same type to the same queue, without flags and with the session's credentials. It may
+-- wait like any send.
+use Rattle.std.specs.Prelude.{◌≡◌, ◌+◌, ⊤, ℕ, Option, None, Some, length}
+use Rattle.sysv_model.specs.declared.flags.Flags.{Flags}
+use Rattle.sysv_session.specs.declared.handler.RequestOutcome.{RequestOutcome}
+use Rattle.sysv_session.specs.declared.handler.RequestOutcome.TheVariants.{Left}
+use Rattle.sysv_session.specs.Answers.{IsReplied}
+use Rattle.sysv_service.specs.Ran.{Pass}
+use Rattle.sysv_wire.specs.declared.frame.Version.TheVariants.{Three}
+use Rattle.sysv_wire.specs.declared.request.Ask.TheVariants.{Snd}
+use Rattle.sysv_wire.specs.declared.request.Request.{Request}
+use Rattle.sysv_seats.specs.declared.parked.Parked.{Parked}
+use Rattle.sysv_seats.specs.declared.waiting.Waiting.{Waiting}
+use Rattle.sysv_seats.specs.Asked.{Sends}
+use Rattle.sysv_seats.specs.Holding.{Holder, Message}
+use Rattle.sysv_seats.specs.Parked.{IsParked}
+use Rattle.sysv_seats.specs.Sits.{zero_moment}
+
+abbrev pub no_flags : Flags
+no_flags = record { 0 = 0 }
+
+-- The send that gives the message back, and the number of bytes in its frame.
+abbrev pub return_of : Message → Request
+return_of message = record { version = Three; ask = Snd message.id message.mtype no_flags }
+
+abbrev pub return_length : Message → ℕ
+return_length message = 22 + length message.text
+
+-- The message was sent again, and that send ended with this outcome, or was left at a wait.
+abbrev pub IsReturn : Message → Pass → RequestOutcome → Pass → Type 0
+IsReturn message before outcome after =
+    Sends zero_moment ⊤ Three message.cred message.id message.mtype no_flags message.text before outcome after
+
+-- What follows a session: nothing if it held nothing at its end, or the return of what it held.
+abbrev pub GivesBack : Holder Pass → Option RequestOutcome → Pass → Type 0
+GivesBack before None after = (before.message ≡ None) × (after ≡ before.at)
+GivesBack before (Some outcome) after =
+    (message : Message) × (before.message ≡ Some message) × IsReturn message before.at outcome after
+
+-- ---- in pieces
+
+-- The return of this message, which waits.
+abbrev pub return_at : Message → Waiting → Parked
+return_at message waiting = record {
+  cred = message.cred;
+  request = return_of message;
+  waiting = waiting;
+  length = return_length message;
+}
+
+-- The message that is held is given back, and its send waits with the pass. The session ended with the
+-- pass `start`.
+abbrev pub WaitsBack : (start : Pass) → Holder Pass → Parked → Type 0
+WaitsBack start now parked = (message : Message) × (waiting : Waiting) × (now.message ≡ Some message)
+    × (parked ≡ return_at message waiting)
+    × IsParked zero_moment message.cred (Snd message.id message.mtype no_flags) message.text start waiting now.at
+
+-- The send is one that gives back the message that is held.
+abbrev pub IsReturning : Holder Pass → Parked → Type 0
+IsReturning now parked = (start : Pass) × WaitsBack start now parked
+
+-- The return of what was held with the pass `start` has come so far: it waits, or it is over, and nothing is
+-- held.
+abbrev pub ComesBack : (start : Pass) → Option Message → Option Parked → Holder Pass → Type 0
+ComesBack start held (Some parked) after = WaitsBack start after parked × (after.message ≡ held)
+ComesBack start None None after = (after.at ≡ start) × (after.message ≡ None)
+ComesBack start (Some message) None after = (outcome : RequestOutcome) × IsReplied outcome
+    × IsReturn message start outcome after.at × (after.message ≡ None)
+
+-- The return was begun.
+abbrev pub GoesBack : Holder Pass → Option Parked → Holder Pass → Type 0
+GoesBack before result after = ComesBack before.at before.message result after
+
+-- The return that waited went on, or waits as before.
+abbrev pub GoesBackOn : Holder Pass → Parked → Option Parked → Holder Pass → Type 0
+GoesBackOn before parked result after =
+    (start : Pass) → WaitsBack start before parked → ComesBack start before.message result after
+
+-- A return that waits was left. What was held is not given back.
+abbrev pub EachReturnCanBeLeft : Type 0
+EachReturnCanBeLeft = (start : Pass) (now : Holder Pass) (parked : Parked) (held : Message) →
+    now.message ≡ Some held → WaitsBack start now parked → IsReturn held start Left now.at
