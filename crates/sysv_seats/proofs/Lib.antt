@@ -1,6 +1,7 @@
 pub mod Sessions
 pub mod PieceAnswers
 pub mod SendFrame
+pub mod HeldPieces
 pub mod ClientLemmas
 pub mod ClientSteps
 pub mod Known
