@@ -186,7 +186,8 @@ where
         discard(kits);
         return Err(ServeFault::NoMemory);
     };
-    staff(rt, alloc, service, pass, books, kits, &mut workers);
+    let newest = server.newest();
+    staff(rt, alloc, service, newest, pass, books, kits, &mut workers);
     let job = Serving {
         rt,
         alloc,

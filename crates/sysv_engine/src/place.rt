@@ -1,10 +1,10 @@
 //! The places of a server: each serves one client after another.
-ghost use Rattle.std.specs.Prelude.{◌≡◌, ◌+◌, None, Some, IfSome, is_some, true};
+ghost use Rattle.std.specs.Prelude.{◌≡◌, ◌+◌, None, Some, IfSome, is_some, not, true};
 ghost use Rattle.sysv_service.specs.Seats.{AreOf};
 ghost use Rattle.sysv_seats.specs.Sits.{Keeps, is_finished};
 ghost use Rattle.sysv_engine.specs.Added.{added, capped, nothing, one_session};
 ghost use Rattle.sysv_engine.specs.Handled.{one_refused};
-ghost use Rattle.sysv_engine.specs.Places.{KeepsPlace, TakesIn, taken_by};
+ghost use Rattle.sysv_engine.specs.Places.{KeepsPlace, TakesIn, has_ended, is_vacant, taken_by};
 
 use crate::awaited::key_of;
 use crate::moment::Moment;
@@ -41,7 +41,9 @@ pub(crate) struct Place<'a, R: Wait, T: NonBlocking> {
     in_turns: bool,
     /// Whether the watch reports when the connection may take bytes.
     awaits_room: bool,
-    /// Memory for messages, if clients may hold any.
+    /// The newest version that sessions read. From version 3 on, they may hold messages.
+    newest: Version,
+    /// Memory for messages, if sessions may hold any.
     memory: Option<Global>,
     /// Whether the place is counted as one that holds a message, or whose client waits for one.
     holds: bool,
@@ -55,32 +57,49 @@ impl<'a, R: Wait, T: NonBlocking> Model for Place<'a, R, T> {
     ghost Value = { Seated T.Book T };
 
     ghost view = { λ p. record {
-      gates = p.handler.service.now;
-      pass = p.handler.pass;
+      gates = p.handler.handler.service.now;
+      pass = p.handler.handler.pass;
+      newest = p.newest;
       sums = p.sums;
       refused = p.refused;
       book = p.book;
       client = p.client;
+      message = p.handler.message;
+      returning = p.returning;
     } };
 }
 
 impl<'a, R: Wait, T: NonBlocking> Place<'a, R, T> {
-    /// Creates a place that no client has had.
+    /// Creates a place that no client has had, whose sessions read versions up to `newest`.
     ///
     /// # Conditions
     ///
     /// - `pass` is a pass of `service`.
-    pub(crate) fn new(rt: &'a R, service: &'a Service, pass: Pass, book: T::Book) -> Place<'a, R, T>
+    pub(crate) fn new(
+        rt: &'a R,
+        alloc: Global,
+        service: &'a Service,
+        pass: Pass,
+        book: T::Book,
+        newest: Version,
+    ) -> Place<'a, R, T>
         requires { AreOf service.now pass.seats }
         ensures { result ≡ record {
           gates = service.now;
           pass = pass;
+          newest = newest;
           sums = nothing;
           refused = 0;
           book = book;
           client = None;
+          message = None;
+          returning = None;
         } }
     {
+        let memory = match newest {
+            Version::One | Version::Two => None,
+            Version::Three => Some(alloc),
+        };
         Place {
             handler: Keeper::new(ServiceHandler::new(rt, service, &ZERO, pass)),
             client: None,
@@ -91,14 +110,15 @@ impl<'a, R: Wait, T: NonBlocking> Place<'a, R, T> {
             times: Times::new(),
             in_turns: false,
             awaits_room: false,
-            memory: None,
+            newest,
+            memory,
             holds: false,
             returns: false,
         }
     }
 
-    /// Returns the pass of a vacant place, its sums, the number of its sessions whose memory was
-    /// refused, and its book.
+    /// Returns the pass of a place without a client, its sums, the number of its sessions whose
+    /// memory was refused, and its book. If a message still waits to be given back, it is discarded.
     pub(crate) fn into_parts(self) -> (Pass, Sums, u64, T::Book)
         requires { self.client ≡ None }
         ensures parts { (result.0 ≡ self.entry.pass) × (result.1 ≡ self.entry.sums)
@@ -115,6 +135,7 @@ impl<'a, R: Wait, T: NonBlocking> Place<'a, R, T> {
             times: _,
             in_turns: _,
             awaits_room: _,
+            newest: _,
             memory: _,
             holds: _,
             returns: _,
@@ -125,19 +146,14 @@ impl<'a, R: Wait, T: NonBlocking> Place<'a, R, T> {
         }
     }
 
-    /// Gives a vacant place to the client of a connection, whose session reads versions up to
-    /// `newest`. From version 3 on, it may hold a message.
-    pub(crate) fn adopt(&mut self, alloc: Global, connection: T, newest: Version)
-        requires { self.old.client ≡ None }
+    /// Gives a vacant place to the client of a connection.
+    pub(crate) fn adopt(&mut self, alloc: Global, connection: T)
+        requires { (self.old.client ≡ None) × (self.old.message ≡ None) }
         ensures { TakesIn T.incoming T.outgoing T.closes connection self.old self.new }
     {
         self.times = Times::new();
         self.awaits_room = false;
-        self.memory = match newest {
-            Version::One | Version::Two => None,
-            Version::Three => Some(alloc),
-        };
-        self.seat(Client::open(alloc, connection, newest));
+        self.seat(Client::open(alloc, connection, self.newest));
     }
 
     /// Gives a vacant place to a client.
@@ -166,30 +182,28 @@ impl<'a, R: Wait, T: NonBlocking> Place<'a, R, T> {
     }
 
     /// Ends the client if there is a limit for an orderly end, and closes it if nothing else is left
-    /// to do. A message that it held is given back if its queue has room now, and else discarded.
+    /// to do. What gives back its message is begun then, or looked at once more.
     pub(crate) fn end(&mut self, tools: &mut Tools)
         ensures keeps { KeepsPlace T.incoming T.outgoing T.closes self.old self.new }
     {
         self.cut(Limit::Drain);
         self.close();
-        if self.client.is_none() {
-            self.give_back_at_last(tools);
-        }
-    }
-
-    /// Gives back the message that the last client held if its queue has room now, and else discards
-    /// it.
-    fn give_back_at_last(&mut self, tools: &mut Tools) {
         self.give_back(tools);
         self.go_on(tools);
-        self.handler.discard();
-        self.returning = None;
-        self.returns = false;
-        self.count_hold(tools);
+    }
+
+    /// Returns whether nothing is left to do at the end of the server: there is no client, and what
+    /// gives back a message waits, if one is given back.
+    pub(crate) fn is_ended(&self) -> bool
+        ensures { result ≡ has_ended self.now }
+    {
+        !self.has_client() && (!self.has_message() || self.returning.is_some())
     }
 
     /// Begins to give back the message that the last client held, if it held one.
-    pub(crate) fn give_back(&mut self, tools: &mut Tools) {
+    pub(crate) fn give_back(&mut self, tools: &mut Tools)
+        ensures keeps { KeepsPlace T.incoming T.outgoing T.closes self.old self.new }
+    {
         if self.client.is_none() && self.returning.is_none() {
             self.returns = self.handler.has_message();
             self.returning = self.handler.give_back(tools);
@@ -198,14 +212,18 @@ impl<'a, R: Wait, T: NonBlocking> Place<'a, R, T> {
     }
 
     /// Returns whether what the last client held was given back since this was last asked.
-    pub(crate) fn has_given_back(&mut self) -> bool {
+    pub(crate) fn has_given_back(&mut self) -> bool
+        ensures { self.new ≡ self.old }
+    {
         let has_given_back = self.returns && !self.handler.has_message();
         self.returns = self.returns && self.handler.has_message();
         has_given_back
     }
 
     /// Lets the session hold a message, unless too many places hold one.
-    fn allow_hold(&mut self, tools: &Tools) {
+    fn allow_hold(&mut self, tools: &Tools)
+        ensures { self.new ≡ self.old }
+    {
         if self.holds || tools.may_hold_more() {
             self.handler.set_memory(self.memory);
         } else {
@@ -214,7 +232,9 @@ impl<'a, R: Wait, T: NonBlocking> Place<'a, R, T> {
     }
 
     /// Takes note of whether the place holds a message, or its client waits for one.
-    fn count_hold(&mut self, tools: &mut Tools) {
+    fn count_hold(&mut self, tools: &mut Tools)
+        ensures { self.new ≡ self.old }
+    {
         let holds = self.handler.has_message() || self.awaits_hold();
         if holds != self.holds {
             tools.count_hold(holds);
@@ -244,7 +264,9 @@ impl<'a, R: Wait, T: NonBlocking> Place<'a, R, T> {
         ensures refused { self.new.refused
             ≡ capped (self.old.refused + one_refused (Some served.now)) }
         ensures same { (self.new.gates ≡ self.old.gates) × (self.new.pass ≡ self.old.pass)
-            × (self.new.book ≡ self.old.book) × (self.new.client ≡ self.old.client) }
+            × (self.new.book ≡ self.old.book) × (self.new.client ≡ self.old.client)
+            × (self.new.newest ≡ self.old.newest) × (self.new.message ≡ self.old.message)
+            × (self.new.returning ≡ self.old.returning) }
     {
         self.sums.add(Sums::of(&served.tally));
         self.refused = self.refused.saturating_add(refusals(served));
@@ -356,12 +378,16 @@ impl<'a, R: Wait, T: NonBlocking> Place<'a, R, T> {
 
     /// Returns whether a message is held at the place: by its client, or by the last one, whose
     /// message is given back.
-    pub(crate) fn has_message(&self) -> bool {
+    pub(crate) fn has_message(&self) -> bool
+        ensures { result ≡ is_some self.now.message }
+    {
         self.handler.has_message()
     }
 
     /// Returns whether there is a client, or a message is given back.
-    pub(crate) fn is_taken(&self) -> bool {
+    pub(crate) fn is_taken(&self) -> bool
+        ensures { result ≡ not (is_vacant self.now) }
+    {
         self.has_client() || self.has_message()
     }
 

@@ -50,7 +50,7 @@ impl<'a, 'c, R: Wait, T: NonBlocking + Drop, W: Watch<T>> Job<Worker<'a, R, T, W
     fn run(&self, worker: &mut Worker<'a, R, T, W>, connection: T) {
         self.server.take();
         let place = self.make_room(worker);
-        worker.adopt(place, self.alloc, connection, self.server.newest());
+        worker.adopt(place, self.alloc, connection);
         self.turn(worker, place);
         self.serve(worker);
     }

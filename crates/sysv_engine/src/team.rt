@@ -1,10 +1,10 @@
 //! The places of a server: a pass is split off for each, and joined back at the end.
-ghost use Rattle.std.specs.Prelude.{◌≡◌, ◌≤◌, ◌+◌, ◌++◌, map, reverse, vec_len, vec_capacity, [], None};
+ghost use Rattle.std.specs.Prelude.{◌≡◌, ◌≤◌, ◌+◌, ◌++◌, map, reverse, true, vec_len, vec_capacity, []};
 ghost use Rattle.std.specs.List.{All, FoldsTo, list_all, sum_by};
 ghost use Rattle.sysv_service.specs.Seats.{AreOf};
 ghost use Rattle.sysv_thread_laws.specs.Hiring.{Gives, TakesIn};
 ghost use Rattle.sysv_engine.specs.Added.{all_added, capped};
-ghost use Rattle.sysv_engine.specs.Places.{IsOpened, KeepsAll, is_vacant};
+ghost use Rattle.sysv_engine.specs.Places.{IsOpened, KeepsAll, has_ended};
 
 use crate::moment::pause;
 use crate::place::Place;
@@ -14,6 +14,7 @@ use std::alloc::Global;
 use std::sync::Wait;
 use sysv_seats::{Limit, NonBlocking, Tools};
 use sysv_service::{Pass, Service};
+use sysv_wire::Version;
 
 /// Fills `places` with a place for each of the last books, as many as it has room for, in the order
 /// of the books. A pass is split off from `pass` for each, for the last one first.
@@ -21,6 +22,7 @@ pub(crate) fn hire<'a, R: Wait, T: NonBlocking>(
     rt: &'a R,
     alloc: Global,
     service: &'a Service,
+    newest: Version,
     pass: &mut Pass,
     books: &mut Vec<T::Book>,
     places: &mut Vec<Place<'a, R, T>>,
@@ -29,7 +31,7 @@ pub(crate) fn hire<'a, R: Wait, T: NonBlocking>(
     requires none { places.old.items ≡ [] }
     requires enough { vec_capacity places.old ≤ vec_len books.old }
     ensures pass { AreOf service.now pass.new.seats }
-    ensures places { All (IsOpened service.now) places.new.items }
+    ensures places { All (IsOpened service.now newest) places.new.items }
     ensures count { vec_len places.new ≡ vec_capacity places.old }
     ensures books { books.old.items ≡ books.new.items ++ map (λ p. p.book) places.new.items }
     ensures room { vec_capacity books.new ≡ vec_capacity books.old }
@@ -43,26 +45,27 @@ pub(crate) fn hire<'a, R: Wait, T: NonBlocking>(
         let Ok(theirs) = service.split_pass(alloc, pass) else {
             unreachable!()
         };
-        places.push_reserved(Place::new(rt, service, theirs, book));
+        places.push_reserved(Place::new(rt, alloc, service, theirs, book, newest));
     }
     places.reverse();
 }
 
 /// Serves the clients that are left in the places until nothing is left to do for each, and closes
 /// them. After a run of the workers there are none, unless the run was refused: then a client is cut
-/// off if there is a limit for an orderly end. There are tools if there are places.
+/// off if there is a limit for an orderly end. A message that is given back is looked at once more,
+/// and may still wait. There are tools if there are places.
 pub(crate) fn vacate<R: Wait, T: NonBlocking>(
     rt: &R,
     places: &mut Vec<Place<'_, R, T>>,
     tools: &mut Option<Tools>,
 )
     ensures keeps { KeepsAll T.incoming T.outgoing T.closes places.old.items places.new.items }
-    ensures vacant { All (λ p. p.client ≡ None) places.new.items }
+    ensures ended { All (λ p. has_ended p ≡ true) places.new.items }
     ensures count { vec_len places.new ≡ vec_len places.old }
 {
     for _ in rt.forever() {
         close_all(places, tools);
-        if are_vacant(places) {
+        if are_ended(places) {
             return;
         }
         serve_all(places, tools);
@@ -97,14 +100,14 @@ fn serve_all<R: Wait, T: NonBlocking>(places: &mut Vec<Place<'_, R, T>>, tools: 
     }
 }
 
-/// Returns whether there are no clients in the places.
-fn are_vacant<R: Wait, T: NonBlocking>(places: &[Place<'_, R, T>]) -> bool
-    ensures { result ≡ list_all is_vacant places.now }
+/// Returns whether nothing is left to do at the places at the end of the server.
+fn are_ended<R: Wait, T: NonBlocking>(places: &[Place<'_, R, T>]) -> bool
+    ensures { result ≡ list_all has_ended places.now }
 {
-    places.iter().all(|place| !place.is_taken())
+    places.iter().all(|place| place.is_ended())
 }
 
-/// Joins the passes of all these places, which are vacant, into `pass`, and puts their books into
+/// Joins the passes of all these places, which have no clients, into `pass`, and puts their books into
 /// `books`. Returns the sum of their sums, and the number of their sessions whose memory was
 /// refused.
 pub(crate) fn dismiss<R: Wait, T: NonBlocking>(
@@ -115,7 +118,7 @@ pub(crate) fn dismiss<R: Wait, T: NonBlocking>(
 ) -> (Sums, u64)
     requires pass { AreOf service.now pass.old.seats }
     requires places { All (λ p. p.gates ≡ service.now) places.items }
-    requires vacant { All (λ p. p.client ≡ None) places.items }
+    requires ended { All (λ p. has_ended p ≡ true) places.items }
     requires room { vec_len books.old + vec_len places ≤ vec_capacity books.old }
     ensures pass { AreOf service.now pass.new.seats }
     ensures sums { result.0 ≡ all_added (map (λ p. p.sums) places.entry.items) }

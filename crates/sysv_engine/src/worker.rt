@@ -17,7 +17,6 @@ use std::sync::Wait;
 use sysv_parking::{Agenda, Key};
 use sysv_seats::{Limit, NonBlocking, Tools};
 use sysv_session::Served;
-use sysv_wire::Version;
 
 /// Of this number of messages that have arrived, one goes to another worker first.
 const SHARE_OF_MESSAGES: usize = 8;
@@ -274,13 +273,13 @@ impl<'a, R: Wait, T: NonBlocking, W: Watch<T>> Worker<'a, R, T, W> {
 
     /// Gives a vacant place to the client of a connection, and has its connection watched.
     #[tactic(auto, using(crate::proofs::PlaceLists::adopts_at))]
-    pub(crate) fn adopt(&mut self, place: usize, alloc: Global, connection: T, newest: Version)
+    pub(crate) fn adopt(&mut self, place: usize, alloc: Global, connection: T)
         requires { IsVacantAt place self.old.places.items }
         ensures { AdoptsOne T.incoming T.outgoing T.closes connection self.old.places.items
             self.new.places.items }
     {
         let there = &mut self.places[place];
-        there.adopt(alloc, connection, newest);
+        there.adopt(alloc, connection);
         there.begin(&mut self.watch, place);
     }
 
@@ -306,7 +305,12 @@ impl<'a, R: Wait, T: NonBlocking, W: Watch<T>> Worker<'a, R, T, W> {
     }
 
     /// Begins to give back the message that the last client of the place held.
-    pub(crate) fn give_back(&mut self, place: usize) {
+    #[tactic(auto, using(crate::proofs::PlaceLists::keeps_at))]
+    pub(crate) fn give_back(&mut self, place: usize)
+        ensures keeps { KeepsAll T.incoming T.outgoing T.closes self.old.places.items
+            self.new.places.items }
+        ensures agenda { self.new.agenda ≡ self.old.agenda }
+    {
         if let Some(there) = self.places.get_mut(place) {
             there.give_back(&mut self.tools);
         }
@@ -314,7 +318,12 @@ impl<'a, R: Wait, T: NonBlocking, W: Watch<T>> Worker<'a, R, T, W> {
 
     /// Returns whether what the last client of the place held was given back since this was last
     /// asked.
-    pub(crate) fn has_given_back(&mut self, place: usize) -> bool {
+    #[tactic(auto, using(crate::proofs::PlaceLists::keeps_at))]
+    pub(crate) fn has_given_back(&mut self, place: usize) -> bool
+        ensures keeps { KeepsAll T.incoming T.outgoing T.closes self.old.places.items
+            self.new.places.items }
+        ensures agenda { self.new.agenda ≡ self.old.agenda }
+    {
         match self.places.get_mut(place) {
             Some(there) => there.has_given_back(),
             None => false,

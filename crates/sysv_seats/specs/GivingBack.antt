@@ -1,8 +1,7 @@
 -- How the message that a session held at its end is given back (this project's profile): by a send of the
 -- same body with the same type to the same queue, without flags and with the session's credentials. It may
 -- wait like any send.
-use Rattle.std.specs.Prelude.{◌≡◌, ◌+◌, ⊤, ℕ, Option, None, Some, length}
-use Rattle.sysv_model.specs.declared.flags.Flags.{Flags}
+use Rattle.std.specs.Prelude.{◌≡◌, ◌+◌, ℕ, Option, None, Some, length}
 use Rattle.sysv_session.specs.declared.handler.RequestOutcome.{RequestOutcome}
 use Rattle.sysv_session.specs.declared.handler.RequestOutcome.TheVariants.{Left}
 use Rattle.sysv_session.specs.Answers.{IsReplied}
@@ -12,13 +11,12 @@ use Rattle.sysv_wire.specs.declared.request.Ask.TheVariants.{Snd}
 use Rattle.sysv_wire.specs.declared.request.Request.{Request}
 use Rattle.sysv_seats.specs.declared.parked.Parked.{Parked}
 use Rattle.sysv_seats.specs.declared.waiting.Waiting.{Waiting}
-use Rattle.sysv_seats.specs.Asked.{Sends}
-use Rattle.sysv_seats.specs.Holding.{Holder, Message}
+use Rattle.sysv_service.specs.Told.{TellsRow}
+use Rattle.sysv_seats.specs.Asked.{ComesFrom, ReadsReleased}
+use Rattle.sysv_seats.specs.Holding as holding
+use Rattle.sysv_seats.specs.Holding.{Holder, Message, no_flags}
 use Rattle.sysv_seats.specs.Parked.{IsParked}
 use Rattle.sysv_seats.specs.Sits.{zero_moment}
-
-abbrev pub no_flags : Flags
-no_flags = record { 0 = 0 }
 
 -- The send that gives the message back, and the number of bytes in its frame.
 abbrev pub return_of : Message → Request
@@ -27,16 +25,12 @@ return_of message = record { version = Three; ask = Snd message.id message.mtype
 abbrev pub return_length : Message → ℕ
 return_length message = 22 + length message.text
 
--- The message was sent again, and that send ended with this outcome, or was left at a wait.
+-- The definitions of `Holding`, for a pass.
 abbrev pub IsReturn : Message → Pass → RequestOutcome → Pass → Type 0
-IsReturn message before outcome after =
-    Sends zero_moment ⊤ Three message.cred message.id message.mtype no_flags message.text before outcome after
+IsReturn = holding.IsReturn ComesFrom ReadsReleased TellsRow zero_moment
 
--- What follows a session: nothing if it held nothing at its end, or the return of what it held.
 abbrev pub GivesBack : Holder Pass → Option RequestOutcome → Pass → Type 0
-GivesBack before None after = (before.message ≡ None) × (after ≡ before.at)
-GivesBack before (Some outcome) after =
-    (message : Message) × (before.message ≡ Some message) × IsReturn message before.at outcome after
+GivesBack = holding.GivesBack ComesFrom ReadsReleased TellsRow zero_moment
 
 -- ---- in pieces
 

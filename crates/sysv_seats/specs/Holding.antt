@@ -2,7 +2,7 @@
 -- remembers, and a done spends it. A session holds one message at most. If the session ends before the
 -- message is spent, a `msgsnd` gives it back: of the same body, with the same type, to the same queue,
 -- without flags and with the session's credentials.
-use Rattle.std.specs.Prelude.{◌≡◌, ◌⊎◌, ◌&&◌, ◌==◌, ℕ, ℤ, Bool, true, false, not, List, [], Option, None, Some, Result}
+use Rattle.std.specs.Prelude.{◌≡◌, ◌⊎◌, ◌&&◌, ◌==◌, ⊤, ℕ, ℤ, Bool, true, false, not, List, [], Option, None, Some, Result}
 use Rattle.std.specs.Prelude.{cond, is_some}
 use Rattle.sysv_model.specs.declared.attributes.Row.{Row as Line}
 use Rattle.sysv_model.specs.declared.cred.Cred.{Cred}
@@ -15,11 +15,12 @@ use Rattle.sysv_session.specs.declared.handler.RequestOutcome.{RequestOutcome}
 use Rattle.sysv_session.specs.declared.handler.RequestOutcome.TheVariants.{Reply, Got, Left}
 use Rattle.sysv_wire.specs.declared.frame.Op.TheVariants as op
 use Rattle.sysv_wire.specs.declared.frame.Version.{Version}
+use Rattle.sysv_wire.specs.declared.frame.Version.TheVariants.{Three}
 use Rattle.sysv_wire.specs.declared.reply.ReplyContent.TheVariants as content
 use Rattle.sysv_wire.specs.declared.request.Ask.{Ask}
 use Rattle.sysv_wire.specs.declared.request.Ask.TheVariants.{Rcv, Hold, Done, Back}
 use Rattle.sysv_seats.specs.Replies.{reply}
-use Rattle.sysv_seats.specs.Requests.{Going, Asks, Receives}
+use Rattle.sysv_seats.specs.Requests.{Going, Asks, Receives, Sends}
 
 -- A message that a session holds, and how it is given back: by a send with these credentials to this
 -- queue.
@@ -75,6 +76,10 @@ abbrev pub may_call : Ask → Option Message → Bool
 may_call (Hold id size mtype flags seconds) message = can_hold flags seconds message
 may_call ask message = true
 
+-- The flags of the send that gives a message back.
+abbrev pub no_flags : Flags
+no_flags = record { 0 = 0 }
+
 -- The definitions hold for any meaning of a call, of reading the released count, and of requesting
 -- the row of a slot.
 module _ {K : Type 0} (Comes : Going K) (ReadsReleased : ℕ → K → K → Type 0)
@@ -126,3 +131,17 @@ module _ {K : Type 0} (Comes : Going K) (ReadsReleased : ℕ → K → K → Typ
       BackIsRefused version before outcome given after
   HoldAsks may may_leave version cred ask text before outcome given after =
       AsksBeside may may_leave version cred ask text before outcome given after
+
+  -- ---- the end of a session
+
+  -- The message was sent again, and that send ended with this outcome, or was left at a wait.
+  abbrev pub IsReturn : (ℕ → Type 0) → Message → K → RequestOutcome → K → Type 0
+  IsReturn may message before outcome after =
+      Sends Comes ReadsReleased TellsRow may ⊤ Three message.cred message.id message.mtype no_flags message.text before
+      outcome after
+
+  -- What follows a session: nothing if it held nothing at its end, or the return of what it held.
+  abbrev pub GivesBack : (ℕ → Type 0) → Holder K → Option RequestOutcome → K → Type 0
+  GivesBack may before None after = (before.message ≡ None) × (after ≡ before.at)
+  GivesBack may before (Some outcome) after =
+      (message : Message) × (before.message ≡ Some message) × IsReturn may message before.at outcome after

@@ -2,6 +2,7 @@
 ghost use Rattle.std.specs.Prelude.{◌≡◌, ◌≢◌, ◌≤◌, ℕ, List, [], None, IfSome, is_some, length, vec_capacity};
 ghost use Rattle.sysv_model.specs.declared.limits.TheConstants.{MESSAGE_BYTES};
 ghost use Rattle.sysv_service.specs.Ran.{Pass as Seen};
+ghost use Rattle.sysv_service.specs.Seats.{AreOf};
 ghost use Rattle.sysv_wire.specs.Requests.{op_of};
 ghost use Rattle.sysv_session.specs.Answers.{MayAnswer};
 ghost use Rattle.sysv_seats.specs.HandlesKept.{KeepsHandles};
@@ -48,10 +49,10 @@ impl<'a, C: Clock, R: Wait> Keeper<'a, C, R> {
         }
     }
 
-    /// Ends the keeper, which holds nothing, and returns its pass.
+    /// Ends the keeper and returns its pass. A message that it holds is discarded.
     pub fn into_pass(self) -> Pass
-        requires { self.message ≡ None }
         ensures pass { result ≡ self.entry.handler.pass }
+        ensures fits { AreOf self.entry.handler.service.now result.seats }
     {
         let Keeper {
             handler,

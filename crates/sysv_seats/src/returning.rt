@@ -60,13 +60,6 @@ impl<'a, R: Wait> Keeper<'a, Zero, R> {
         self.settle_return(cred, request, length, progress, tools)
     }
 
-    /// Discards the message that is held, if there is one.
-    pub fn discard(&mut self)
-        ensures { (self.new.handler ≡ self.old.handler) × (self.new.message ≡ None) }
-    {
-        self.message = None;
-    }
-
     /// Takes note that the send of this request, which gives back the message, has come so far.
     /// Returns it if it waits.
     fn settle_return(
