@@ -194,7 +194,7 @@ row_has version (Ok row) = tt
 row_has version (Err why) = tt
 
 -- A caller that does not leave is told how each call ended.
-asks_replied : (may : ℕ → Type 0) (version : Version) (cred : Cred) (ask : Ask) (text : List ℕ) (before : Pass)
+pub asks_replied : (may : ℕ → Type 0) (version : Version) (cred : Cred) (ask : Ask) (text : List ℕ) (before : Pass)
     (outcome : RequestOutcome) (given : List ℕ) (after : Pass) →
     Asks may ⊥ version cred ask text before outcome given after →
     HasReply outcome

@@ -4,4 +4,5 @@ pub mod SendFrame
 pub mod HeldPieces
 pub mod ClientLemmas
 pub mod ClientSteps
+pub mod Returns
 pub mod Known

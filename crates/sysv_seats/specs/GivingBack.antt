@@ -1,10 +1,13 @@
 -- How the message that a session held at its end is given back (this project's profile): by a send of the
 -- same body with the same type to the same queue, without flags and with the session's credentials. It may
 -- wait like any send.
-use Rattle.std.specs.Prelude.{◌≡◌, ◌+◌, ℕ, Option, None, Some, length}
+use Rattle.std.specs.Prelude.{◌≡◌, ◌+◌, ℕ, Option, None, Some, false, length, ⊤}
 use Rattle.sysv_session.specs.declared.handler.RequestOutcome.{RequestOutcome}
 use Rattle.sysv_session.specs.declared.handler.RequestOutcome.TheVariants.{Left}
-use Rattle.sysv_session.specs.Answers.{IsReplied}
+use Rattle.sysv_session.specs.Answers.{IsReplied, is_message}
+use Rattle.sysv_model.specs.declared.cred.Cred.{Cred}
+use Rattle.sysv_service.specs.declared.progress.Progress.{Progress}
+use Rattle.sysv_service.specs.declared.progress.Progress.TheVariants as progress
 use Rattle.sysv_service.specs.Ran.{Pass}
 use Rattle.sysv_wire.specs.declared.frame.Version.TheVariants.{Three}
 use Rattle.sysv_wire.specs.declared.request.Ask.TheVariants.{Snd}
@@ -70,6 +73,24 @@ GoesBack before result after = ComesBack before.at before.message result after
 abbrev pub GoesBackOn : Holder Pass → Parked → Option Parked → Holder Pass → Type 0
 GoesBackOn before parked result after =
     (start : Pass) → WaitsBack start before parked → ComesBack start before.message result after
+
+-- ---- how far a return has come, by how far its send has come
+
+-- The send that waits, if it does.
+abbrev pub parked_by : Cred → Request → (length : ℕ) → Progress Waiting RequestOutcome → Option Parked
+parked_by cred request length (progress.Waits waiting) =
+    Some (record { cred = cred; request = request; waiting = waiting; length = length })
+parked_by cred request length (progress.Over outcome) = None
+
+-- What is still held.
+abbrev pub held_after : Option Message → Progress Waiting RequestOutcome → Option Message
+held_after held (progress.Waits waiting) = held
+held_after held (progress.Over outcome) = None
+
+-- The outcome, if the send is over, has no message.
+abbrev pub HasNoMessage : Progress Waiting RequestOutcome → Type 0
+HasNoMessage (progress.Waits waiting) = ⊤
+HasNoMessage (progress.Over outcome) = is_message outcome ≡ false
 
 -- A return that waits was left. What was held is not given back.
 abbrev pub EachReturnCanBeLeft : Type 0

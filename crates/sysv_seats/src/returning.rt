@@ -1,6 +1,7 @@
 //! Messages that are given back.
-ghost use Rattle.std.specs.Prelude.{◌≡◌, ◌≢◌, None, Some};
-ghost use Rattle.sysv_seats.specs.GivingBack.{GoesBack, GoesBackOn, IsReturning};
+ghost use Rattle.std.specs.Prelude.{◌≡◌, false};
+ghost use Rattle.sysv_session.specs.Answers.{is_message};
+ghost use Rattle.sysv_seats.specs.GivingBack.{GoesBack, GoesBackOn, HasNoMessage, IsReturning, held_after, parked_by};
 ghost use Rattle.sysv_seats.specs.HandlesKept.{KeepsHandles};
 ghost use Rattle.sysv_seats.specs.Held.{holder_of};
 
@@ -69,7 +70,12 @@ impl<'a, R: Wait> Keeper<'a, Zero, R> {
         length: usize,
         progress: Progress<Waiting, RequestOutcome>,
         tools: &mut Tools,
-    ) -> Option<Parked> {
+    ) -> Option<Parked>
+        requires { HasNoMessage progress }
+        ensures parked { result ≡ parked_by cred request length progress }
+        ensures message { self.new.message ≡ held_after self.old.message progress }
+        ensures handler { self.new.handler ≡ self.old.handler }
+    {
         match progress {
             Progress::Over(outcome) => {
                 tools.tell(Told::by_end(&request, &outcome));
@@ -91,7 +97,9 @@ impl<'a, R: Wait> Keeper<'a, Zero, R> {
 }
 
 /// Uses up the outcome of a send, which has no message.
-fn use_up(outcome: RequestOutcome) {
+fn use_up(outcome: RequestOutcome)
+    requires { is_message outcome ≡ false }
+{
     match outcome {
         RequestOutcome::Got(_delivery) => unreachable!(),
         RequestOutcome::Reply(_) | RequestOutcome::Left => {}

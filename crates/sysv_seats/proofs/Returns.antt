@@ -1,0 +1,58 @@
+-- What gives a message back is a send of it.
+use Rattle.std.proofs.Common.{◌≡◌, ◌∙◌, ℕ, ℤ, List, [], Option, None, Some, refl, sym, ap, subst, false}
+use Rattle.std.specs.Prelude.{⊤}
+use Rattle.sysv_model.specs.declared.flags.Flags.{Flags}
+use Rattle.sysv_session.specs.declared.handler.RequestOutcome.{RequestOutcome}
+use Rattle.sysv_session.specs.declared.handler.RequestOutcome.TheVariants.{Reply, Got, Left}
+use Rattle.sysv_session.specs.Answers.{is_message}
+use Rattle.sysv_service.specs.declared.progress.Progress.{Progress}
+use Rattle.sysv_service.specs.declared.progress.Progress.TheVariants as progress
+use Rattle.sysv_service.specs.Ran.{Pass}
+use Rattle.sysv_wire.specs.declared.frame.Version.{Version}
+use Rattle.sysv_wire.specs.declared.frame.Version.TheVariants.{Three}
+use Rattle.sysv_wire.specs.declared.request.Ask.TheVariants.{Snd}
+use Rattle.sysv_seats.specs.declared.parked.Parked.{Parked}
+use Rattle.sysv_seats.specs.declared.waiting.Waiting.{Waiting}
+use Rattle.sysv_seats.specs.GivingBack.{ComesBack, EachReturnCanBeLeft, HasNoMessage, IsReturn, WaitsBack, held_after, parked_by}
+use Rattle.sysv_seats.specs.GivingBack.{return_at, return_length, return_of}
+use Rattle.sysv_seats.specs.Holding.{Holder, Message, no_flags}
+use Rattle.sysv_seats.specs.InPieces.{asks_any, left}
+use Rattle.sysv_seats.specs.Parked.{HasBegun, IsParked, MayProgress}
+use Rattle.sysv_seats.specs.Sits.{zero_moment}
+use Rattle.sysv_seats.proofs.ClientSteps.{asks_replied}
+
+-- The send of a message has come so far.
+pub comes_back : (message : Message) (start : Pass) (came : Progress Waiting RequestOutcome) (given : List ℕ)
+    (after : Pass) →
+    HasBegun zero_moment Three message.cred (Snd message.id message.mtype no_flags) message.text start came given after →
+    ComesBack start (Some message) (parked_by message.cred (return_of message) (return_length message) came)
+    (record { at = after; message = held_after (Some message) came })
+comes_back message start (progress.Waits waiting) given after begun =
+    ((message, waiting, refl, refl, begun.0), refl)
+comes_back message start (progress.Over outcome) given after begun = (
+  outcome,
+  asks_replied zero_moment Three message.cred (Snd message.id message.mtype no_flags) message.text start outcome given
+      after begun,
+  (asks_any zero_moment Three message.cred ⊤ (Snd message.id message.mtype no_flags) message.text start outcome given
+      after begun).0,
+  refl,
+)
+
+-- A send has no message.
+pub no_message : (version : Version) (id mtype : ℤ) (flags : Flags) (came : Progress Waiting RequestOutcome)
+    (given : List ℕ) → MayProgress version (Snd id mtype flags) came given → HasNoMessage came
+no_message version id mtype flags (progress.Waits waiting) given answers = tt
+no_message version id mtype flags (progress.Over (Reply reply)) given answers = refl
+no_message version id mtype flags (progress.Over (Got delivery)) given answers = absurd (cc answers.0)
+no_message version id mtype flags (progress.Over Left) given answers = refl
+
+-- One message is held.
+one_message : (held : Option Message) (a b : Message) → held ≡ Some a → held ≡ Some b → a ≡ b
+one_message held a b first second = cc
+
+-- A return that waits can be left.
+pub returns_left : EachReturnCanBeLeft
+returns_left start now parked held is (message, waiting, same, parks, waits) =
+    subst (λ (m : Message). IsReturn m start Left now.at) (one_message now.message message held same is)
+    (left zero_moment Three message.cred ⊤ (Snd message.id message.mtype no_flags) message.text start waiting now.at tt
+    waits).0
