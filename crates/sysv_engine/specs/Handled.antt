@@ -21,6 +21,8 @@ use Rattle.sysv_seats.specs.Holding.{Holder}
 use Rattle.sysv_seats.specs.Notification.{is_refusal}
 use Rattle.sysv_thread_laws.specs.Order.{Called}
 use Rattle.sysv_engine.specs.Made.{log}
+use Rattle.sysv_engine.specs.Fated.{both}
+use Rattle.sysv_engine.specs.declared.fates.Fates.{Fates}
 use Rattle.sysv_engine.specs.declared.sums.Sums.{Sums}
 use Rattle.sysv_engine.specs.Added.{added, all_added, capped, one_session}
 use Rattle.sysv_engine.specs.Converses.{Dialogue, Converses, ConversesIn, IsOn, IsReturned, Closes, Talks, tally_of}
@@ -70,57 +72,6 @@ refused_of told = capped (sum_by one_refused told)
 abbrev pub cut_off_of : List (Option Served) → ℕ
 cut_off_of told = sum_by one_cut_off told
 
-module _ {T B : Type 0} (incoming outgoing : T → Option (List ℕ)) (closes : Closing T B) where
-  -- One session with this report was held on the connection, which was then closed. It may have held a message
-  -- at its end. What gives that back has come so far: it is `back`.
-  pub record Holds (newest : Version) (connection : T) (before : Pass) (book : B) (told : Option Served)
-      (back : Option RequestOutcome) (after : Holder Pass) (book' : B) : Type 0 where
-    pub dialogue : Dialogue
-    pub reports : dialogue.told ≡ told
-    pub returns : dialogue.back ≡ back
-    pub dialogues : Talks newest before dialogue after
-    pub on : IsOn incoming outgoing closes connection dialogue
-    pub closed : Closes closes book dialogue book'
-
-  -- One more session was held, on this connection, and it was added to the sums.
-  pub record Leaves (newest : Version) (connection : T) (before : Pass) (sums : Sums) (refused : ℕ) (book : B)
-      (back : Option RequestOutcome) (after : Holder Pass) (sums' : Sums) (refused' : ℕ) (book' : B) : Type 0 where
-    pub told : Option Served
-    pub holds : Holds newest connection before book told back after book'
-    pub adds : sums' ≡ added sums (one_session (tally_of told))
-    pub counts : refused' ≡ capped (refused + one_refused told)
-
-  -- The same, and the message that the session held at its end was given back, if it held one.
-  pub record Handles (newest : Version) (connection : T) (before : Pass) (sums : Sums) (refused : ℕ) (book : B)
-      (after : Pass) (sums' : Sums) (refused' : ℕ) (book' : B) : Type 0 where
-    pub back : Option RequestOutcome
-    pub mid : Holder Pass
-    pub leaves : Leaves newest connection before sums refused book back mid sums' refused' book'
-    pub gives : GivesBack mid back after
-    pub ended : IfSome back IsReplied
-
--- The messages that these sessions held at their ends were given back, each before the next session. That of
--- the last one may still wait.
-abbrev pub AreReturned : List Dialogue → Type 0
-AreReturned [] = ⊤
-AreReturned (last ∷ []) = ⊤
-AreReturned (dialogue ∷ next ∷ more) = IsReturned dialogue × AreReturned (next ∷ more)
-
--- One place: the newest version that its sessions read, the pass with which it began, its sessions in order,
--- and the pass with which it ended. Each session begins with the pass with which the session before it and the
--- return of what that session held ended.
-pub record Shift : Type 0 where
-  pub newest : Version
-  pub before : Pass
-  pub dialogues : List Dialogue
-  pub after : Pass
-  pub worked : FoldsTo (Converses newest) before dialogues after
-  pub returned : AreReturned dialogues
-
--- The newest version that sessions read which may hold messages, or may not.
-abbrev pub newest_of : Bool → Version
-newest_of holds = cond holds Three Two
-
 -- ---- what became of the messages that sessions held at their ends
 
 -- The send that gave a message back was accepted.
@@ -146,20 +97,66 @@ is_unsent (Reply reply) = false
 is_unsent (Got delivery) = false
 is_unsent WasLeft = true
 
--- What was given back by these sessions. Any other refusal is one for permissions or because the service ends.
-pub record Fates : Type 0 where
-  pub sent : ℕ
-  pub discarded : ℕ
-  pub refused : ℕ
-  pub unsent : ℕ
-
+-- What became of the messages with these returns.
 abbrev pub fates_of : List RequestOutcome → Fates
 fates_of backs = record {
-  sent = count_by is_sent backs;
-  discarded = count_by is_discarded backs;
-  refused = count_by (λ back. not (is_sent back || (is_discarded back || is_unsent back))) backs;
-  unsent = count_by is_unsent backs;
+  sent = capped (count_by is_sent backs);
+  discarded = capped (count_by is_discarded backs);
+  refused = capped (count_by (λ back. not (is_sent back || (is_discarded back || is_unsent back))) backs);
+  unsent = capped (count_by is_unsent backs);
 }
+
+module _ {T B : Type 0} (incoming outgoing : T → Option (List ℕ)) (closes : Closing T B) where
+  -- One session with this report was held on the connection, which was then closed. It may have held a message
+  -- at its end. What gives that back has come so far: it is `back`.
+  pub record Holds (newest : Version) (connection : T) (before : Pass) (book : B) (told : Option Served)
+      (back : Option RequestOutcome) (after : Holder Pass) (book' : B) : Type 0 where
+    pub dialogue : Dialogue
+    pub reports : dialogue.told ≡ told
+    pub returns : dialogue.back ≡ back
+    pub dialogues : Talks newest before dialogue after
+    pub on : IsOn incoming outgoing closes connection dialogue
+    pub closed : Closes closes book dialogue book'
+
+  -- One more session was held, on this connection, and it was added to the sums.
+  pub record Leaves (newest : Version) (connection : T) (before : Pass) (sums : Sums) (refused : ℕ) (book : B)
+      (back : Option RequestOutcome) (after : Holder Pass) (sums' : Sums) (refused' : ℕ) (book' : B) : Type 0 where
+    pub told : Option Served
+    pub holds : Holds newest connection before book told back after book'
+    pub adds : sums' ≡ added sums (one_session (tally_of told))
+    pub counts : refused' ≡ capped (refused + one_refused told)
+
+  -- The same, and the message that the session held at its end was given back, if it held one.
+  pub record Handles (newest : Version) (connection : T) (before : Pass) (sums : Sums) (refused : ℕ) (fates : Fates)
+      (book : B) (after : Pass) (sums' : Sums) (refused' : ℕ) (fates' : Fates) (book' : B) : Type 0 where
+    pub back : Option RequestOutcome
+    pub mid : Holder Pass
+    pub leaves : Leaves newest connection before sums refused book back mid sums' refused' book'
+    pub gives : GivesBack mid back after
+    pub ended : IfSome back IsReplied
+    pub fated : fates' ≡ both fates (fates_of (option_to_list back))
+
+-- The messages that these sessions held at their ends were given back, each before the next session. That of
+-- the last one may still wait.
+abbrev pub AreReturned : List Dialogue → Type 0
+AreReturned [] = ⊤
+AreReturned (last ∷ []) = ⊤
+AreReturned (dialogue ∷ next ∷ more) = IsReturned dialogue × AreReturned (next ∷ more)
+
+-- One place: the newest version that its sessions read, the pass with which it began, its sessions in order,
+-- and the pass with which it ended. Each session begins with the pass with which the session before it and the
+-- return of what that session held ended.
+pub record Shift : Type 0 where
+  pub newest : Version
+  pub before : Pass
+  pub dialogues : List Dialogue
+  pub after : Pass
+  pub worked : FoldsTo (Converses newest) before dialogues after
+  pub returned : AreReturned dialogues
+
+-- The newest version that sessions read which may hold messages, or may not.
+abbrev pub newest_of : Bool → Version
+newest_of holds = cond holds Three Two
 
 -- The outcomes of what gave messages back, of the sessions of all places.
 abbrev pub backs_in : List Shift → List RequestOutcome

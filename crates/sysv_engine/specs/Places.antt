@@ -1,7 +1,7 @@
 -- The places of a worker (this project's profile). A worker of a server has several places, each
 -- with a pass of its own. A place has one client after another.
 use Rattle.std.specs.Prelude.{◌≡◌, ℕ, List, [], ◌∷◌, ◌++◌, ◌<◌, ◌≤◌, length, Option, None, Some}
-use Rattle.std.specs.Prelude.{Bool, true, is_some, not, ◌||◌, ◌&&◌, slice_index_or}
+use Rattle.std.specs.Prelude.{Bool, true, cond, is_some, not, ◌||◌, ◌&&◌, slice_index_or}
 use Rattle.std.specs.List.{FoldsTo}
 use Rattle.sysv_bank.specs.Banks.{Each2}
 use Rattle.sysv_service.specs.Ran.{Pass}
@@ -13,6 +13,8 @@ use Rattle.sysv_seats.specs.Holding.{Holder, Message}
 use Rattle.sysv_seats.specs.Sits.{Sits, Sitting}
 use Rattle.sysv_seats.specs.Untold.{Closing}
 use Rattle.sysv_engine.specs.declared.sums.Sums.{Sums}
+use Rattle.sysv_engine.specs.Fated.{none_fated, with_unsent}
+use Rattle.sysv_engine.specs.declared.fates.Fates.{Fates}
 use Rattle.sysv_engine.specs.Handled.{Handles, Leaves}
 use Rattle.sysv_engine.specs.Serving.{IsNew}
 
@@ -51,6 +53,7 @@ pub record View (B : Type 0) : Type 0 where
   pub newest : Version
   pub sums : Sums
   pub refused : ℕ
+  pub fates : Fates
   pub book : B
 
 -- The same place with this pass.
@@ -60,6 +63,7 @@ with_pass pass view = record {
   newest = view.newest;
   sums = view.sums;
   refused = view.refused;
+  fates = view.fates;
   book = view.book;
 }
 
@@ -67,13 +71,13 @@ module _ {T B : Type 0} (incoming outgoing : T → Option (List ℕ)) (closes : 
   -- The place had one more session, on this connection, and what the session held was given back.
   abbrev pub Handled : View B → T → View B → Type 0
   Handled old connection new = (new.newest ≡ old.newest)
-      × Handles incoming outgoing closes old.newest connection old.pass old.sums old.refused old.book
-      new.pass new.sums new.refused new.book
+      × Handles incoming outgoing closes old.newest connection old.pass old.sums old.refused old.fates old.book
+      new.pass new.sums new.refused new.fates new.book
 
   -- The place had one more session, on this connection, which left the pass `after` and a message. What gives
   -- the message back has not ended.
   abbrev pub HasLeft : View B → T → Holder Pass → View B → Type 0
-  HasLeft old connection after new = (new.newest ≡ old.newest)
+  HasLeft old connection after new = (new.newest ≡ old.newest) × (new.fates ≡ old.fates)
       × Leaves incoming outgoing closes old.newest connection old.pass old.sums old.refused old.book None after new.sums
       new.refused new.book
 
@@ -107,6 +111,7 @@ pub record Seated (B T : Type 0) : Type 0 where
   pub newest : Version
   pub sums : Sums
   pub refused : ℕ
+  pub fates : Fates
   pub book : B
   pub client : Option (Sitting T)
   pub message : Option Message
@@ -118,8 +123,14 @@ view_of place = record {
   newest = place.newest;
   sums = place.sums;
   refused = place.refused;
+  fates = place.fates;
   book = place.book;
 }
+
+-- What became of the messages that the sessions of a place held, once the place is ended. A message that is still held
+-- is lost.
+abbrev pub fates_at_end : {B T : Type 0} → Seated B T → Fates
+fates_at_end place = cond (is_some place.message) (with_unsent place.fates) place.fates
 
 -- The place, taken by this client.
 abbrev pub taken_by : {B T : Type 0} → Sitting T → Seated B T → Seated B T
@@ -129,6 +140,7 @@ taken_by client place = record {
   newest = place.newest;
   sums = place.sums;
   refused = place.refused;
+  fates = place.fates;
   book = place.book;
   client = Some client;
   message = place.message;
@@ -193,5 +205,5 @@ IsVacantAt {B} {T} at places =
 -- it yet.
 abbrev pub IsOpened : {B T : Type 0} → Gates → Version → Seated B T → Type 0
 IsOpened gates newest place = (place.gates ≡ gates) × (place.newest ≡ newest)
-    × IsNew gates place.pass place.sums place.refused × (place.client ≡ None) × (place.message ≡ None)
+    × IsNew gates place.pass place.sums place.refused × (place.fates ≡ none_fated) × (place.client ≡ None) × (place.message ≡ None)
     × (place.returning ≡ None)

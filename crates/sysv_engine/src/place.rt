@@ -3,10 +3,12 @@ ghost use Rattle.std.specs.Prelude.{◌≡◌, ◌+◌, None, Some, IfSome, is_s
 ghost use Rattle.sysv_service.specs.Seats.{AreOf};
 ghost use Rattle.sysv_seats.specs.Sits.{Keeps, is_finished};
 ghost use Rattle.sysv_engine.specs.Added.{added, capped, nothing, one_session};
+ghost use Rattle.sysv_engine.specs.Fated.{none_fated};
 ghost use Rattle.sysv_engine.specs.Handled.{one_refused};
-ghost use Rattle.sysv_engine.specs.Places.{KeepsPlace, TakesIn, has_ended, is_vacant, taken_by};
+ghost use Rattle.sysv_engine.specs.Places.{KeepsPlace, TakesIn, fates_at_end, has_ended, is_vacant, taken_by};
 
 use crate::awaited::key_of;
+use crate::fates::Fates;
 use crate::moment::Moment;
 use crate::sums::Sums;
 use crate::terms::Patience;
@@ -17,7 +19,7 @@ use std::marker::Model;
 use std::sync::Wait;
 use sysv_parking::Key;
 use sysv_seats::{
-    Client, Keeper, Limit, NonBlocking, Parked, ServiceHandler, Tools, ZERO, Zero,
+    Client, Keeper, Limit, NonBlocking, Parked, Return, ServiceHandler, Tools, ZERO, Zero,
 };
 use sysv_service::{Pass, Service};
 use sysv_session::{End, Served};
@@ -35,6 +37,7 @@ pub(crate) struct Place<'a, R: Wait, T: NonBlocking> {
     returning: Option<Parked>,
     sums: Sums,
     refused: u64,
+    fates: Fates,
     book: T::Book,
     times: Times,
     /// Whether the place is in the line of those that have more to do.
@@ -62,6 +65,7 @@ impl<'a, R: Wait, T: NonBlocking> Model for Place<'a, R, T> {
       newest = p.newest;
       sums = p.sums;
       refused = p.refused;
+      fates = p.fates;
       book = p.book;
       client = p.client;
       message = p.handler.message;
@@ -90,6 +94,7 @@ impl<'a, R: Wait, T: NonBlocking> Place<'a, R, T> {
           newest = newest;
           sums = nothing;
           refused = 0;
+          fates = none_fated;
           book = book;
           client = None;
           message = None;
@@ -106,6 +111,7 @@ impl<'a, R: Wait, T: NonBlocking> Place<'a, R, T> {
             returning: None,
             sums: Sums::open(),
             refused: 0,
+            fates: Fates::open(),
             book,
             times: Times::new(),
             in_turns: false,
@@ -118,11 +124,13 @@ impl<'a, R: Wait, T: NonBlocking> Place<'a, R, T> {
     }
 
     /// Returns the pass of a place without a client, its sums, the number of its sessions whose
-    /// memory was refused, and its book. If a message still waits to be given back, it is discarded.
-    pub(crate) fn into_parts(self) -> (Pass, Sums, u64, T::Book)
+    /// memory was refused, what became of the messages that they held, and its book. A message that
+    /// still waits to be given back is discarded.
+    pub(crate) fn into_parts(self) -> (Pass, Sums, u64, Fates, T::Book)
         requires { self.client ≡ None }
         ensures parts { (result.0 ≡ self.entry.pass) × (result.1 ≡ self.entry.sums)
-            × (result.2 ≡ self.entry.refused) × (result.3 ≡ self.entry.book) }
+            × (result.2 ≡ self.entry.refused) × (result.3 ≡ fates_at_end self.entry)
+            × (result.4 ≡ self.entry.book) }
         ensures fits { AreOf self.entry.gates result.0.seats }
     {
         let Place {
@@ -131,6 +139,7 @@ impl<'a, R: Wait, T: NonBlocking> Place<'a, R, T> {
             returning: _,
             sums,
             refused,
+            mut fates,
             book,
             times: _,
             in_turns: _,
@@ -142,7 +151,12 @@ impl<'a, R: Wait, T: NonBlocking> Place<'a, R, T> {
         } = self;
         match client {
             Some(_) => unreachable!(),
-            None => (handler.into_pass(), sums, refused, book),
+            None => {
+                if handler.has_message() {
+                    fates.count_unsent();
+                }
+                (handler.into_pass(), sums, refused, fates, book)
+            }
         }
     }
 
@@ -206,8 +220,19 @@ impl<'a, R: Wait, T: NonBlocking> Place<'a, R, T> {
     {
         if self.client.is_none() && self.returning.is_none() {
             self.returns = self.handler.has_message();
-            self.returning = self.handler.give_back(tools);
+            let came = self.handler.give_back(tools);
+            self.note_return(came);
             self.count_hold(tools);
+        }
+    }
+
+    /// Takes note of how far the return of the message has come.
+    fn note_return(&mut self, came: Return) {
+        self.returning = None;
+        match came {
+            Return::Nothing => {}
+            Return::Waits(parked) => self.returning = Some(parked),
+            Return::Over(fate) => self.fates.count(fate),
         }
     }
 
@@ -266,7 +291,7 @@ impl<'a, R: Wait, T: NonBlocking> Place<'a, R, T> {
         ensures same { (self.new.gates ≡ self.old.gates) × (self.new.pass ≡ self.old.pass)
             × (self.new.book ≡ self.old.book) × (self.new.client ≡ self.old.client)
             × (self.new.newest ≡ self.old.newest) × (self.new.message ≡ self.old.message)
-            × (self.new.returning ≡ self.old.returning) }
+            × (self.new.returning ≡ self.old.returning) × (self.new.fates ≡ self.old.fates) }
     {
         self.sums.add(Sums::of(&served.tally));
         self.refused = self.refused.saturating_add(refusals(served));
@@ -313,7 +338,8 @@ impl<'a, R: Wait, T: NonBlocking> Place<'a, R, T> {
         if let Some(client) = &mut self.client {
             client.go_on(&mut self.handler, tools);
         } else if let Some(parked) = self.returning {
-            self.returning = self.handler.give_back_on(parked, tools);
+            let came = self.handler.give_back_on(parked, tools);
+            self.note_return(came);
         }
         self.count_hold(tools);
     }

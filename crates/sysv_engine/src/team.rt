@@ -4,8 +4,10 @@ ghost use Rattle.std.specs.List.{All, FoldsTo, list_all, sum_by};
 ghost use Rattle.sysv_service.specs.Seats.{AreOf};
 ghost use Rattle.sysv_thread_laws.specs.Hiring.{Gives, TakesIn};
 ghost use Rattle.sysv_engine.specs.Added.{all_added, capped};
-ghost use Rattle.sysv_engine.specs.Places.{IsOpened, KeepsAll, has_ended};
+ghost use Rattle.sysv_engine.specs.Fated.{all_fates};
+ghost use Rattle.sysv_engine.specs.Places.{IsOpened, KeepsAll, fates_at_end, has_ended};
 
+use crate::fates::Fates;
 use crate::moment::pause;
 use crate::place::Place;
 use crate::sums::Sums;
@@ -108,14 +110,14 @@ fn are_ended<R: Wait, T: NonBlocking>(places: &[Place<'_, R, T>]) -> bool
 }
 
 /// Joins the passes of all these places, which have no clients, into `pass`, and puts their books into
-/// `books`. Returns the sum of their sums, and the number of their sessions whose memory was
-/// refused.
+/// `books`. Returns the sum of their sums, the number of their sessions whose memory was refused, and
+/// what became of the messages that these held.
 pub(crate) fn dismiss<R: Wait, T: NonBlocking>(
     service: &Service,
     pass: &mut Pass,
     places: Vec<Place<'_, R, T>>,
     books: &mut Vec<T::Book>,
-) -> (Sums, u64)
+) -> (Sums, u64, Fates)
     requires pass { AreOf service.now pass.old.seats }
     requires places { All (λ p. p.gates ≡ service.now) places.items }
     requires ended { All (λ p. has_ended p ≡ true) places.items }
@@ -123,6 +125,7 @@ pub(crate) fn dismiss<R: Wait, T: NonBlocking>(
     ensures pass { AreOf service.now pass.new.seats }
     ensures sums { result.0 ≡ all_added (map (λ p. p.sums) places.entry.items) }
     ensures refused { result.1 ≡ capped (sum_by (λ p. p.refused) places.entry.items) }
+    ensures fates { result.2 ≡ all_fates (map fates_at_end places.entry.items) }
     ensures books { books.new.items
         ≡ books.old.items ++ reverse (map (λ p. p.book) places.entry.items) }
     ensures takes { FoldsTo TakesIn pass.old
@@ -131,13 +134,15 @@ pub(crate) fn dismiss<R: Wait, T: NonBlocking>(
     let mut places = places;
     let mut sums = Sums::open();
     let mut refused: u64 = 0;
+    let mut fates = Fates::open();
     while let Some(place) = places.pop() {
-        let (theirs, more, missed, book) = place.into_parts();
+        let (theirs, more, missed, returned, book) = place.into_parts();
         service.join_pass(pass, theirs);
         sums.add(more);
         refused = refused.saturating_add(missed);
+        fates.add(returned);
         books.push_reserved(book);
     }
     places.destroy_empty();
-    (sums, refused)
+    (sums, refused, fates)
 }

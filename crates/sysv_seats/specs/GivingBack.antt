@@ -3,7 +3,14 @@
 -- wait like any send.
 use Rattle.std.specs.Prelude.{◌≡◌, ◌+◌, ℕ, Option, None, Some, false, length, ⊤}
 use Rattle.sysv_session.specs.declared.handler.RequestOutcome.{RequestOutcome}
-use Rattle.sysv_session.specs.declared.handler.RequestOutcome.TheVariants.{Left}
+use Rattle.sysv_session.specs.declared.handler.RequestOutcome.TheVariants.{Reply, Got, Left}
+use Rattle.sysv_model.specs.declared.errno.Errno.TheVariants.{EINVAL, EIDRM}
+use Rattle.sysv_wire.specs.declared.reply.ReplyContent.{ReplyContent}
+use Rattle.sysv_wire.specs.declared.reply.ReplyContent.TheVariants as content
+use Rattle.sysv_seats.specs.declared.returning.Fate.{Fate}
+use Rattle.sysv_seats.specs.declared.returning.Fate.TheVariants as fate
+use Rattle.sysv_seats.specs.declared.returning.Return.{Return}
+use Rattle.sysv_seats.specs.declared.returning.Return.TheVariants as come
 use Rattle.sysv_session.specs.Answers.{IsReplied, is_message}
 use Rattle.sysv_model.specs.declared.cred.Cred.{Cred}
 use Rattle.sysv_service.specs.declared.progress.Progress.{Progress}
@@ -57,30 +64,43 @@ WaitsBack start now parked = (message : Message) × (waiting : Waiting) × (now.
 abbrev pub IsReturning : Holder Pass → Parked → Type 0
 IsReturning now parked = (start : Pass) × WaitsBack start now parked
 
+-- What became of a message whose send has this outcome. Its queue is gone if the identifier is none or was removed.
+-- A send that was left or that is refused for another reason loses the message.
+abbrev pub fate_by : ReplyContent → Fate
+fate_by (content.Refused EINVAL) = fate.Discarded
+fate_by (content.Refused EIDRM) = fate.Discarded
+fate_by (content.Refused why) = fate.Refused
+fate_by answer = fate.Sent
+
+abbrev pub fate_of : RequestOutcome → Fate
+fate_of (Reply reply) = fate_by reply.result
+fate_of (Got delivery) = fate.Refused
+fate_of Left = fate.Refused
+
 -- The return of what was held with the pass `start` has come so far: it waits, or it is over, and nothing is
 -- held.
-abbrev pub ComesBack : (start : Pass) → Option Message → Option Parked → Holder Pass → Type 0
-ComesBack start held (Some parked) after = WaitsBack start after parked × (after.message ≡ held)
-ComesBack start None None after = (after.at ≡ start) × (after.message ≡ None)
-ComesBack start (Some message) None after = (outcome : RequestOutcome) × IsReplied outcome
-    × IsReturn message start outcome after.at × (after.message ≡ None)
+abbrev pub ComesBack : (start : Pass) → Option Message → Return → Holder Pass → Type 0
+ComesBack start held (come.Waits parked) after = WaitsBack start after parked × (after.message ≡ held)
+ComesBack start held come.Nothing after = (held ≡ None) × (after.at ≡ start) × (after.message ≡ None)
+ComesBack start held (come.Over what) after = (message : Message) × (held ≡ Some message)
+    × (outcome : RequestOutcome) × IsReplied outcome × IsReturn message start outcome after.at × (what ≡ fate_of outcome)
+    × (after.message ≡ None)
 
 -- The return was begun.
-abbrev pub GoesBack : Holder Pass → Option Parked → Holder Pass → Type 0
+abbrev pub GoesBack : Holder Pass → Return → Holder Pass → Type 0
 GoesBack before result after = ComesBack before.at before.message result after
 
 -- The return that waited went on, or waits as before.
-abbrev pub GoesBackOn : Holder Pass → Parked → Option Parked → Holder Pass → Type 0
+abbrev pub GoesBackOn : Holder Pass → Parked → Return → Holder Pass → Type 0
 GoesBackOn before parked result after =
     (start : Pass) → WaitsBack start before parked → ComesBack start before.message result after
 
 -- ---- how far a return has come, by how far its send has come
 
--- The send that waits, if it does.
-abbrev pub parked_by : Cred → Request → (length : ℕ) → Progress Waiting RequestOutcome → Option Parked
-parked_by cred request length (progress.Waits waiting) =
-    Some (record { cred = cred; request = request; waiting = waiting; length = length })
-parked_by cred request length (progress.Over outcome) = None
+abbrev pub return_by : Cred → Request → (length : ℕ) → Progress Waiting RequestOutcome → Return
+return_by cred request length (progress.Waits waiting) =
+    come.Waits (record { cred = cred; request = request; waiting = waiting; length = length })
+return_by cred request length (progress.Over outcome) = come.Over (fate_of outcome)
 
 -- What is still held.
 abbrev pub held_after : Option Message → Progress Waiting RequestOutcome → Option Message

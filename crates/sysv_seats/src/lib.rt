@@ -33,6 +33,7 @@ pub use memory_stream::{MemoryStream, Step};
 pub use non_blocking::{Drained, Filled, NonBlocking, Over};
 pub use notification::Notification;
 pub use parked::Parked;
+pub use returning::{Fate, Return};
 pub use send_frame::snd_text;
 pub use socket_stream::SocketStream;
 pub use tools::Tools;

@@ -483,6 +483,7 @@ fn ends_as<R: Threads + Wait + Net + Files + Abort + Clock + Sync>(
         },
         drain: 60,
         stats: matches!(clients, Clients::Looking),
+        hold: false,
     };
     let first = ended(rt, alloc, terms, clients);
     if matches!(&first.0.0, Err(ServeFault::NoMemory | ServeFault::Thread)) {
@@ -582,6 +583,7 @@ fn a_server_without_a_listener_serves_nobody(rt: HostRuntime) {
         patience: Patience::UNBOUNDED,
         drain: 0,
         stats: false,
+        hold: false,
     };
     let mut reason = None;
     let end = serve_listener(
