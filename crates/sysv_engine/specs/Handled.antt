@@ -160,7 +160,8 @@ newest_of holds = cond holds Three Two
 
 -- The outcomes of what gave messages back, of the sessions of all places.
 abbrev pub backs_in : List Shift → List RequestOutcome
-backs_in shifts = flat_map (λ (shift : Shift). flat_map (λ (d : Dialogue). option_to_list d.back) shift.dialogues) shifts
+backs_in shifts = flat_map (λ (shift : Shift). flat_map (λ (d : Dialogue). option_to_list d.back) shift.dialogues)
+    shifts
 
 -- The passes with which the places began.
 abbrev pub first_passes : List Shift → List Pass

@@ -205,5 +205,6 @@ IsVacantAt {B} {T} at places =
 -- it yet.
 abbrev pub IsOpened : {B T : Type 0} → Gates → Version → Seated B T → Type 0
 IsOpened gates newest place = (place.gates ≡ gates) × (place.newest ≡ newest)
-    × IsNew gates place.pass place.sums place.refused × (place.fates ≡ none_fated) × (place.client ≡ None) × (place.message ≡ None)
+    × IsNew gates place.pass place.sums place.refused × (place.fates ≡ none_fated) × (place.client ≡ None) ×
+        (place.message ≡ None)
     × (place.returning ≡ None)

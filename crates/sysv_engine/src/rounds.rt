@@ -377,11 +377,7 @@ impl<'a, 'c, R: Wait> Serving<'a, 'c, R> {
     }
 
     /// Begins to give back the message that a client held which was closed.
-    fn give_back<T: NonBlocking, W: Watch<T>>(
-        &self,
-        worker: &mut Worker<'a, R, T, W>,
-        place: usize,
-    )
+    fn give_back<T: NonBlocking, W: Watch<T>>(&self, worker: &mut Worker<'a, R, T, W>, place: usize)
         ensures keeps { KeepsAll T.incoming T.outgoing T.closes worker.old.places.items
             worker.new.places.items }
         ensures moves { MovesOnly place worker.old.agenda.parking worker.new.agenda.parking }

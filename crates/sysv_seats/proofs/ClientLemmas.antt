@@ -235,7 +235,8 @@ module _ {T : Type 0} (incoming outgoing : T → Option (List ℕ)) where
   }
 
   -- One event after another.
-  pub keeps_on : (old : Sitting T) (before : Holder Pass) (mid : Sitting T) (between : Holder Pass) (new : Sitting T) (after : Holder Pass) →
+  pub keeps_on : (old : Sitting T) (before : Holder Pass) (mid : Sitting T) (between : Holder Pass)
+      (new : Sitting T) (after : Holder Pass) →
       KeepsWith incoming outgoing old before mid between → KeepsWith incoming outgoing mid between new after →
       KeepsWith incoming outgoing old before new after
   keeps_on old before mid between new after first second =
@@ -246,7 +247,8 @@ module _ {T : Type 0} (incoming outgoing : T → Option (List ℕ)) where
       Keeps incoming outgoing old new
   keeps_from old client new is keeps = subst (λ (c : Sitting T). Keeps incoming outgoing c new) is keeps
 
-  pub keeps_with_from : (old client : Sitting T) (before : Holder Pass) (new : Sitting T) (after : Holder Pass) → client ≡ old →
+  pub keeps_with_from : (old client : Sitting T) (before : Holder Pass) (new : Sitting T) (after : Holder Pass) →
+      client ≡ old →
       KeepsWith incoming outgoing client before new after → KeepsWith incoming outgoing old before new after
   keeps_with_from old client before new after is keeps =
       subst (λ (c : Sitting T). KeepsWith incoming outgoing c before new after) is keeps
@@ -261,25 +263,30 @@ module _ {T : Type 0} (incoming outgoing : T → Option (List ℕ)) where
 
   -- ---- a client that is free
 
-  is_ready : (newest : Version) (start : Pass) (origin : T) (client : Sitting T) (now : Holder Pass) (sent : List ℕ) → IsFree client →
+  is_ready : (newest : Version) (start : Pass) (origin : T) (client : Sitting T) (now : Holder Pass)
+      (sent : List ℕ) → IsFree client →
       IsAt incoming outgoing newest start origin client now sent client.parked client.stopped →
       IsReady incoming outgoing newest start origin client now sent
   is_ready newest start origin client now sent free at =
-      subst₂ (λ (p : Option Parked) (s : Option End). IsAt incoming outgoing newest start origin client now sent p s) free.0
+      subst₂ (λ (p : Option Parked) (s : Option End). IsAt incoming outgoing newest start origin client now sent p
+          s) free.0
       free.1 at
 
-  is_at : (newest : Version) (start : Pass) (origin : T) (client : Sitting T) (now : Holder Pass) (sent : List ℕ) → IsFree client →
+  is_at : (newest : Version) (start : Pass) (origin : T) (client : Sitting T) (now : Holder Pass) (sent : List ℕ) →
+      IsFree client →
       IsReady incoming outgoing newest start origin client now sent →
       IsAt incoming outgoing newest start origin client now sent client.parked client.stopped
   is_at newest start origin client now sent free ready =
       subst₂ (λ (p : Option Parked) (s : Option End). IsAt incoming outgoing newest start origin client now sent p s)
       (sym free.0) (sym free.1) ready
 
-  is_stopped : (newest : Version) (start : Pass) (origin : T) (client : Sitting T) (now : Holder Pass) (sent : List ℕ) (why : End) →
+  is_stopped : (newest : Version) (start : Pass) (origin : T) (client : Sitting T) (now : Holder Pass)
+      (sent : List ℕ) (why : End) →
       client.parked ≡ None → HasStopped incoming outgoing newest start origin client now sent why →
       IsAt incoming outgoing newest start origin client now sent client.parked (Some why)
   is_stopped newest start origin client now sent why none stopped =
-      subst (λ (p : Option Parked). IsAt incoming outgoing newest start origin client now sent p (Some why)) (sym none) stopped
+      subst (λ (p : Option Parked). IsAt incoming outgoing newest start origin client now sent p (Some why))
+          (sym none) stopped
 
   -- The connection cannot be read.
   read_at : (newest : Version) (start : Pass) (origin : T) (client : Sitting T) (now : Holder Pass) (sent : List ℕ) →
@@ -298,7 +305,8 @@ module _ {T : Type 0} (incoming outgoing : T → Option (List ℕ)) where
     sent = sits.sent;
     wrote = sits.wrote;
     at = is_stopped newest start origin (stopped_for (Fault Read) client) now sits.sent (Fault Read) free.0
-        (read_at newest start origin client now sits.sent (is_ready newest start origin client now sits.sent free sits.at));
+        (read_at newest start origin client now sits.sent (is_ready newest start origin client now sits.sent free
+            sits.at));
   }
 
   -- The client has reset the connection.
@@ -318,7 +326,8 @@ module _ {T : Type 0} (incoming outgoing : T → Option (List ℕ)) where
     sent = sits.sent;
     wrote = sits.wrote;
     at = is_stopped newest start origin (stopped_for Reset client) now sits.sent Reset free.0
-        (reset_at newest start origin client now sits.sent (is_ready newest start origin client now sits.sent free sits.at));
+        (reset_at newest start origin client now sits.sent (is_ready newest start origin client now sits.sent free
+            sits.at));
   }
 
   -- The connection takes no more.
@@ -332,7 +341,8 @@ module _ {T : Type 0} (incoming outgoing : T → Option (List ℕ)) where
       behind client.input (incoming client.connection),
       stops_write newest (holds_with zero_moment ⊤) SLOTS client.dialogue (empty_handed start) now (incoming origin)
           (prepend_known client.input (incoming client.connection)) sits.sent
-          (some_bytes client.dialogue.unsent.bytes some) (is_ready newest start origin client now sits.sent free sits.at),
+          (some_bytes client.dialogue.unsent.bytes some) (is_ready newest start origin client now sits.sent free
+              sits.at),
     );
   }
 
@@ -382,7 +392,8 @@ module _ {T : Type 0} (incoming outgoing : T → Option (List ℕ)) where
       subst (Keeps incoming outgoing client) (sym is) (arrives_not client connection bytes free took same)
 
   -- The connection takes no more replies.
-  broken_at : (newest : Version) (start : Pass) (origin : T) (client : Sitting T) (now : Holder Pass) (sent : List ℕ) (parked : Option Parked)
+  broken_at : (newest : Version) (start : Pass) (origin : T) (client : Sitting T) (now : Holder Pass)
+      (sent : List ℕ) (parked : Option Parked)
       (stopped : Option End) → IsAt incoming outgoing newest start origin client now sent parked stopped →
       IsAt incoming outgoing newest start origin (broken_off client) now sent parked stopped
   broken_at newest start origin client now sent None None at = at
@@ -455,7 +466,8 @@ module _ {T : Type 0} (incoming outgoing : T → Option (List ℕ)) where
   -- ---- any client
 
   -- The call is left.
-  left_at : (newest : Version) (start : Pass) (origin : T) (client : Sitting T) (input : List ℕ) (now : Holder Pass) (sent : List ℕ)
+  left_at : (newest : Version) (start : Pass) (origin : T) (client : Sitting T) (input : List ℕ) (now : Holder Pass)
+      (sent : List ℕ)
       (parked : Parked) (stopped : Option End) →
       IsAt incoming outgoing newest start origin client now sent (Some parked) stopped →
       HasStopped incoming outgoing newest start origin (left_with input client) now sent Left
@@ -464,7 +476,8 @@ module _ {T : Type 0} (incoming outgoing : T → Option (List ℕ)) where
       parked.waiting now tt waits.waits in (
         prepend_known waits.later (incoming client.connection),
         behind waits.later (incoming client.connection),
-        leaves newest (holds_with zero_moment ⊤) SLOTS parked.cred parked.request waits.text [] client.dialogue (empty_handed start)
+        leaves newest (holds_with zero_moment ⊤) SLOTS parked.cred parked.request waits.text [] client.dialogue
+            (empty_handed start)
             waits.before
             now (incoming origin) (prepend_known waits.later (incoming client.connection)) sent waits.asking told refl,
       )
@@ -476,12 +489,14 @@ module _ {T : Type 0} (incoming outgoing : T → Option (List ℕ)) where
     sent = sits.sent;
     wrote = sits.wrote;
     at = left_at newest start origin client input now sits.sent parked client.stopped
-        (subst (λ (p : Option Parked). IsAt incoming outgoing newest start origin client now sits.sent p client.stopped) is
+        (subst (λ (p : Option Parked). IsAt incoming outgoing newest start origin client now sits.sent p
+            client.stopped) is
         sits.at);
   }
 
   -- The connection took or gave nothing.
-  turned_at : (newest : Version) (start : Pass) (origin : T) (client : Sitting T) (connection : T) (now : Holder Pass) (sent : List ℕ)
+  turned_at : (newest : Version) (start : Pass) (origin : T) (client : Sitting T) (connection : T)
+      (now : Holder Pass) (sent : List ℕ)
       (parked : Option Parked) (stopped : Option End) → incoming connection ≡ incoming client.connection →
       IsAt incoming outgoing newest start origin client now sent parked stopped →
       IsAt incoming outgoing newest start origin (on connection client) now sent parked stopped
@@ -493,8 +508,10 @@ module _ {T : Type 0} (incoming outgoing : T → Option (List ℕ)) where
     text = at.text;
     before = at.before;
     later = at.later;
-    asking = subst (λ (o : Option (List ℕ)). StandsAsking newest (holds_with zero_moment ⊤) SLOTS parked.cred parked.request
-        at.text client.dialogue (empty_handed start) at.before (incoming origin) (prepend_known at.later o) sent) (sym same) at.asking;
+    asking = subst (λ (o : Option (List ℕ)). StandsAsking newest (holds_with zero_moment ⊤) SLOTS parked.cred
+        parked.request
+        at.text client.dialogue (empty_handed start) at.before (incoming origin) (prepend_known at.later o) sent)
+            (sym same) at.asking;
     frame = at.frame;
     size = at.size;
     waits = at.waits;
@@ -585,14 +602,16 @@ module _ {T : Type 0} (incoming outgoing : T → Option (List ℕ)) where
     broken = client.broken;
   }
 
-  drained_at : (newest : Version) (start : Pass) (origin : T) (client : Sitting T) (connection : T) (n : ℕ) (now : Holder Pass) (sent : List ℕ)
+  drained_at : (newest : Version) (start : Pass) (origin : T) (client : Sitting T) (connection : T) (n : ℕ)
+      (now : Holder Pass) (sent : List ℕ)
       (parked : Option Parked) (stopped : Option End) → n ≤ length client.dialogue.unsent.bytes →
       incoming connection ≡ incoming client.connection →
       IsAt incoming outgoing newest start origin client now sent parked stopped →
       IsAt incoming outgoing newest start origin (with_sent connection n client) now
       (sent ++ take n client.dialogue.unsent.bytes) parked stopped
   drained_at newest start origin client connection n now sent None None fits same at =
-      sends newest (holds_with zero_moment ⊤) SLOTS n client.dialogue (sent_on n client.dialogue) (empty_handed start) now
+      sends newest (holds_with zero_moment ⊤) SLOTS n client.dialogue (sent_on n client.dialogue)
+          (empty_handed start) now
       (incoming origin)
       (prepend_known client.input (incoming connection)) sent fits refl
       (subst (λ (o : Option (List ℕ)).
@@ -603,11 +622,13 @@ module _ {T : Type 0} (incoming outgoing : T → Option (List ℕ)) where
     before = at.before;
     later = at.later;
     asking = sends_asking newest (holds_with zero_moment ⊤) SLOTS parked.cred parked.request at.text n client.dialogue
-        (sent_on n client.dialogue) (empty_handed start) at.before (incoming origin) (prepend_known at.later (incoming connection))
+        (sent_on n client.dialogue) (empty_handed start) at.before (incoming origin)
+            (prepend_known at.later (incoming connection))
         sent
         fits refl
         (subst (λ (o : Option (List ℕ)). StandsAsking newest (holds_with zero_moment ⊤) SLOTS parked.cred parked.request
-        at.text client.dialogue (empty_handed start) at.before (incoming origin) (prepend_known at.later o) sent) (sym same)
+        at.text client.dialogue (empty_handed start) at.before (incoming origin) (prepend_known at.later o) sent)
+            (sym same)
         at.asking);
     frame = at.frame;
     size = at.size;
@@ -616,7 +637,8 @@ module _ {T : Type 0} (incoming outgoing : T → Option (List ℕ)) where
   drained_at newest start origin client connection n now sent None (Some why) fits same at = (
     at.0,
     subst (λ (o : Option (List ℕ)). IsBehind at.0 o) (sym same) at.1,
-    sends_stopped newest (holds_with zero_moment ⊤) SLOTS why n client.dialogue (sent_on n client.dialogue) (empty_handed start) now
+    sends_stopped newest (holds_with zero_moment ⊤) SLOTS why n client.dialogue (sent_on n client.dialogue)
+        (empty_handed start) now
         (incoming origin)
         at.0 sent fits refl at.2,
   )
@@ -630,7 +652,8 @@ module _ {T : Type 0} (incoming outgoing : T → Option (List ℕ)) where
     sent = sits.sent ++ take n client.dialogue.unsent.bytes;
     wrote = Appends-trans (outgoing origin) (outgoing client.connection) (outgoing connection) sits.sent
         (take n client.dialogue.unsent.bytes) sits.wrote wrote;
-    at = drained_at newest start origin client connection n now sits.sent client.parked client.stopped fits same sits.at;
+    at = drained_at newest start origin client connection n now sits.sent client.parked client.stopped fits same
+        sits.at;
   }
 
   abbrev pub with_dialogue : T → Dialogue → Sitting T → Sitting T
@@ -685,7 +708,8 @@ module _ {T : Type 0} (incoming outgoing : T → Option (List ℕ)) where
       left_at newest start origin client client.input now sent parked None at
   closing_at newest start origin client now sent (Some parked) (Some why) at = absurd at
 
-  closed : {B : Type 0} (closes : Closing T B) (newest : Version) (start : Pass) (origin : T) (client : Sitting T) (now : Holder Pass)
+  closed : {B : Type 0} (closes : Closing T B) (newest : Version) (start : Pass) (origin : T) (client : Sitting T)
+      (now : Holder Pass)
       (book book' : B) → Sits incoming outgoing newest start origin client now →
       closes.leaves book (incoming client.connection) (outgoing client.connection) book' →
       IsOver incoming outgoing closes newest start origin
@@ -697,7 +721,8 @@ module _ {T : Type 0} (incoming outgoing : T → Option (List ℕ)) where
         rest = stopped.0;
         kept = incoming client.connection;
         more = outgoing client.connection;
-        serves = ends newest (holds_with zero_moment ⊤) SLOTS why client.dialogue (empty_handed start) now (incoming origin) stopped.0
+        serves = ends newest (holds_with zero_moment ⊤) SLOTS why client.dialogue (empty_handed start) now (incoming
+            origin) stopped.0
             (outgoing origin) (outgoing client.connection) sits.sent stopped.2 sits.wrote;
         behind = stopped.1;
         closed = done;
@@ -707,7 +732,8 @@ module _ {T : Type 0} (incoming outgoing : T → Option (List ℕ)) where
       (book book' : B) → client ≡ old → why ≡ end_at_close client.parked client.stopped →
       served ≡ report why client.dialogue →
       closes.leaves book (incoming client.connection) (outgoing client.connection) book' →
-      (newest : Version) (start : Pass) (now : Holder Pass) (origin : T) → Sits incoming outgoing newest start origin old now →
+      (newest : Version) (start : Pass) (now : Holder Pass) (origin : T) →
+          Sits incoming outgoing newest start origin old now →
       IsOver incoming outgoing closes newest start origin served now book book'
   closed_over closes old client why served book book' same reason is done newest start now origin sits =
       let here = subst (λ (c : Sitting T). Sits incoming outgoing newest start origin c now) (sym same) sits in

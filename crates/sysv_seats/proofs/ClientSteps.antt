@@ -361,17 +361,20 @@ module _ {T : Type 0} (incoming outgoing : T → Option (List ℕ)) where
       (sits : Sits incoming outgoing newest start origin client now) →
       IsReady incoming outgoing newest start origin client now sits.sent
   ready newest start origin client now free sits =
-      subst₂ (λ (p : Option Parked) (s : Option End). IsAt incoming outgoing newest start origin client now sits.sent p s)
+      subst₂ (λ (p : Option Parked) (s : Option End). IsAt incoming outgoing newest start origin client now
+          sits.sent p s)
       free.0 free.1 sits.at
 
-  at_ready : (newest : Version) (start : Pass) (origin : T) (client : Sitting T) (now : Holder Pass) (sent : List ℕ) → client.parked ≡ None →
+  at_ready : (newest : Version) (start : Pass) (origin : T) (client : Sitting T) (now : Holder Pass)
+      (sent : List ℕ) → client.parked ≡ None →
       client.stopped ≡ None → IsReady incoming outgoing newest start origin client now sent →
       IsAt incoming outgoing newest start origin client now sent client.parked client.stopped
   at_ready newest start origin client now sent parked stopped at =
       subst₂ (λ (p : Option Parked) (s : Option End). IsAt incoming outgoing newest start origin client now sent p s)
       (sym parked) (sym stopped) at
 
-  at_stopped : (newest : Version) (start : Pass) (origin : T) (client : Sitting T) (now : Holder Pass) (sent : List ℕ) (why : End) →
+  at_stopped : (newest : Version) (start : Pass) (origin : T) (client : Sitting T) (now : Holder Pass)
+      (sent : List ℕ) (why : End) →
       client.parked ≡ None → client.stopped ≡ Some why →
       HasStopped incoming outgoing newest start origin client now sent why →
       IsAt incoming outgoing newest start origin client now sent client.parked client.stopped
@@ -379,7 +382,8 @@ module _ {T : Type 0} (incoming outgoing : T → Option (List ℕ)) where
       subst₂ (λ (p : Option Parked) (s : Option End). IsAt incoming outgoing newest start origin client now sent p s)
       (sym parked) (sym stopped) at
 
-  at_waiting : (newest : Version) (start : Pass) (origin : T) (client : Sitting T) (now : Holder Pass) (sent : List ℕ) (parked : Parked) →
+  at_waiting : (newest : Version) (start : Pass) (origin : T) (client : Sitting T) (now : Holder Pass)
+      (sent : List ℕ) (parked : Parked) →
       client.parked ≡ Some parked → client.stopped ≡ None →
       IsWaiting incoming outgoing newest start origin client now sent parked →
       IsAt incoming outgoing newest start origin client now sent client.parked client.stopped
@@ -389,8 +393,10 @@ module _ {T : Type 0} (incoming outgoing : T → Option (List ℕ)) where
 
   -- ---- a request has an outcome, or waits
 
-  module _ (newest : Version) (start : Pass) (before now : Holder Pass) (origin : T) (old new : Sitting T) (cred : Cred) (request : Request)
-      (text : List ℕ) (size : ℕ) (asked : HasAsked incoming outgoing newest start origin old cred request text size before)
+  module _ (newest : Version) (start : Pass) (before now : Holder Pass) (origin : T) (old new : Sitting T)
+      (cred : Cred) (request : Request)
+      (text : List ℕ) (size : ℕ) (asked : HasAsked incoming outgoing newest start origin old cred request text size
+          before)
       (connection : new.connection ≡ old.connection) where
     wrote : Appends (outgoing origin) (outgoing new.connection) asked.sent
     wrote = subst (λ (t : T). Appends (outgoing origin) (outgoing t) asked.sent) (sym connection) asked.wrote
@@ -411,7 +417,8 @@ module _ {T : Type 0} (incoming outgoing : T → Option (List ℕ)) where
           new.parked ≡ None → new.stopped ≡ old.stopped → Sits incoming outgoing newest start origin new now
       put_reply put input parked stopped =
           let stands =
-          puts newest Means SLOTS cred request text outcome given old.dialogue (empty_handed start) before now (incoming origin)
+          puts newest Means SLOTS cred request text outcome given old.dialogue (empty_handed start) before now
+              (incoming origin)
           (prepend_known asked.later (incoming old.connection)) asked.sent asked.asking means
           (answers request.version request.ask came given outcome is may) new.dialogue put in
           let left : new.input ≡ asked.later =
@@ -420,7 +427,8 @@ module _ {T : Type 0} (incoming outgoing : T → Option (List ℕ)) where
             sent = asked.sent;
             wrote = wrote;
             at = at_ready newest start origin new now asked.sent parked (stopped ∙ asked.going)
-                (subst₂ (λ (l : List ℕ) (t : T). Stands newest Means SLOTS new.dialogue (empty_handed start) now (incoming origin)
+                (subst₂ (λ (l : List ℕ) (t : T). Stands newest Means SLOTS new.dialogue (empty_handed start) now
+                    (incoming origin)
                 (prepend_known l (incoming t)) asked.sent) (sym left) (sym connection) stands);
           }
 
@@ -430,7 +438,8 @@ module _ {T : Type 0} (incoming outgoing : T → Option (List ℕ)) where
       put_none why put parked stopped =
           let rest = prepend_known asked.later (incoming old.connection) in
           let stood =
-          put_ends newest Means SLOTS cred request text outcome given old.dialogue (empty_handed start) before now (incoming origin)
+          put_ends newest Means SLOTS cred request text outcome given old.dialogue (empty_handed start) before now
+              (incoming origin)
           rest asked.sent asked.asking means (answers request.version request.ask came given outcome is may) why
           new.dialogue put in
           record {
@@ -463,7 +472,8 @@ module _ {T : Type 0} (incoming outgoing : T → Option (List ℕ)) where
                 text = text;
                 before = before;
                 later = asked.later;
-                asking = subst₂ (λ (k : Dialogue) (t : T). StandsAsking newest Means SLOTS cred request text k (empty_handed start) before
+                asking = subst₂ (λ (k : Dialogue) (t : T). StandsAsking newest Means SLOTS cred request text k
+                    (empty_handed start) before
                     (incoming origin) (prepend_known asked.later (incoming t)) asked.sent) (sym dialogue)
                     (sym connection)
                     asked.asking;
@@ -475,26 +485,31 @@ module _ {T : Type 0} (incoming outgoing : T → Option (List ℕ)) where
 
   -- ---- a parked call
 
-  parked_at : (newest : Version) (start : Pass) (origin : T) (client : Sitting T) (now : Holder Pass) (sent : List ℕ) (parked : Parked)
+  parked_at : (newest : Version) (start : Pass) (origin : T) (client : Sitting T) (now : Holder Pass)
+      (sent : List ℕ) (parked : Parked)
       (stopped : Option End) → IsAt incoming outgoing newest start origin client now sent (Some parked) stopped →
       (stopped ≡ None) × IsWaiting incoming outgoing newest start origin client now sent parked
   parked_at newest start origin client now sent parked None at = (refl, at)
   parked_at newest start origin client now sent parked (Some why) at = absurd at
 
   -- A client with a parked call waits.
-  pub is_waiting : (newest : Version) (start : Pass) (origin : T) (client : Sitting T) (now : Holder Pass) (parked : Parked) →
+  pub is_waiting : (newest : Version) (start : Pass) (origin : T) (client : Sitting T) (now : Holder Pass)
+      (parked : Parked) →
       client.parked ≡ Some parked → (sits : Sits incoming outgoing newest start origin client now) →
       (client.stopped ≡ None) × IsWaiting incoming outgoing newest start origin client now sits.sent parked
   is_waiting newest start origin client now parked is sits =
       parked_at newest start origin client now sits.sent parked client.stopped
-      (subst (λ (p : Option Parked). IsAt incoming outgoing newest start origin client now sits.sent p client.stopped) is
+      (subst (λ (p : Option Parked). IsAt incoming outgoing newest start origin client now sits.sent p
+          client.stopped) is
       sits.at)
 
   -- Its request was taken up.
-  pub asked_before : (newest : Version) (start : Pass) (origin : T) (client : Sitting T) (now : Holder Pass) (parked : Parked)
+  pub asked_before : (newest : Version) (start : Pass) (origin : T) (client : Sitting T) (now : Holder Pass)
+      (parked : Parked)
       (sits : Sits incoming outgoing newest start origin client now) → client.stopped ≡ None →
       (waits : IsWaiting incoming outgoing newest start origin client now sits.sent parked) →
-      HasAsked incoming outgoing newest start origin client parked.cred parked.request waits.text parked.length waits.before
+      HasAsked incoming outgoing newest start origin client parked.cred parked.request waits.text parked.length
+          waits.before
   asked_before newest start origin client now parked sits going waits = record {
     sent = sits.sent;
     wrote = sits.wrote;
@@ -507,7 +522,8 @@ module _ {T : Type 0} (incoming outgoing : T → Option (List ℕ)) where
 
   -- ---- what is taken up
 
-  module _ (newest : Version) (start : Pass) (now : Holder Pass) (origin : T) (old new : Sitting T) (size : ℕ) (result : Result TakenUp End)
+  module _ (newest : Version) (start : Pass) (now : Holder Pass) (origin : T) (old new : Sitting T) (size : ℕ)
+      (result : Result TakenUp End)
       (text : List ℕ) (free : IsFree old) (reads : ReadsNext old size result text new)
       (sits : Sits incoming outgoing newest start origin old now) where
     stays : new.connection ≡ old.connection
@@ -530,7 +546,8 @@ module _ {T : Type 0} (incoming outgoing : T → Option (List ℕ)) where
         let took_more = takes_up_more old.dialogue.session new.dialogue.session (Ok (Asked cred request)) old.input
         reads.rest text
         (incoming old.connection) tt takes in
-        let stands = takes_request newest Means SLOTS cred request old.dialogue new.dialogue (empty_handed start) now (incoming origin)
+        let stands = takes_request newest Means SLOTS cred request old.dialogue new.dialogue (empty_handed start)
+            now (incoming origin)
         (prepend_known old.input (incoming old.connection)) (prepend_known reads.rest (incoming old.connection))
         sits.sent text (ready newest start origin old now free sits) took_more reads.unsent in
         record {
@@ -538,7 +555,8 @@ module _ {T : Type 0} (incoming outgoing : T → Option (List ℕ)) where
           wrote = wrote_still;
           later = reads.rest;
           asking =
-              subst (λ (t : T). StandsAsking newest Means SLOTS cred request text new.dialogue (empty_handed start) now (incoming origin)
+              subst (λ (t : T). StandsAsking newest Means SLOTS cred request text new.dialogue (empty_handed start)
+                  now (incoming origin)
               (prepend_known reads.rest (incoming t)) sits.sent) (sym stays) stands;
           frame = ap (λ (s : Sitting T). s.input) reads.same ∙ takes.3.0;
           whole = read_whole size old.input (request_encoding request text) reads.rest reads.read takes.3.0;
@@ -573,7 +591,8 @@ module _ {T : Type 0} (incoming outgoing : T → Option (List ℕ)) where
     greeted : (version : Version) (last : Sitting T) →
         StandsGreeting newest version new.dialogue (empty_handed start) now (incoming origin)
         (prepend_known (drop size new.input) (incoming new.connection)) sits.sent →
-        GreetsAs version (with_input (drop size new.input) new) last → Sits incoming outgoing newest start origin last now
+        GreetsAs version (with_input (drop size new.input) new) last →
+            Sits incoming outgoing newest start origin last now
     greeted version last stands (inl same) =
         let answered = conversing (gathered (with_frame (hello_frame version SLOTS)) new.dialogue)
         (with_input (drop size new.input) new) in
@@ -581,9 +600,11 @@ module _ {T : Type 0} (incoming outgoing : T → Option (List ℕ)) where
         (record {
           sent = sits.sent;
           wrote = wrote_still;
-          at = at_ready newest start origin answered now sits.sent (ap (λ (s : Sitting T). s.parked) reads.same ∙ free.0)
+          at = at_ready newest start origin answered now sits.sent (ap (λ (s : Sitting T). s.parked) reads.same ∙
+              free.0)
               (ap (λ (s : Sitting T). s.stopped) reads.same ∙ free.1)
-              (greets newest Means SLOTS version new.dialogue answered.dialogue (empty_handed start) now (incoming origin)
+              (greets newest Means SLOTS version new.dialogue answered.dialogue (empty_handed start) now (incoming
+                  origin)
               (prepend_known (drop size new.input) (incoming new.connection)) sits.sent stands refl);
         })
     greeted version last stands (inr same) =
@@ -591,7 +612,8 @@ module _ {T : Type 0} (incoming outgoing : T → Option (List ℕ)) where
         (record {
           sent = sits.sent;
           wrote = wrote_still;
-          at = at_stopped newest start origin (stopped_for NoMemory (with_input (drop size new.input) new)) now sits.sent
+          at = at_stopped newest start origin (stopped_for NoMemory (with_input (drop size new.input) new)) now
+              sits.sent
               NoMemory
               (ap (λ (s : Sitting T). s.parked) reads.same ∙ free.0) refl (
                 prepend_known (drop size new.input) (incoming new.connection),
@@ -602,14 +624,16 @@ module _ {T : Type 0} (incoming outgoing : T → Option (List ℕ)) where
         })
 
     pub greets_next : (version : Version) (last : Sitting T) → result ≡ Ok (Hello version) →
-        GreetsAs version (with_input (drop size new.input) new) last → Sits incoming outgoing newest start origin last now
+        GreetsAs version (with_input (drop size new.input) new) last →
+            Sits incoming outgoing newest start origin last now
     greets_next version last is greets_as =
         let takes = took (Ok (Hello version)) is in
         let encoded = takes.2.1 in
         let took_more =
         takes_up_more old.dialogue.session new.dialogue.session (Ok (Hello version)) old.input reads.rest text
         (incoming old.connection) tt takes in
-        let stands = takes_hello newest Means SLOTS version old.dialogue new.dialogue (empty_handed start) now (incoming origin)
+        let stands = takes_hello newest Means SLOTS version old.dialogue new.dialogue (empty_handed start) now
+            (incoming origin)
         (prepend_known old.input (incoming old.connection)) (prepend_known reads.rest (incoming old.connection))
         sits.sent text (ready newest start origin old now free sits) took_more reads.unsent in
         let input : new.input ≡ old.input = ap (λ (s : Sitting T). s.input) reads.same in
@@ -617,5 +641,6 @@ module _ {T : Type 0} (incoming outgoing : T → Option (List ℕ)) where
         drops size new.input _ reads.rest (read_whole size old.input _ reads.rest reads.read encoded)
         (input ∙ encoded) in
         greeted version last
-        (subst₂ (λ (l : List ℕ) (t : T). StandsGreeting newest version new.dialogue (empty_handed start) now (incoming origin)
+        (subst₂ (λ (l : List ℕ) (t : T). StandsGreeting newest version new.dialogue (empty_handed start) now
+            (incoming origin)
         (prepend_known l (incoming t)) sits.sent) (sym left) (sym stays) stands) greets_as

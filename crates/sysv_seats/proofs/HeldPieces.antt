@@ -30,7 +30,8 @@ use Rattle.sysv_seats.specs.Parked.{HasBegun, IsParked, MayProgress}
 
 -- A request that is no hold, no done and no back.
 abbrev pub IsNoHold : Ask → Type 0
-IsNoHold ask = (id : ℤ) (size : ℕ) (mtype : ℤ) (flags : Flags) (seconds : ℕ) → ask ≡ Hold id size mtype flags seconds → ⊥
+IsNoHold ask = (id : ℤ) (size : ℕ) (mtype : ℤ) (flags : Flags)
+    (seconds : ℕ) → ask ≡ Hold id size mtype flags seconds → ⊥
 
 -- ---- what may be held
 

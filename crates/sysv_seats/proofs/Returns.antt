@@ -13,7 +13,8 @@ use Rattle.sysv_wire.specs.declared.frame.Version.TheVariants.{Three}
 use Rattle.sysv_wire.specs.declared.request.Ask.TheVariants.{Snd}
 use Rattle.sysv_seats.specs.declared.parked.Parked.{Parked}
 use Rattle.sysv_seats.specs.declared.waiting.Waiting.{Waiting}
-use Rattle.sysv_seats.specs.GivingBack.{ComesBack, EachReturnCanBeLeft, HasNoMessage, IsReturn, WaitsBack, fate_of, held_after, return_by}
+use Rattle.sysv_seats.specs.GivingBack.{ComesBack, EachReturnCanBeLeft, HasNoMessage, IsReturn, WaitsBack, fate_of}
+use Rattle.sysv_seats.specs.GivingBack.{held_after, return_by}
 use Rattle.sysv_seats.specs.GivingBack.{return_at, return_length, return_of}
 use Rattle.sysv_seats.specs.Holding.{Holder, Message, no_flags}
 use Rattle.sysv_seats.specs.InPieces.{asks_any, left}
@@ -24,7 +25,8 @@ use Rattle.sysv_seats.proofs.ClientSteps.{asks_replied}
 -- The send of a message has come so far.
 pub comes_back : (message : Message) (start : Pass) (came : Progress Waiting RequestOutcome) (given : List ℕ)
     (after : Pass) →
-    HasBegun zero_moment Three message.cred (Snd message.id message.mtype no_flags) message.text start came given after →
+    HasBegun zero_moment Three message.cred (Snd message.id message.mtype no_flags) message.text start came given
+        after →
     ComesBack start (Some message) (return_by message.cred (return_of message) (return_length message) came)
     (record { at = after; message = held_after (Some message) came })
 comes_back message start (progress.Waits waiting) given after begun =

@@ -83,7 +83,8 @@ abbrev pub ComesBack : (start : Pass) → Option Message → Return → Holder P
 ComesBack start held (come.Waits parked) after = WaitsBack start after parked × (after.message ≡ held)
 ComesBack start held come.Nothing after = (held ≡ None) × (after.at ≡ start) × (after.message ≡ None)
 ComesBack start held (come.Over what) after = (message : Message) × (held ≡ Some message)
-    × (outcome : RequestOutcome) × IsReplied outcome × IsReturn message start outcome after.at × (what ≡ fate_of outcome)
+    × (outcome : RequestOutcome) × IsReplied outcome × IsReturn message start outcome after.at × (what ≡ fate_of
+        outcome)
     × (after.message ≡ None)
 
 -- The return was begun.

@@ -2,7 +2,7 @@
 -- remembers, and a done spends it. A session holds one message at most. If the session ends before the
 -- message is spent, a `msgsnd` gives it back: of the same body, with the same type, to the same queue,
 -- without flags and with the session's credentials.
-use Rattle.std.specs.Prelude.{◌≡◌, ◌⊎◌, ◌&&◌, ◌==◌, ⊤, ℕ, ℤ, Bool, true, false, not, List, [], Option, None, Some, Result}
+use Rattle.std.specs.Prelude.{◌≡◌, ◌⊎◌, ◌&&◌, ◌==◌, ⊤, ℕ, ℤ, Bool, true, not, List, [], Option, None, Some, Result}
 use Rattle.std.specs.Prelude.{cond, is_some}
 use Rattle.sysv_model.specs.declared.attributes.Row.{Row as Line}
 use Rattle.sysv_model.specs.declared.cred.Cred.{Cred}
@@ -94,7 +94,8 @@ module _ {K : Type 0} (Comes : Going K) (ReadsReleased : ℕ → K → K → Typ
       RequestOutcome → List ℕ → Holder K → Type 0
   HoldReceives may may_leave version cred id size mtype flags seconds before outcome given after =
       (can_hold flags seconds before.message ≡ true) × (came : RequestOutcome)
-      × Receives Comes ReadsReleased TellsRow may may_leave version cred id size mtype flags before.at came given after.at
+      × Receives Comes ReadsReleased TellsRow may may_leave version cred id size mtype flags before.at came given
+          after.at
       × (outcome ≡ hold_outcome version came) × (after.message ≡ held_by cred id came given)
 
   -- A hold was refused, or its receive ended or was left.

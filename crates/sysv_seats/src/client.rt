@@ -302,11 +302,7 @@ impl<T: NonBlocking> Client<T> {
 
     /// Takes up and answers what has arrived: a share of the requests that are there, or what one
     /// read returns.
-    pub fn take_turn<R: Wait>(
-        &mut self,
-        handler: &mut Keeper<'_, Zero, R>,
-        tools: &mut Tools,
-    )
+    pub fn take_turn<R: Wait>(&mut self, handler: &mut Keeper<'_, Zero, R>, tools: &mut Tools)
         ensures keeps { KeepsWith T.incoming T.outgoing self.old (holder_of handler.old)
             self.new (holder_of handler.new) }
         ensures handles { KeepsHandles handler.old.handler handler.new.handler }

@@ -41,13 +41,7 @@ impl HeldMessage {
     ///
     /// - `memory` is empty, and has room for the body.
     /// - The body has at most 8,192 bytes.
-    pub(crate) fn new(
-        cred: Cred,
-        id: i32,
-        mtype: i64,
-        given: &Body,
-        memory: Vec<u8>,
-    ) -> HeldMessage
+    pub(crate) fn new(cred: Cred, id: i32, mtype: i64, given: &Body, memory: Vec<u8>) -> HeldMessage
         requires empty { memory.items ≡ [] }
         requires room { length given.now ≤ vec_capacity memory }
         requires short { length given.now ≤ MESSAGE_BYTES }

@@ -196,9 +196,7 @@ impl<'a, C: Clock, R: Wait> Keeper<'a, C, R> {
         let Some(memory) = self.room() else {
             return Progress::Waits(waiting);
         };
-        let came = self
-            .handler
-            .go_on(&received(request), text, given, waiting);
+        let came = self.handler.go_on(&received(request), text, given, waiting);
         self.keep(request.version, cred, id, came, given, memory)
     }
 

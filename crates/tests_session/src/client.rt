@@ -103,11 +103,7 @@ fn paced<'a>(
     reads: &'a [Step],
     writes: &'a [Step],
 ) -> Client<MemoryStream<'a>> {
-    Client::open(
-        alloc,
-        stream(rt, alloc, input, reads, writes),
-        Version::Two,
-    )
+    Client::open(alloc, stream(rt, alloc, input, reads, writes), Version::Two)
 }
 
 /// Returns a client like that of `client`, which may leave or be cut off.

@@ -1,5 +1,5 @@
-use Rattle.std.proofs.Common.{◌≡◌, ◌≤◌, ◌+◌, ◌*◌, ◌++◌, ℕ, List, take, drop, length, sym, ap, ◌∙◌, arith, rules, length-append}
-use Rattle.std.proofs.Common.{length-take}
+use Rattle.std.proofs.Common.{◌≡◌, ◌≤◌, ◌+◌, ◌*◌, ◌++◌, ◌∙◌, ℕ, List, take, drop, length, sym, ap, arith}
+use Rattle.std.proofs.Common.{length-append, length-take}
 use lib.Seq.{take-add}
 use Rattle.sysv_seats.proofs.holding.append_text.Goals as goal
 

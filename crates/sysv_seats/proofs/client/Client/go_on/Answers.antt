@@ -26,4 +26,5 @@ returns-clause-keeps g c = λ newest start origin sits.
     (holder_of c.args.handler.now)) (sym body) waits.waits)) in
     subst (λ (s : Sitting g.row.T.Denot). Sits g.T.NonBlocking.incoming g.T.NonBlocking.outgoing newest start origin s
     (holder_of c.go_on-progress.new.self)) (sym c.self-2.view_is)
-    (c.settle.ensures.keeps newest start waits.before (holder_of c.go_on-progress.new.self) origin waits.text asked begun)
+    (c.settle.ensures.keeps newest start waits.before (holder_of c.go_on-progress.new.self) origin waits.text asked
+        begun)
