@@ -7,7 +7,7 @@ use Rattle.sysv_bank.specs.Banks.{Each2}
 use Rattle.sysv_service.specs.Ran.{Pass}
 use Rattle.sysv_service.specs.Seats.{Gates}
 use Rattle.sysv_wire.specs.declared.frame.Version.{Version}
-use Rattle.sysv_seats.specs.declared.parked.Parked.{Parked}
+use Rattle.sysv_steps.specs.declared.send.SendWait.{SendWait}
 use Rattle.sysv_seats.specs.GivingBack.{WaitsBack}
 use Rattle.sysv_seats.specs.Holding.{Holder, Message}
 use Rattle.sysv_seats.specs.Sits.{Sits, Sitting}
@@ -82,16 +82,16 @@ module _ {T B : Type 0} (incoming outgoing : T → Option (List ℕ)) (closes : 
       new.refused new.book
 
   -- What gives back the message was not begun; or it waits.
-  abbrev pub ComesBackAt : Holder Pass → Option Parked → Holder Pass → Type 0
+  abbrev pub ComesBackAt : Holder Pass → Option SendWait → Holder Pass → Type 0
   ComesBackAt left None now = now ≡ left
-  ComesBackAt left (Some parked) now = WaitsBack left.at now parked × (now.message ≡ left.message)
+  ComesBackAt left (Some wait) now = WaitsBack left.at now wait × (now.message ≡ left.message)
 
   -- A place without a client and without a message has had a session on each of its connections. A place with a
   -- client has had one on each connection but the last, and the client is on the last: its session began with the
   -- pass that the place had then. `Sits` states how far it is. A place that has a message and no client has had one
   -- on each connection, and gives back what the last one held.
   abbrev pub IsPlace : {C : Type 0} → (Sits : Version → Pass → T → C → Holder Pass → Type 0) → Standing (View B) T →
-      View B → Option Message → Option Parked → Option C → Type 0
+      View B → Option Message → Option SendWait → Option C → Type 0
   IsPlace Sits place view None returning None = FoldsTo Handled place.start place.had view × (returning ≡ None)
   IsPlace Sits place view (Some message) returning None =
       (done : List T) × (connection : T) × (mid : View B) × (left : Holder Pass)
@@ -104,7 +104,8 @@ module _ {T B : Type 0} (incoming outgoing : T → Option (List ℕ)) (closes : 
 
 -- What the contracts see of a place: the gates of its service, its pass, the newest version that its sessions
 -- read, the sums of its sessions, the number of those whose memory was refused, its book, its client, if it has
--- one, the message that is held at it, and the send that gives it back, if that send waits.
+-- one, the message that is held at it, and the wait of the
+-- send that gives it back, if that send waits.
 pub record Seated (B T : Type 0) : Type 0 where
   pub gates : Gates
   pub pass : Pass
@@ -115,7 +116,7 @@ pub record Seated (B T : Type 0) : Type 0 where
   pub book : B
   pub client : Option (Sitting T)
   pub message : Option Message
-  pub returning : Option Parked
+  pub returning : Option SendWait
 
 abbrev pub view_of : {B T : Type 0} → Seated B T → View B
 view_of place = record {
@@ -206,5 +207,5 @@ IsVacantAt {B} {T} at places =
 abbrev pub IsOpened : {B T : Type 0} → Gates → Version → Seated B T → Type 0
 IsOpened gates newest place = (place.gates ≡ gates) × (place.newest ≡ newest)
     × IsNew gates place.pass place.sums place.refused × (place.fates ≡ none_fated) × (place.client ≡ None) ×
-        (place.message ≡ None)
+    (place.message ≡ None)
     × (place.returning ≡ None)

@@ -19,9 +19,9 @@ use std::marker::Model;
 use std::sync::Wait;
 use sysv_parking::Key;
 use sysv_seats::{
-    Client, Keeper, Limit, NonBlocking, Parked, Return, ServiceHandler, Tools, ZERO, Zero,
+    Client, Keeper, Limit, NonBlocking, Return, ServiceHandler, Tools, Waiting, ZERO, Zero,
 };
-use sysv_service::{Pass, Service};
+use sysv_service::{Pass, SendWait, Service};
 use sysv_session::{End, Served};
 use sysv_wire::Version;
 
@@ -33,8 +33,8 @@ use sysv_wire::Version;
 pub(crate) struct Place<'a, R: Wait, T: NonBlocking> {
     handler: Keeper<'a, Zero, R>,
     client: Option<Client<T>>,
-    /// The send that gives back the message that the last client held, if that send waits.
-    returning: Option<Parked>,
+    /// The wait of the send that gives back the message that the last client held, if it waits.
+    returning: Option<SendWait>,
     sums: Sums,
     refused: u64,
     fates: Fates,
@@ -214,7 +214,8 @@ impl<'a, R: Wait, T: NonBlocking> Place<'a, R, T> {
         !self.has_client() && (!self.has_message() || self.returning.is_some())
     }
 
-    /// Begins to give back the message that the last client held, if it held one.
+    /// Begins to give back the message that the last client held, if it held one. A hold of it that
+    /// waited is no longer counted.
     pub(crate) fn give_back(&mut self, tools: &mut Tools)
         ensures keeps { KeepsPlace T.incoming T.outgoing T.closes self.old self.new }
     {
@@ -231,7 +232,7 @@ impl<'a, R: Wait, T: NonBlocking> Place<'a, R, T> {
         self.returning = None;
         match came {
             Return::Nothing => {}
-            Return::Waits(parked) => self.returning = Some(parked),
+            Return::Waits(wait) => self.returning = Some(wait),
             Return::Over(fate) => self.fates.count(fate),
         }
     }
@@ -337,8 +338,8 @@ impl<'a, R: Wait, T: NonBlocking> Place<'a, R, T> {
         self.allow_hold(tools);
         if let Some(client) = &mut self.client {
             client.go_on(&mut self.handler, tools);
-        } else if let Some(parked) = self.returning {
-            let came = self.handler.give_back_on(parked, tools);
+        } else if let Some(wait) = self.returning {
+            let came = self.handler.give_back_on(wait, tools);
             self.note_return(came);
         }
         self.count_hold(tools);
@@ -374,11 +375,11 @@ impl<'a, R: Wait, T: NonBlocking> Place<'a, R, T> {
 
     /// Returns what the parked call waits for, or the send that gives back a message, if one waits.
     pub(crate) fn key(&self) -> Option<Key> {
-        let parked = match &self.client {
-            Some(client) => client.parked()?,
-            None => self.returning?,
+        let (waiting, length) = match &self.client {
+            Some(client) => (client.waiting()?, client.parked_length()),
+            None => (Waiting::Send(self.returning?), self.handler.return_length()),
         };
-        Some(key_of(&parked.waiting(), parked.length()))
+        Some(key_of(&waiting, length))
     }
 
     /// Returns the number of blocks that calls at the place reserved and did not release, modulo

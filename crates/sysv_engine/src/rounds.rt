@@ -368,15 +368,17 @@ impl<'a, 'c, R: Wait> Serving<'a, 'c, R> {
             self.server.starve();
         }
         self.server.end(worker.agenda.number(), &served.tally);
-        if worker.has_message(place) {
+        let returns = worker.has_message(place);
+        if returns {
             self.server.count_return(true);
-            self.give_back(worker, place);
-        } else {
+        }
+        self.give_back(worker, place);
+        if !returns {
             self.vacate(worker, place);
         }
     }
 
-    /// Begins to give back the message that a client held which was closed.
+    /// Begins to give back the message that a client held which was closed, if it held one.
     fn give_back<T: NonBlocking, W: Watch<T>>(&self, worker: &mut Worker<'a, R, T, W>, place: usize)
         ensures keeps { KeepsAll T.incoming T.outgoing T.closes worker.old.places.items
             worker.new.places.items }

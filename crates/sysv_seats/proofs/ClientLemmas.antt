@@ -269,7 +269,7 @@ module _ {T : Type 0} (incoming outgoing : T → Option (List ℕ)) where
       IsReady incoming outgoing newest start origin client now sent
   is_ready newest start origin client now sent free at =
       subst₂ (λ (p : Option Parked) (s : Option End). IsAt incoming outgoing newest start origin client now sent p
-          s) free.0
+      s) free.0
       free.1 at
 
   is_at : (newest : Version) (start : Pass) (origin : T) (client : Sitting T) (now : Holder Pass) (sent : List ℕ) →
@@ -286,7 +286,7 @@ module _ {T : Type 0} (incoming outgoing : T → Option (List ℕ)) where
       IsAt incoming outgoing newest start origin client now sent client.parked (Some why)
   is_stopped newest start origin client now sent why none stopped =
       subst (λ (p : Option Parked). IsAt incoming outgoing newest start origin client now sent p (Some why))
-          (sym none) stopped
+      (sym none) stopped
 
   -- The connection cannot be read.
   read_at : (newest : Version) (start : Pass) (origin : T) (client : Sitting T) (now : Holder Pass) (sent : List ℕ) →
@@ -306,7 +306,7 @@ module _ {T : Type 0} (incoming outgoing : T → Option (List ℕ)) where
     wrote = sits.wrote;
     at = is_stopped newest start origin (stopped_for (Fault Read) client) now sits.sent (Fault Read) free.0
         (read_at newest start origin client now sits.sent (is_ready newest start origin client now sits.sent free
-            sits.at));
+        sits.at));
   }
 
   -- The client has reset the connection.
@@ -327,7 +327,7 @@ module _ {T : Type 0} (incoming outgoing : T → Option (List ℕ)) where
     wrote = sits.wrote;
     at = is_stopped newest start origin (stopped_for Reset client) now sits.sent Reset free.0
         (reset_at newest start origin client now sits.sent (is_ready newest start origin client now sits.sent free
-            sits.at));
+        sits.at));
   }
 
   -- The connection takes no more.
@@ -342,7 +342,7 @@ module _ {T : Type 0} (incoming outgoing : T → Option (List ℕ)) where
       stops_write newest (holds_with zero_moment ⊤) SLOTS client.dialogue (empty_handed start) now (incoming origin)
           (prepend_known client.input (incoming client.connection)) sits.sent
           (some_bytes client.dialogue.unsent.bytes some) (is_ready newest start origin client now sits.sent free
-              sits.at),
+          sits.at),
     );
   }
 
@@ -490,7 +490,7 @@ module _ {T : Type 0} (incoming outgoing : T → Option (List ℕ)) where
     wrote = sits.wrote;
     at = left_at newest start origin client input now sits.sent parked client.stopped
         (subst (λ (p : Option Parked). IsAt incoming outgoing newest start origin client now sits.sent p
-            client.stopped) is
+        client.stopped) is
         sits.at);
   }
 
@@ -511,7 +511,7 @@ module _ {T : Type 0} (incoming outgoing : T → Option (List ℕ)) where
     asking = subst (λ (o : Option (List ℕ)). StandsAsking newest (holds_with zero_moment ⊤) SLOTS parked.cred
         parked.request
         at.text client.dialogue (empty_handed start) at.before (incoming origin) (prepend_known at.later o) sent)
-            (sym same) at.asking;
+        (sym same) at.asking;
     frame = at.frame;
     size = at.size;
     waits = at.waits;
@@ -611,7 +611,7 @@ module _ {T : Type 0} (incoming outgoing : T → Option (List ℕ)) where
       (sent ++ take n client.dialogue.unsent.bytes) parked stopped
   drained_at newest start origin client connection n now sent None None fits same at =
       sends newest (holds_with zero_moment ⊤) SLOTS n client.dialogue (sent_on n client.dialogue)
-          (empty_handed start) now
+      (empty_handed start) now
       (incoming origin)
       (prepend_known client.input (incoming connection)) sent fits refl
       (subst (λ (o : Option (List ℕ)).
@@ -623,12 +623,12 @@ module _ {T : Type 0} (incoming outgoing : T → Option (List ℕ)) where
     later = at.later;
     asking = sends_asking newest (holds_with zero_moment ⊤) SLOTS parked.cred parked.request at.text n client.dialogue
         (sent_on n client.dialogue) (empty_handed start) at.before (incoming origin)
-            (prepend_known at.later (incoming connection))
+        (prepend_known at.later (incoming connection))
         sent
         fits refl
         (subst (λ (o : Option (List ℕ)). StandsAsking newest (holds_with zero_moment ⊤) SLOTS parked.cred parked.request
         at.text client.dialogue (empty_handed start) at.before (incoming origin) (prepend_known at.later o) sent)
-            (sym same)
+        (sym same)
         at.asking);
     frame = at.frame;
     size = at.size;
@@ -733,7 +733,7 @@ module _ {T : Type 0} (incoming outgoing : T → Option (List ℕ)) where
       served ≡ report why client.dialogue →
       closes.leaves book (incoming client.connection) (outgoing client.connection) book' →
       (newest : Version) (start : Pass) (now : Holder Pass) (origin : T) →
-          Sits incoming outgoing newest start origin old now →
+      Sits incoming outgoing newest start origin old now →
       IsOver incoming outgoing closes newest start origin served now book book'
   closed_over closes old client why served book book' same reason is done newest start now origin sits =
       let here = subst (λ (c : Sitting T). Sits incoming outgoing newest start origin c now) (sym same) sits in

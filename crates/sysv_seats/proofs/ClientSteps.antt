@@ -362,7 +362,7 @@ module _ {T : Type 0} (incoming outgoing : T → Option (List ℕ)) where
       IsReady incoming outgoing newest start origin client now sits.sent
   ready newest start origin client now free sits =
       subst₂ (λ (p : Option Parked) (s : Option End). IsAt incoming outgoing newest start origin client now
-          sits.sent p s)
+      sits.sent p s)
       free.0 free.1 sits.at
 
   at_ready : (newest : Version) (start : Pass) (origin : T) (client : Sitting T) (now : Holder Pass)
@@ -396,7 +396,7 @@ module _ {T : Type 0} (incoming outgoing : T → Option (List ℕ)) where
   module _ (newest : Version) (start : Pass) (before now : Holder Pass) (origin : T) (old new : Sitting T)
       (cred : Cred) (request : Request)
       (text : List ℕ) (size : ℕ) (asked : HasAsked incoming outgoing newest start origin old cred request text size
-          before)
+      before)
       (connection : new.connection ≡ old.connection) where
     wrote : Appends (outgoing origin) (outgoing new.connection) asked.sent
     wrote = subst (λ (t : T). Appends (outgoing origin) (outgoing t) asked.sent) (sym connection) asked.wrote
@@ -418,7 +418,7 @@ module _ {T : Type 0} (incoming outgoing : T → Option (List ℕ)) where
       put_reply put input parked stopped =
           let stands =
           puts newest Means SLOTS cred request text outcome given old.dialogue (empty_handed start) before now
-              (incoming origin)
+          (incoming origin)
           (prepend_known asked.later (incoming old.connection)) asked.sent asked.asking means
           (answers request.version request.ask came given outcome is may) new.dialogue put in
           let left : new.input ≡ asked.later =
@@ -428,7 +428,7 @@ module _ {T : Type 0} (incoming outgoing : T → Option (List ℕ)) where
             wrote = wrote;
             at = at_ready newest start origin new now asked.sent parked (stopped ∙ asked.going)
                 (subst₂ (λ (l : List ℕ) (t : T). Stands newest Means SLOTS new.dialogue (empty_handed start) now
-                    (incoming origin)
+                (incoming origin)
                 (prepend_known l (incoming t)) asked.sent) (sym left) (sym connection) stands);
           }
 
@@ -439,7 +439,7 @@ module _ {T : Type 0} (incoming outgoing : T → Option (List ℕ)) where
           let rest = prepend_known asked.later (incoming old.connection) in
           let stood =
           put_ends newest Means SLOTS cred request text outcome given old.dialogue (empty_handed start) before now
-              (incoming origin)
+          (incoming origin)
           rest asked.sent asked.asking means (answers request.version request.ask came given outcome is may) why
           new.dialogue put in
           record {
@@ -500,7 +500,7 @@ module _ {T : Type 0} (incoming outgoing : T → Option (List ℕ)) where
   is_waiting newest start origin client now parked is sits =
       parked_at newest start origin client now sits.sent parked client.stopped
       (subst (λ (p : Option Parked). IsAt incoming outgoing newest start origin client now sits.sent p
-          client.stopped) is
+      client.stopped) is
       sits.at)
 
   -- Its request was taken up.
@@ -509,7 +509,7 @@ module _ {T : Type 0} (incoming outgoing : T → Option (List ℕ)) where
       (sits : Sits incoming outgoing newest start origin client now) → client.stopped ≡ None →
       (waits : IsWaiting incoming outgoing newest start origin client now sits.sent parked) →
       HasAsked incoming outgoing newest start origin client parked.cred parked.request waits.text parked.length
-          waits.before
+      waits.before
   asked_before newest start origin client now parked sits going waits = record {
     sent = sits.sent;
     wrote = sits.wrote;
@@ -547,7 +547,7 @@ module _ {T : Type 0} (incoming outgoing : T → Option (List ℕ)) where
         reads.rest text
         (incoming old.connection) tt takes in
         let stands = takes_request newest Means SLOTS cred request old.dialogue new.dialogue (empty_handed start)
-            now (incoming origin)
+        now (incoming origin)
         (prepend_known old.input (incoming old.connection)) (prepend_known reads.rest (incoming old.connection))
         sits.sent text (ready newest start origin old now free sits) took_more reads.unsent in
         record {
@@ -556,7 +556,7 @@ module _ {T : Type 0} (incoming outgoing : T → Option (List ℕ)) where
           later = reads.rest;
           asking =
               subst (λ (t : T). StandsAsking newest Means SLOTS cred request text new.dialogue (empty_handed start)
-                  now (incoming origin)
+              now (incoming origin)
               (prepend_known reads.rest (incoming t)) sits.sent) (sym stays) stands;
           frame = ap (λ (s : Sitting T). s.input) reads.same ∙ takes.3.0;
           whole = read_whole size old.input (request_encoding request text) reads.rest reads.read takes.3.0;
@@ -592,7 +592,7 @@ module _ {T : Type 0} (incoming outgoing : T → Option (List ℕ)) where
         StandsGreeting newest version new.dialogue (empty_handed start) now (incoming origin)
         (prepend_known (drop size new.input) (incoming new.connection)) sits.sent →
         GreetsAs version (with_input (drop size new.input) new) last →
-            Sits incoming outgoing newest start origin last now
+        Sits incoming outgoing newest start origin last now
     greeted version last stands (inl same) =
         let answered = conversing (gathered (with_frame (hello_frame version SLOTS)) new.dialogue)
         (with_input (drop size new.input) new) in
@@ -604,7 +604,7 @@ module _ {T : Type 0} (incoming outgoing : T → Option (List ℕ)) where
               free.0)
               (ap (λ (s : Sitting T). s.stopped) reads.same ∙ free.1)
               (greets newest Means SLOTS version new.dialogue answered.dialogue (empty_handed start) now (incoming
-                  origin)
+              origin)
               (prepend_known (drop size new.input) (incoming new.connection)) sits.sent stands refl);
         })
     greeted version last stands (inr same) =
@@ -625,7 +625,7 @@ module _ {T : Type 0} (incoming outgoing : T → Option (List ℕ)) where
 
     pub greets_next : (version : Version) (last : Sitting T) → result ≡ Ok (Hello version) →
         GreetsAs version (with_input (drop size new.input) new) last →
-            Sits incoming outgoing newest start origin last now
+        Sits incoming outgoing newest start origin last now
     greets_next version last is greets_as =
         let takes = took (Ok (Hello version)) is in
         let encoded = takes.2.1 in
@@ -633,7 +633,7 @@ module _ {T : Type 0} (incoming outgoing : T → Option (List ℕ)) where
         takes_up_more old.dialogue.session new.dialogue.session (Ok (Hello version)) old.input reads.rest text
         (incoming old.connection) tt takes in
         let stands = takes_hello newest Means SLOTS version old.dialogue new.dialogue (empty_handed start) now
-            (incoming origin)
+        (incoming origin)
         (prepend_known old.input (incoming old.connection)) (prepend_known reads.rest (incoming old.connection))
         sits.sent text (ready newest start origin old now free sits) took_more reads.unsent in
         let input : new.input ≡ old.input = ap (λ (s : Sitting T). s.input) reads.same in
@@ -642,5 +642,5 @@ module _ {T : Type 0} (incoming outgoing : T → Option (List ℕ)) where
         (input ∙ encoded) in
         greeted version last
         (subst₂ (λ (l : List ℕ) (t : T). StandsGreeting newest version new.dialogue (empty_handed start) now
-            (incoming origin)
+        (incoming origin)
         (prepend_known l (incoming t)) sits.sent) (sym left) (sym stays) stands) greets_as

@@ -95,7 +95,7 @@ module _ {K : Type 0} (Comes : Going K) (ReadsReleased : ℕ → K → K → Typ
   HoldReceives may may_leave version cred id size mtype flags seconds before outcome given after =
       (can_hold flags seconds before.message ≡ true) × (came : RequestOutcome)
       × Receives Comes ReadsReleased TellsRow may may_leave version cred id size mtype flags before.at came given
-          after.at
+      after.at
       × (outcome ≡ hold_outcome version came) × (after.message ≡ held_by cred id came given)
 
   -- A hold was refused, or its receive ended or was left.

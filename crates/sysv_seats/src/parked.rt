@@ -1,5 +1,4 @@
 //! Requests whose calls wait.
-ghost use Rattle.std.specs.Prelude.{◌≡◌};
 
 use crate::waiting::Waiting;
 use sysv_model::Cred;
@@ -16,20 +15,4 @@ pub struct Parked {
     pub(crate) waiting: Waiting,
     /// The number of bytes in its frame, which is at the front of the client's input.
     pub(crate) length: usize,
-}
-
-impl Parked {
-    /// Returns the wait of the call.
-    pub fn waiting(&self) -> Waiting
-        ensures { result ≡ self.now.waiting }
-    {
-        self.waiting
-    }
-
-    /// Returns the number of bytes in the request's frame.
-    pub fn length(&self) -> usize
-        ensures { result ≡ self.now.length }
-    {
-        self.length
-    }
 }

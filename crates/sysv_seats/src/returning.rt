@@ -1,19 +1,18 @@
 //! Messages that are given back, and what became of them.
-ghost use Rattle.std.specs.Prelude.{◌≡◌, false};
+ghost use Rattle.std.specs.Prelude.{◌≡◌, false, true};
 ghost use Rattle.sysv_session.specs.Answers.{is_message};
-ghost use Rattle.sysv_seats.specs.GivingBack.{GoesBack, GoesBackOn, HasNoMessage, IsReturning, fate_of, held_after, return_by};
+ghost use Rattle.sysv_seats.specs.GivingBack.{GoesBack, GoesBackOn, IsOfSend, fate_of, held_after, return_by, waits_to_send};
 ghost use Rattle.sysv_seats.specs.HandlesKept.{KeepsHandles};
 ghost use Rattle.sysv_seats.specs.Held.{holder_of};
 
 use crate::keeper::Keeper;
 use crate::notification::Told;
-use crate::parked::Parked;
 use crate::tools::Tools;
 use crate::waiting::Waiting;
 use crate::zero::Zero;
 use std::sync::Wait;
-use sysv_model::{Cred, Errno};
-use sysv_service::Progress;
+use sysv_model::Errno;
+use sysv_service::{Progress, SendWait};
 use sysv_session::RequestOutcome;
 use sysv_wire::{ReplyContent, Request};
 
@@ -34,7 +33,7 @@ pub enum Return {
     /// No message is held.
     Nothing,
     /// The send waits.
-    Waits(Parked),
+    Waits(SendWait),
     /// The send is over.
     Over(Fate),
 }
@@ -49,72 +48,77 @@ impl<'a, R: Wait> Keeper<'a, Zero, R> {
         let Some(message) = &self.message else {
             return Return::Nothing;
         };
-        let (cred, request, length) = (message.cred(), message.send(), message.length());
+        let (cred, request) = (message.cred(), message.send());
         message.recall(&mut tools.text);
         tools.given.clear();
         let progress = self
             .handler
             .begin(cred, &request, &tools.text, &mut tools.given);
-        self.settle_return(cred, request, length, progress, tools)
+        self.settle_return(&request, progress, tools)
     }
 
     /// Looks whether the send that gives back the message may go on, and continues it if so.
     ///
-    /// # Conditions
-    ///
-    /// - A message is held, and `parked` is the send that gives it back.
-    pub fn give_back_on(&mut self, parked: Parked, tools: &mut Tools) -> Return
-        requires { IsReturning (holder_of self.old) parked }
-        ensures goes { GoesBackOn (holder_of self.old) parked result (holder_of self.new) }
+    /// The contract says what becomes of the message if `wait` is that of the send that gives it back.
+    pub fn give_back_on(&mut self, wait: SendWait, tools: &mut Tools) -> Return
+        ensures goes { GoesBackOn (holder_of self.old) wait result (holder_of self.new) }
         ensures handles { KeepsHandles self.old.handler self.new.handler }
     {
         let Some(message) = &self.message else {
             return Return::Nothing;
         };
+        let request = message.send();
         message.recall(&mut tools.text);
         tools.given.clear();
-        let Parked {
-            cred,
-            request,
-            waiting,
-            length,
-        } = parked;
+        let waiting = Waiting::Send(wait);
         let progress = self
             .handler
             .go_on(&request, &tools.text, &mut tools.given, waiting);
-        self.settle_return(cred, request, length, progress, tools)
+        self.settle_return(&request, progress, tools)
+    }
+
+    /// Returns the number of bytes in the frame of a send of the message that is held, or 0.
+    pub fn return_length(&self) -> usize {
+        match &self.message {
+            Some(message) => message.length(),
+            None => 0,
+        }
     }
 
     /// Takes note that the send of this request, which gives back the message, has come so far.
     fn settle_return(
         &mut self,
-        cred: Cred,
-        request: Request,
-        length: usize,
+        request: &Request,
         progress: Progress<Waiting, RequestOutcome>,
         tools: &mut Tools,
     ) -> Return
-        requires { HasNoMessage progress }
-        ensures came { result ≡ return_by cred request length progress }
+        requires { IsOfSend progress }
+        ensures came { result ≡ return_by progress }
         ensures message { self.new.message ≡ held_after self.old.message progress }
         ensures handler { self.new.handler ≡ self.old.handler }
     {
         match progress {
             Progress::Over(outcome) => {
-                tools.tell(Told::by_end(&request, &outcome));
+                tools.tell(Told::by_end(request, &outcome));
                 self.message = None;
                 Return::Over(fate(outcome))
             }
             Progress::Waits(waiting) => {
                 tools.tell(Told::by_wait(&waiting));
-                Return::Waits(Parked {
-                    cred,
-                    request,
-                    waiting,
-                    length,
-                })
+                Return::Waits(send_wait(waiting))
             }
         }
+    }
+}
+
+/// Returns the wait, which is one of a send.
+fn send_wait(waiting: Waiting) -> SendWait
+    requires { waits_to_send waiting ≡ true }
+    ensures { waiting ≡ Waiting.Send result }
+{
+    match waiting {
+        Waiting::Send(wait) => wait,
+        Waiting::Receive(_) | Waiting::Get(_) => unreachable!(),
     }
 }
 

@@ -9,6 +9,6 @@ settle-requires-clause-replied g c = begun_replied _ _ _ _ _ _ _ _ _ c.begin-pro
 pub returns-clause-keeps : goal.returns-clause-keeps
 returns-clause-keeps g c = λ newest start origin asked.
     c.settle.ensures.keeps newest start (holder_of c.args.handler.now)
-        (holder_of c.begin-progress.new.self) origin c.args.tools.now.text
+    (holder_of c.begin-progress.new.self) origin c.args.tools.now.text
     asked
     c.begin-progress.ensures.begun

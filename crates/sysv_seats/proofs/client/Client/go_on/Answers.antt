@@ -27,4 +27,4 @@ returns-clause-keeps g c = λ newest start origin sits.
     subst (λ (s : Sitting g.row.T.Denot). Sits g.T.NonBlocking.incoming g.T.NonBlocking.outgoing newest start origin s
     (holder_of c.go_on-progress.new.self)) (sym c.self-2.view_is)
     (c.settle.ensures.keeps newest start waits.before (holder_of c.go_on-progress.new.self) origin waits.text asked
-        begun)
+    begun)

@@ -49,10 +49,10 @@ returns-in-Err-clause-keeps g c = λ newest start before now origin text asked b
     c.self.inside.conversation c.put.new.self) c.in-Err.is
     (given_still c.args.tools.now c.tell.new.self c.tell.ensures.0) c.put.ensures in
     subst (λ (s : Sitting g.row.T.Denot). Sits g.T.NonBlocking.incoming g.T.NonBlocking.outgoing newest start origin
-        s now)
+    s now)
     (sym c.stop.ensures)
     (put_none g.T.NonBlocking.incoming g.T.NonBlocking.outgoing newest start before now origin _ _ c.args.cred
-        c.args.request
+    c.args.request
     text c.args.size there refl c.args.progress c.in-Over.outcome c.args.tools.now.given c.in-Over.is begun
     c.requires.answer c.in-Err.why put refl refl)
 
@@ -64,7 +64,7 @@ returns-in_default-clause-keeps g c = λ newest start before now origin text ask
     c.self.inside.conversation c.put.new.self) c.in_default.is
     (given_still c.args.tools.now c.tell.new.self c.tell.ensures.0) c.put.ensures in
     put_reply g.T.NonBlocking.incoming g.T.NonBlocking.outgoing newest start before now origin _ _ c.args.cred
-        c.args.request
+    c.args.request
     text c.args.size there refl c.args.progress c.in-Over.outcome c.args.tools.now.given c.in-Over.is begun
     c.requires.answer put (sym (drop-drop c.args.size c.self.inside.start c.self.inside.input.items)) refl refl
 
@@ -73,7 +73,7 @@ returns-in-Waits-clause-keeps g c = λ newest start before now origin text asked
     let there = subst (λ (s : Sitting g.row.T.Denot). HasAsked g.T.NonBlocking.incoming g.T.NonBlocking.outgoing newest
     start origin s c.args.cred c.args.request text c.args.size before) (sym c.self-in-Waits.view_is) asked in
     parks g.T.NonBlocking.incoming g.T.NonBlocking.outgoing newest start before now origin _ _ c.args.cred
-        c.args.request
+    c.args.request
     text c.args.size there refl c.args.progress c.in-Waits.waiting c.args.tools.now.given c.in-Waits.is begun refl
     refl
     refl refl

@@ -33,7 +33,7 @@ returns-in-Ok-Hello-clause-keeps g c = λ newest start origin sits.
     (sym (drop-drop c.read_next-size.result.0 c.self.inside.start c.self.inside.input.items))
     c.greet.ensures.greets in
     greets_next g.T.NonBlocking.incoming g.T.NonBlocking.outgoing newest start (holder_of c.args.handler.now) origin
-        c.args.self.now _
+    c.args.self.now _
     c.read_next-size.result.0 c.read_next-size.result.1 c.read_next-size.new.text c.requires.free reads sits
     c.in-Ok-Hello.version c.greet.new.self is greets
 
@@ -44,11 +44,11 @@ returns-in-Ok-Request-clause-keeps g c = λ newest start origin sits.
     (rw c.in-Ok-Request.is at c.in-Ok-Request.field-0-is) in
     c.ask.ensures.keeps newest start origin
     (subst (λ (s : Sitting g.row.T.Denot). HasAsked g.T.NonBlocking.incoming g.T.NonBlocking.outgoing newest start
-        origin s
+    origin s
     c.in-Ok-Request.cred c.in-Ok-Request.request c.read_next-size.new.text c.read_next-size.result.0
     (holder_of c.args.handler.now)) (sym c.self.view_is)
     (asks_next g.T.NonBlocking.incoming g.T.NonBlocking.outgoing newest start (holder_of c.args.handler.now) origin
-        c.args.self.now
+    c.args.self.now
     c.read_next-size.new.self c.read_next-size.result.0 c.read_next-size.result.1 c.read_next-size.new.text
     c.requires.free c.read_next-size.ensures.takes sits c.in-Ok-Request.cred c.in-Ok-Request.request is))
 
