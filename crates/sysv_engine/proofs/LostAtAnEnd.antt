@@ -22,6 +22,7 @@ use Rattle.sysv_session.proofs.ListLemmas.{messages_more}
 use Rattle.sysv_session.proofs.TogetherLemmas.{all_within, replies_messages}
 use Rattle.sysv_service.specs.Ran.{Pass}
 use Rattle.sysv_wire.specs.declared.frame.Version.{Version}
+use Rattle.sysv_wire.specs.declared.frame.Version.TheVariants.{Two}
 use Rattle.sysv_engine.specs.declared.sums.Sums.{Sums}
 use Rattle.sysv_engine.specs.Added.{capped, one_session}
 use Rattle.sysv_engine.specs.Handled.{Shift, cut_off_of, may_lose, one_cut_off, reports_of, sums_of, told_in}
@@ -88,12 +89,13 @@ safe_stop why stopped sent all safe (inl whole) = subst (λ (e : End). may_lose 
 safe_stop why stopped sent all safe (inr failed) =
     let lost : true ≡ false = subst (λ (e : End). may_lose e ≡ false) failed.0 safe in absurd (grind arith)
 
-serves_all : {K : Type 0} (Means : Meaning K) (slots : ℕ) (served : Served) (old new : K)
-    (left rest taken more : Option (List ℕ)) → ServesTogether Means slots served old new left rest taken more →
+serves_all : {K : Type 0} (newest : Version) (Means : Meaning K) (slots : ℕ) (served : Served) (old new : K)
+    (left rest taken more : Option (List ℕ)) →
+    ServesTogether newest Means slots served old new left rest taken more →
     may_lose served.«end» ≡ false → served.tally.lost ≡ 0
-serves_all Means slots served old new left rest taken more (inl stays) safe =
+serves_all newest Means slots served old new left rest taken more (inl stays) safe =
     ap (λ (t : Tallied). t.lost) stays.tallies
-serves_all Means slots served old new left rest taken more (inr dialogues) safe =
+serves_all newest Means slots served old new left rest taken more (inr dialogues) safe =
     none_lost served.tally.written served.tally.lost _ _ _ dialogues.all dialogues.written
     (none_unread dialogues.stopped (safe_stop served.«end» dialogues.stopped dialogues.sent _ safe dialogues.reports)
     (length dialogues.sent) dialogues.replies)
@@ -114,7 +116,7 @@ dialogue_loses : (told : Option Served) (before after : Pass) (left rest taken m
     ConversesAs before told left rest taken more after → LosesNone told
 dialogue_loses None before after left rest taken more dialogues none = refl
 dialogue_loses (Some served) before after left rest taken more dialogues none =
-    serves_all (asks_with zero_moment ⊤) SLOTS served before after left rest taken more dialogues
+    serves_all Two (asks_with zero_moment ⊤) SLOTS served before after left rest taken more dialogues
     (is_safe (may_lose served.«end») none)
 
 both : (xs ys : List (Option Served)) → AllByRecursion LosesNone xs → AllByRecursion LosesNone ys →
