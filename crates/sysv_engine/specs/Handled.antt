@@ -16,12 +16,12 @@ use Rattle.sysv_wire.specs.declared.frame.Version.TheVariants.{Two, Three}
 use Rattle.sysv_wire.specs.declared.reply.ReplyContent.{ReplyContent}
 use Rattle.sysv_wire.specs.declared.reply.ReplyContent.TheVariants.{Refused as RefusedWith}
 use Rattle.sysv_service.specs.Ran.{Pass}
-use Rattle.sysv_seats.specs.GivingBack.{GivesBack}
+use Rattle.sysv_seats.specs.GivingBack.{GivesBack, fate_of}
 use Rattle.sysv_seats.specs.Holding.{Holder}
 use Rattle.sysv_seats.specs.Notification.{is_refusal}
 use Rattle.sysv_thread_laws.specs.Order.{Called}
 use Rattle.sysv_engine.specs.Made.{log}
-use Rattle.sysv_engine.specs.Fated.{both}
+use Rattle.sysv_engine.specs.Fated.{one_fated}
 use Rattle.sysv_engine.specs.declared.fates.Fates.{Fates}
 use Rattle.sysv_engine.specs.declared.sums.Sums.{Sums}
 use Rattle.sysv_engine.specs.Added.{added, all_added, capped, one_session}
@@ -106,6 +106,11 @@ fates_of backs = record {
   unsent = capped (count_by is_unsent backs);
 }
 
+-- The numbers once a session was followed by this.
+abbrev pub fated_by : Fates → Option RequestOutcome → Fates
+fated_by fates None = fates
+fated_by fates (Some outcome) = one_fated (fate_of outcome) fates
+
 module _ {T B : Type 0} (incoming outgoing : T → Option (List ℕ)) (closes : Closing T B) where
   -- One session with this report was held on the connection, which was then closed. It may have held a message
   -- at its end. What gives that back has come so far: it is `back`.
@@ -134,7 +139,7 @@ module _ {T B : Type 0} (incoming outgoing : T → Option (List ℕ)) (closes : 
     pub leaves : Leaves newest connection before sums refused book back mid sums' refused' book'
     pub gives : GivesBack mid back after
     pub ended : IfSome back IsReplied
-    pub fated : fates' ≡ both fates (fates_of (option_to_list back))
+    pub fated : fates' ≡ fated_by fates back
 
 -- The messages that these sessions held at their ends were given back, each before the next session. That of
 -- the last one may still wait.

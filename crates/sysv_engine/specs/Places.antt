@@ -91,16 +91,16 @@ module _ {T B : Type 0} (incoming outgoing : T → Option (List ℕ)) (closes : 
   -- pass that the place had then. `Sits` states how far it is. A place that has a message and no client has had one
   -- on each connection, and gives back what the last one held.
   abbrev pub IsPlace : {C : Type 0} → (Sits : Version → Pass → T → C → Holder Pass → Type 0) → Standing (View B) T →
-      View B → Option Message → Option SendWait → Option C → Type 0
-  IsPlace Sits place view None returning None = FoldsTo Handled place.start place.had view × (returning ≡ None)
-  IsPlace Sits place view (Some message) returning None =
+      View B → Option C → Option Message → Option SendWait → Type 0
+  IsPlace Sits place view (Some client) message returning = (done : List T) × (connection : T) × (pass : Pass)
+      × (place.had ≡ done ++ connection ∷ []) × FoldsTo Handled place.start done (with_pass pass view)
+      × Sits view.newest pass connection client (record { at = view.pass; message = message }) × (returning ≡ None)
+  IsPlace Sits place view None None returning = FoldsTo Handled place.start place.had view × (returning ≡ None)
+  IsPlace Sits place view None (Some message) returning =
       (done : List T) × (connection : T) × (mid : View B) × (left : Holder Pass)
       × (place.had ≡ done ++ connection ∷ []) × FoldsTo Handled place.start done mid
       × HasLeft mid connection left view
       × ComesBackAt left returning (record { at = view.pass; message = Some message })
-  IsPlace Sits place view message returning (Some client) = (done : List T) × (connection : T) × (pass : Pass)
-      × (place.had ≡ done ++ connection ∷ []) × FoldsTo Handled place.start done (with_pass pass view)
-      × Sits view.newest pass connection client (record { at = view.pass; message = message }) × (returning ≡ None)
 
 -- What the contracts see of a place: the gates of its service, its pass, the newest version that its sessions
 -- read, the sums of its sessions, the number of those whose memory was refused, its book, its client, if it has
@@ -158,7 +158,8 @@ module _ {T B : Type 0} (incoming outgoing : T → Option (List ℕ)) (closes : 
   -- The place is one of a service with these gates, and is what it has to be after what it has had.
   abbrev pub Stands : Gates → Standing (View B) T → Seated B T → Type 0
   Stands gates standing place = (place.gates ≡ gates)
-      × IsPlace incoming outgoing closes SitsOn standing (view_of place) place.message place.returning place.client
+      × IsPlace incoming outgoing closes SitsOn standing (view_of place) place.client place.message
+      place.returning
 
   -- Whatever the place has had, it has had the same now.
   abbrev pub KeepsPlace : (old new : Seated B T) → Type 0
