@@ -5,4 +5,5 @@ pub mod HeldPieces
 pub mod ClientLemmas
 pub mod ClientSteps
 pub mod Returns
+pub mod Fated
 pub mod Known

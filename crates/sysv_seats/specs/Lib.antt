@@ -17,3 +17,4 @@ pub mod Holding
 pub mod Held
 pub mod Sits
 pub mod GivingBack
+pub mod Fates
