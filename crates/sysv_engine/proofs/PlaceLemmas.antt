@@ -22,8 +22,8 @@ use Rattle.sysv_engine.specs.declared.sums.Sums.{Sums}
 use Rattle.sysv_engine.specs.Added.{added, capped, one_session}
 use Rattle.sysv_engine.specs.Fated.{one_fated}
 use Rattle.sysv_engine.specs.Handled.{Handles, Leaves, fated_by, one_refused}
-use Rattle.sysv_engine.specs.Places.{ComesBackAt, Handled, HasLeft, IsPlace, KeepsPlace, Seated, SitsOn, Standing, Stands}
-use Rattle.sysv_engine.specs.Places.{TakesIn, View, taken_by, view_of, with_one, with_pass}
+use Rattle.sysv_engine.specs.Places.{ComesBackAt, Handled, HasLeft, IsPlace, KeepsPlace, Seated, SitsOn, Standing}
+use Rattle.sysv_engine.specs.Places.{Stands, TakesIn, View, taken_by, view_of, with_one, with_pass}
 use Rattle.sysv_engine.specs.Converses.{Closes, ConversesAs, tally_of}
 use Rattle.sysv_engine.proofs.Shifts.{folds_last}
 
@@ -218,7 +218,8 @@ module _ {T B C : Type 0} (incoming outgoing : T → Option (List ℕ)) (closes 
         stands.5,
         left_as stands.2 stands.1 stands.3 view new has same fated,
         (
-          subst (λ (m : Option Message). WaitsBack stands.3.at (record { at = new.pass; message = m }) wait) still waits,
+          subst (λ (m : Option Message). WaitsBack stands.3.at (record { at = new.pass; message = m }) wait) still
+              waits,
           sym held,
         ),
       )

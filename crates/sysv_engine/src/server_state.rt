@@ -123,12 +123,16 @@ impl ServerState {
     }
 
     /// Has sessions read version 3, so that they may hold messages.
-    pub fn allow_hold(&mut self) {
+    pub fn allow_hold(&mut self)
+        ensures { self.new.newest ≡ Version.Three }
+    {
         self.newest = Version::Three;
     }
 
     /// Returns the newest version that sessions read.
-    pub(crate) fn newest(&self) -> Version {
+    pub(crate) fn newest(&self) -> Version
+        ensures { result ≡ self.now.newest }
+    {
         self.newest
     }
 

@@ -1,6 +1,6 @@
 -- Each message that a hold gave is spent or held.
-use Rattle.std.proofs.Common.{◌≡◌, ◌∙◌, ◌+◌, ℕ, ℤ, List, [], ◌∷◌, Option, None, Some, Result, Ok, Err, inl, inr, refl, sym}
-use Rattle.std.proofs.Common.{ap, subst, arith}
+use Rattle.std.proofs.Common.{◌≡◌, ◌∙◌, ◌+◌, ℕ, ℤ, List, [], ◌∷◌, Option, None, Some, Result, Ok, Err, inl, inr}
+use Rattle.std.proofs.Common.{ap, refl, subst, sym, arith}
 use Rattle.std.specs.Prelude.{⊤}
 use Rattle.sysv_model.specs.declared.attributes.Row.{Row as Line}
 use Rattle.sysv_model.specs.declared.attributes.Stat.{Stat as Attributes}
@@ -62,7 +62,8 @@ module _ (may : ℕ → Type 0) (may_leave : Type 0) (version : Version) (cred :
   neither (Hello other) text before outcome given after no asked = absurd asked
   neither (Get key flags) text before outcome given after no (inl over, none) =
       subst IsNeither (sym over.4) (id_is version over.0)
-  neither (Get key flags) text before outcome given after no (inr left, none) = subst IsNeither (sym left.1) (refl, refl)
+  neither (Get key flags) text before outcome given after no (inr left, none) = subst IsNeither (sym left.1)
+      (refl, refl)
   neither (Snd id mtype flags) text before outcome given after no ((released, mid, read, inl over), none) =
       subst IsNeither (sym over.4) (sent_is version over.0)
   neither (Snd id mtype flags) text before outcome given after no ((released, mid, read, inr left), none) =
@@ -149,6 +150,7 @@ each_message may may_leave cred old [] new is = omega (arith, ap (λ (h : Holder
 each_message may may_leave cred old (call ∷ calls) new leads =
     omega (
       arith,
-      one may may_leave call.request.version cred call.request.ask call.text old call.outcome call.given leads.0 leads.1,
+      one may may_leave call.request.version cred call.request.ask call.text old call.outcome call.given leads.0
+          leads.1,
       each_message may may_leave cred leads.0 calls new leads.2,
     )

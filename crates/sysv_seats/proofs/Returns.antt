@@ -24,7 +24,8 @@ use Rattle.sysv_seats.proofs.ClientSteps.{asks_replied}
 -- The send of a message has come so far.
 pub comes_back : (message : Message) (start : Pass) (came : Progress Waiting RequestOutcome) (given : List ℕ)
     (after : Pass) →
-    HasBegun zero_moment Three message.cred (Snd message.id message.mtype no_flags) message.text start came given after →
+    HasBegun zero_moment Three message.cred (Snd message.id message.mtype no_flags) message.text start came given
+    after →
     ComesBack start (Some message) (return_by came) (record { at = after; message = held_after (Some message) came })
 comes_back message start (progress.Waits (Send wait)) given after begun = ((message, refl, begun.0), refl)
 comes_back message start (progress.Waits (Receive wait)) given after begun = absurd begun.0
@@ -59,5 +60,6 @@ one_message held a b first second = cc
 pub returns_left : EachReturnCanBeLeft
 returns_left start now wait held is (message, same, waits) =
     subst (λ (m : Message). IsReturn m start Left now.at) (one_message now.message message held same is)
-    (left zero_moment Three message.cred ⊤ (Snd message.id message.mtype no_flags) message.text start (Send wait) now.at tt
+    (left zero_moment Three message.cred ⊤ (Snd message.id message.mtype no_flags) message.text start (Send wait)
+    now.at tt
     waits).0

@@ -45,8 +45,8 @@ abbrev pub held_count : Option Message → ℕ
 held_count None = 0
 held_count (Some message) = 1
 
--- Each message that was held before these calls, or that a hold of them gave, was spent by one of them, or is held after
--- them.
+-- Each message that was held before these calls, or that a hold of them gave, was spent by one of them, or is held
+-- after them.
 abbrev pub EachMessageIsSpentOrHeld : Type 0
 EachMessageIsSpentOrHeld = (may : ℕ → Type 0) (may_leave : Type 0) (cred : Cred) (old : Holder Pass)
     (calls : List Call) (new : Holder Pass) → Leads (holds_with may may_leave) cred old calls new →

@@ -35,6 +35,10 @@ return_of message = record { version = Three; ask = Snd message.id message.mtype
 abbrev pub return_length : Message → ℕ
 return_length message = 22 + length message.text
 
+abbrev pub held_length : Option Message → ℕ
+held_length None = 0
+held_length (Some message) = return_length message
+
 -- The definitions of `Holding`, for a pass.
 abbrev pub IsReturn : Message → Pass → RequestOutcome → Pass → Type 0
 IsReturn = holding.IsReturn ComesFrom ReadsReleased TellsRow zero_moment

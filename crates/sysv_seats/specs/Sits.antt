@@ -24,7 +24,7 @@ use Rattle.sysv_service.specs.Ran.{Pass}
 use Rattle.sysv_wire.specs.declared.fault.Fault.TheVariants.{Truncated, TooLong, BadOp, BadField, Read}
 use Rattle.sysv_wire.specs.declared.frame.Version.{Version}
 use Rattle.sysv_wire.specs.declared.request.Ask.{Ask}
-use Rattle.sysv_wire.specs.declared.request.Ask.TheVariants.{Get as AskGet, Snd, Rcv}
+use Rattle.sysv_wire.specs.declared.request.Ask.TheVariants.{Get as AskGet, Snd, Rcv, Hold}
 use Rattle.sysv_wire.specs.declared.request.Request.{Request}
 use Rattle.sysv_wire.specs.Requests.{request_encoding}
 use Rattle.sysv_seats.specs.declared.parked.Parked.{Parked}
@@ -43,6 +43,15 @@ parked_wait (Some parked) = Some parked.waiting
 abbrev pub parked_bytes : Option Parked → ℕ
 parked_bytes None = 0
 parked_bytes (Some parked) = parked.length
+
+-- The parked call is the receive of a hold.
+abbrev pub is_hold : Ask → Bool
+is_hold (Hold id size mtype flags seconds) = true
+is_hold ask = false
+
+abbrev pub is_hold_parked : Option Parked → Bool
+is_hold_parked None = false
+is_hold_parked (Some parked) = is_hold parked.request.ask
 
 -- What the contracts see of a client.
 pub record Sitting (T : Type 0) : Type 0 where

@@ -13,7 +13,7 @@ ghost use Rattle.sysv_wire.specs.declared.frame.Version.{Version as Known};
 ghost use Rattle.sysv_seats.specs.Parked.{IsReplied};
 ghost use Rattle.sysv_seats.specs.Holding.{Holder, empty_handed};
 ghost use Rattle.sysv_seats.specs.Held.{HoldBegun, HoldProgress, holder_of};
-ghost use Rattle.sysv_seats.specs.Sits.{Arrives, GreetsAs, HasAsked, IsFree, IsOver, IsPending, Keeps, KeepsWith, ReadsNext, Sits, broken_off_for, end_at_close, is_early as early, is_finished, parked_bytes, parked_wait, stopped_for, zero_moment};
+ghost use Rattle.sysv_seats.specs.Sits.{Arrives, GreetsAs, HasAsked, IsFree, IsOver, IsPending, Keeps, KeepsWith, ReadsNext, Sits, broken_off_for, end_at_close, is_early as early, is_finished, is_hold_parked, parked_bytes, parked_wait, stopped_for, zero_moment};
 
 use crate::keeper::Keeper;
 use crate::limits::Limit;
@@ -146,7 +146,9 @@ impl<T: NonBlocking> Client<T> {
     }
 
     /// Returns whether the parked call is the receive of a hold.
-    pub fn awaits_hold(&self) -> bool {
+    pub fn awaits_hold(&self) -> bool
+        ensures { result ≡ is_hold_parked self.now.parked }
+    {
         match self.parked {
             Some(parked) => matches!(parked.request.ask, Ask::Hold { .. }),
             None => false,

@@ -1,7 +1,7 @@
 //! Messages that are given back, and what became of them.
 ghost use Rattle.std.specs.Prelude.{◌≡◌, false, true};
 ghost use Rattle.sysv_session.specs.Answers.{is_message};
-ghost use Rattle.sysv_seats.specs.GivingBack.{GoesBack, GoesBackOn, IsOfSend, fate_of, held_after, return_by, waits_to_send};
+ghost use Rattle.sysv_seats.specs.GivingBack.{GoesBack, GoesBackOn, IsOfSend, fate_of, held_after, held_length, return_by, waits_to_send};
 ghost use Rattle.sysv_seats.specs.HandlesKept.{KeepsHandles};
 ghost use Rattle.sysv_seats.specs.Held.{holder_of};
 
@@ -78,7 +78,9 @@ impl<'a, R: Wait> Keeper<'a, Zero, R> {
     }
 
     /// Returns the number of bytes in the frame of a send of the message that is held, or 0.
-    pub fn return_length(&self) -> usize {
+    pub fn return_length(&self) -> usize
+        ensures { result ≡ held_length self.now.message }
+    {
         match &self.message {
             Some(message) => message.length(),
             None => 0,
@@ -101,7 +103,7 @@ impl<'a, R: Wait> Keeper<'a, Zero, R> {
             Progress::Over(outcome) => {
                 tools.tell(Told::by_end(request, &outcome));
                 self.message = None;
-                Return::Over(fate(outcome))
+                Return::Over(fate_after(outcome))
             }
             Progress::Waits(waiting) => {
                 tools.tell(Told::by_wait(&waiting));
@@ -123,7 +125,7 @@ fn send_wait(waiting: Waiting) -> SendWait
 }
 
 /// Returns what became of a message whose send has this outcome, which is no message.
-fn fate(outcome: RequestOutcome) -> Fate
+fn fate_after(outcome: RequestOutcome) -> Fate
     requires { is_message outcome ≡ false }
     ensures { result ≡ fate_of outcome }
 {

@@ -1,5 +1,5 @@
 //! What the clients of one worker use one after another.
-ghost use Rattle.std.specs.Prelude.{◌≡◌, ◌∷◌, [], if◌then◌else◌, IfOk, vec_capacity};
+ghost use Rattle.std.specs.Prelude.{◌≡◌, ◌<◌, ◌∷◌, [], if◌then◌else◌, IfOk, true, vec_capacity};
 ghost use Rattle.std.specs.List.{list_any};
 ghost use Rattle.std.specs.Option.{option_to_list};
 ghost use Rattle.sysv_seats.specs.declared.tools.TheConstants.{MOST_NOTIFICATIONS};
@@ -73,7 +73,9 @@ impl Tools {
     }
 
     /// Returns whether one more place may hold a message.
-    pub fn may_hold_more(&self) -> bool {
+    pub fn may_hold_more(&self) -> bool
+        ensures { result ≡ true → self.now.holding < self.now.most_holding }
+    {
         self.holding < self.most_holding
     }
 

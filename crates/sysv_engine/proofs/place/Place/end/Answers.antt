@@ -1,5 +1,5 @@
--- The client is cut off if it may be, and then closed if nothing else is left to do. What gives back its message is looked
--- at once more.
+-- The client is cut off if it may be, and then closed if nothing else is left to do. What gives back its message is
+-- looked at once more.
 use Rattle.sysv_engine.proofs.place.Place.end.Goals as goal
 
 pub returns : goal.returns
