@@ -59,14 +59,15 @@ where
     let outcome = serve_seeing(
         rt, alloc, &service, &mut pass, source, books, watches, server, reads,
     );
-    let removed = service.stop(rt, &mut pass);
+    let stop = service.stop_counting(rt, &mut pass);
     let closed = service.close(pass);
     each_lifetime_is_one_run();
     match outcome {
         Ok((sums, refused)) => Ok(Ended {
             sums,
             refused,
-            removed,
+            removed: stop.removed,
+            discarded: stop.messages,
             cut: server.cut_calls(),
             closed,
         }),

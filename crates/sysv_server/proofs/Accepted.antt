@@ -254,6 +254,7 @@ module _ {L I H : Type 0} (told : L → Option (List SocketStream)) (listens : L
       refused = all.refused;
       removed = refl;
       closed = all.closed;
+      discarded = all.discarded;
     };
     accepted = all_tell all.given s s' all.gave;
     closed = all.gave.ended.3;

@@ -13,7 +13,7 @@ use Rattle.sysv_server.specs.declared.terms.Terms.{Terms}
 use Rattle.sysvmsg.specs.Room.{places_within}
 
 -- The line with the sums of a server. That of a server that may have an input also has the number of
--- calls that its end cut off.
+-- messages that were discarded at the end, and of the calls that were cut off then.
 abbrev pub sums_of : Sums → List ℕ
 sums_of sums =
     codes "sessions " ++ decimal sums.sessions ++ codes " taken " ++ decimal sums.taken ++ codes " written "
@@ -22,7 +22,8 @@ sums_of sums =
 abbrev pub sums_line : (has_input : Bool) → Ended → List ℕ
 sums_line false ended = sums_of ended.sums ++ 10 ∷ []
 sums_line true ended =
-    sums_of ended.sums ++ codes " cut " ++ decimal ended.cut ++ 10 ∷ []
+    sums_of ended.sums ++ codes " discarded " ++ decimal ended.discarded ++ codes " cut " ++ decimal ended.cut
+    ++ 10 ∷ []
 
 -- What is printed of a server that did not serve to its end. A thread that cannot be started lacks memory
 -- or is one too many.

@@ -253,8 +253,8 @@ fn fail<S: Write>(screen: &mut S, fault: &str) -> ExitCode
     ExitCode::from(FAULT)
 }
 
-/// Prints the sums, and for a server that may have had an input the number of calls that its end
-/// cut off.
+/// Prints the sums, and for a server that may have had an input the numbers of messages and of calls
+/// that its end discarded and cut off.
 fn tell<S: Write>(screen: &mut S, ended: &Ended, has_input: bool) -> ExitCode
     ensures { SucceedsOnlyIf (Appends (S.contents screen.old) (S.contents screen.new)
         (sums_line has_input ended.now)) result }
@@ -265,11 +265,12 @@ fn tell<S: Write>(screen: &mut S, ended: &Ended, has_input: bool) -> ExitCode
         written,
         lost,
     } = ended.sums;
-    let cut = ended.cut;
+    let Ended { discarded, cut, .. } = *ended;
     let told = if has_input {
         writeln!(
             screen,
-            "sessions {sessions} taken {taken} written {written} lost {lost} cut {cut}"
+            "sessions {sessions} taken {taken} written {written} lost {lost} \
+            discarded {discarded} cut {cut}"
         )
     } else {
         writeln!(

@@ -81,12 +81,13 @@ fn count(books: &[Replies], replies: &[u8]) -> usize {
 }
 
 /// Asserts that the server ended after this number of sessions, in which one message was written,
-/// removed one queue, and cut off no call.
+/// removed one queue, and cut off no call. No message was left.
 fn assert_ended(rt: &impl Abort, ended: Ended, sessions: u64) {
     let wanted = Ended {
         sums: sums(sessions, 1, 0),
         refused: 0,
         removed: Ok(1),
+        discarded: 0,
         cut: 0,
         closed: EMPTY,
     };

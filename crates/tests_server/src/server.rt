@@ -540,11 +540,12 @@ fn sessions_of_both_versions(rt: HostRuntime) {
 }
 
 #[test]
-fn the_queue_that_the_last_session_made_is_removed(rt: HostRuntime) {
+fn the_queue_that_the_last_session_made_is_removed_with_its_message(rt: HostRuntime) {
     let end = Ended {
         sums: sums(2, 0, 0),
         refused: 0,
         removed: Ok(1),
+        discarded: 1,
         cut: 0,
         closed: EMPTY,
     };
@@ -557,6 +558,7 @@ fn a_server_shows_its_state(rt: HostRuntime) {
         sums: sums(2, 1, 0),
         refused: 0,
         removed: Ok(1),
+        discarded: 0,
         cut: 0,
         closed: EMPTY,
     };
@@ -569,6 +571,7 @@ fn no_queue_is_left(rt: HostRuntime) {
         sums: sums(5, 0, 0),
         refused: 0,
         removed: Ok(0),
+        discarded: 0,
         cut: 0,
         closed: EMPTY,
     };
