@@ -57,6 +57,7 @@ function __sysvmsg_complete_server
     complete $argv -l idle -x -d 'End a session that sends no request for this time'
     complete $argv -l stall -x -d 'End a session whose request or reply takes longer'
     complete $argv -l drain -x -d 'End the sessions left this long after the last accept'
+    complete $argv -l hold -d 'Let clients hold messages that come back if they are not done'
     complete $argv -l stats -r -d 'Show the state on a second socket'
 end
 

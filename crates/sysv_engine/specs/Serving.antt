@@ -13,12 +13,13 @@ use Rattle.sysv_workers.specs.Sources.{GivesAll, Gave, Returned}
 use Rattle.sysv_workers.specs.declared.workers.TheConstants.{MAX_WORKERS}
 use Rattle.sysv_engine.specs.declared.fault.ServeFault.{ServeFault}
 use Rattle.sysv_engine.specs.declared.fault.ServeFault.TheVariants.{NoMemory, Thread, Worn, Missed}
+use Rattle.sysv_engine.specs.declared.fates.Fates.{Fates}
 use Rattle.sysv_engine.specs.declared.sums.Sums.{Sums}
 use Rattle.sysv_engine.specs.declared.terms.Patience.{Patience}
 use Rattle.sysv_engine.specs.declared.terms.Setting.{Setting}
 use Rattle.sysv_engine.specs.Added.{nothing}
 use Rattle.sysv_engine.specs.Desks.{Desk, InTeam, AreServedInOrder, all_connections}
-use Rattle.sysv_engine.specs.Handled.{Shift, sums_of, refused_of, told_in}
+use Rattle.sysv_engine.specs.Handled.{Shift, backs_in, fates_of, sums_of, refused_of, told_in}
 use Rattle.sysv_engine.specs.Looking.{HiresBy}
 use Rattle.sysv_engine.specs.OneRun.{Lived}
 use Rattle.sysv_seats.specs.Untold.{Closing}
@@ -69,7 +70,7 @@ module _ {S T B : Type 0} (incoming outgoing : T → Option (List ℕ)) (closes 
   -- The places served the connections that the source returned. They began with passes that were
   -- split off from the pass `old`, and the passes that they left were joined back into it.
   pub record WorkedFrom (reads : Bool) (gates : Gates) (old : Pass) (source : S) (books : List B) (sums : Sums)
-      (refused : ℕ)
+      (refused : ℕ) (fates : Fates)
       (new : Pass) (source' : S) (books' : List B) : Type 0 where
     pub given : List T
     pub gave : GivesAll gives source given source'
@@ -81,6 +82,7 @@ module _ {S T B : Type 0} (incoming outgoing : T → Option (List ℕ)) (closes 
     pub in_team : InTeam incoming outgoing closes gates books desks shifts books'
     pub adds : sums ≡ sums_of (told_in shifts)
     pub counts : refused ≡ refused_of (told_in shifts)
+    pub held : fates ≡ fates_of (backs_in shifts)
     pub hires : HiresBy reads old shifts new
 
   -- What a server leaves that ended by this fault, if `Ran` is so of its gates and its shifts.

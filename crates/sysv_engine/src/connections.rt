@@ -9,6 +9,7 @@ ghost use Rattle.sysv_engine.specs.Serving.{FaultOf, HasLived, HiredFrom, Leaves
 
 use crate::alarm::Rest;
 use crate::dealing::{Dealing, shares};
+use crate::fates::Fates;
 use crate::fault::ServeFault;
 use crate::laws::each_lifetime_is_one_run;
 use crate::rounds::Serving;
@@ -135,9 +136,10 @@ where
     let closed = service.close(pass);
     each_lifetime_is_one_run();
     match outcome {
-        Ok((sums, refused)) => Ok(Ended {
+        Ok((sums, refused, fates)) => Ok(Ended {
             sums,
             refused,
+            fates,
             removed,
             cut: server.cut_calls(),
             closed,
@@ -148,7 +150,8 @@ where
 }
 
 /// Serves the connections of a source on this service, and takes back the passes and the books of
-/// all places. Returns the sums of the sessions, and the number of those whose memory was refused.
+/// all places. Returns the sums of the sessions, the number of those whose memory was refused, and what
+/// became of the messages that they held.
 pub(crate) fn serve_with<
     T: NonBlocking + Drop + Send,
     S: Source<T>,
@@ -163,7 +166,7 @@ pub(crate) fn serve_with<
     books: &mut Vec<T::Book>,
     watches: Vec<(W, Rest)>,
     server: &ServerState,
-) -> Result<(Sums, u64), ServeFault>
+) -> Result<(Sums, u64, Fates), ServeFault>
 where
     T::Book: Send,
     requires pass { AreOf service.now pass.old.seats }
@@ -171,7 +174,7 @@ where
         × (vec_len watches ≤ MAX_WORKERS) }
     ensures pass { AreOf service.now pass.new.seats }
     ensures ok { IfOk result (λ told. WorkedFrom T.incoming T.outgoing T.closes S.gives false
-        service.now pass.old source.old books.old.items told.0 told.1 pass.new source.new
+        service.now pass.old source.old books.old.items told.0 told.1 told.2 pass.new source.new
         books.new.items) }
     ensures err { IfErr result (λ why. LeavesConnections T.incoming T.outgoing T.closes S.gives
         (HiredFrom false service.now pass.old pass.new) source.old books.old.items why source.new
@@ -193,7 +196,8 @@ where
         discard(kits);
         return Err(ServeFault::NoMemory);
     };
-    staff(rt, alloc, service, pass, books, kits, &mut workers);
+    let newest = server.newest();
+    staff(rt, alloc, service, newest, pass, books, kits, &mut workers);
     let job = Serving {
         rt,
         alloc,

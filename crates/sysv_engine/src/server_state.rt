@@ -19,6 +19,7 @@ use sysv_keys::SLOTS;
 use sysv_parking::{Change, Envelope, WORDS};
 use sysv_queue::Tally;
 use sysv_system::{Doorbell, Watched};
+use sysv_wire::Version;
 
 /// The number of bits in a word, and so of workers that a word can name.
 const BITS: usize = 64;
@@ -66,9 +67,12 @@ pub struct ServerState {
     /// Whether all clients are to be closed.
     is_cut: AtomicBool,
     /// The number of parked calls of clients that were closed for that.
-    cut_calls: Counter,
-    /// The number of sessions that are over.
+    /// The number of places that sessions have left: these are over, and hold no message.
     over: AtomicU64,
+    /// The number of places whose sessions are over, and that still give back a message.
+    returning: AtomicU64,
+    /// The newest version that sessions read.
+    newest: Version,
     /// Whether the memory of a session was refused.
     starved: AtomicBool,
     /// Whether the accepting thread waits for a session to be over.
@@ -114,11 +118,27 @@ impl ServerState {
             is_cut: AtomicBool::new(false),
             cut_calls: Counter::new(Kind::CutOff),
             over: AtomicU64::new(0),
+            returning: AtomicU64::new(0),
+            newest: Version::Two,
             starved: AtomicBool::new(false),
             is_awaited: AtomicBool::new(false),
             turn,
         };
         Some((server, rests))
+    }
+
+    /// Has sessions read version 3, so that they may hold messages.
+    pub fn allow_hold(&mut self)
+        ensures { self.new.newest ≡ Version.Three }
+    {
+        self.newest = Version::Three;
+    }
+
+    /// Returns the newest version that sessions read.
+    pub(crate) fn newest(&self) -> Version
+        ensures { result ≡ self.now.newest }
+    {
+        self.newest
     }
 
     /// Returns the number of workers.
@@ -377,15 +397,45 @@ impl ServerState {
     }
 
     /// Counts a session of a worker that is over.
-    pub(crate) fn close(&self, worker: usize, tally: &Tally) {
+    pub(crate) fn end(&self, worker: usize, tally: &Tally) {
         if let Some(post) = self.posts.get(worker) {
             post.counts.end(tally);
+        }
+    }
+
+    /// Counts a place of a worker that is vacant again.
+    pub(crate) fn vacate(&self, worker: usize) {
+        if let Some(post) = self.posts.get(worker) {
             post.closed.fetch_add(1, Ordering::SeqCst);
         }
         self.over.fetch_add(1, Ordering::SeqCst);
+        self.tell_end();
+    }
+
+    /// Counts one more place that gives back a message, or one less.
+    pub(crate) fn count_return(&self, begins: bool) {
+        if begins {
+            self.returning.fetch_add(1, Ordering::SeqCst);
+        } else {
+            self.returning.fetch_sub(1, Ordering::SeqCst);
+        }
+        self.tell_end();
+    }
+
+    /// Has those look that may wait for the last session to be over.
+    fn tell_end(&self) {
+        if self.finished.load(Ordering::SeqCst) && self.returning.load(Ordering::SeqCst) > 0 {
+            self.ring_all();
+        }
         if self.is_awaited.load(Ordering::SeqCst) {
             self.turn.ring();
         }
+    }
+
+    /// Returns whether the sessions of all connections that were returned to the workers are over.
+    /// Messages that they held may still be given back.
+    pub(crate) fn has_no_sessions(&self) -> bool {
+        self.is_empty(self.dealt.load(Ordering::SeqCst))
     }
 
     /// Says that the memory of a session was refused.
@@ -422,7 +472,8 @@ impl ServerState {
 
     /// Returns whether all sessions are over, of which this many were accepted.
     fn is_empty(&self, accepted: u64) -> bool {
-        self.over.load(Ordering::SeqCst) >= accepted
+        let returning = self.returning.load(Ordering::SeqCst);
+        self.over.load(Ordering::SeqCst).saturating_add(returning) >= accepted
     }
 
     /// Says whether the accepting thread waits from now on for a session to be over.

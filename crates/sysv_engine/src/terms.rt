@@ -1,6 +1,7 @@
 //! How long a client may take, and the result of a server.
 ghost use Rattle.std.specs.Prelude.{◌≡◌};
 
+use crate::fates::Fates;
 use crate::sums::Sums;
 use sysv_model::Errno;
 use sysv_service::Closed;
@@ -58,6 +59,8 @@ pub struct Ended {
     pub sums: Sums,
     /// The number of its sessions whose memory was refused, at most 2^64 - 1.
     pub refused: u64,
+    /// What became of the messages that clients held when their sessions ended.
+    pub fates: Fates,
     /// The number of queues that were left at the end and were removed, or `EOVERFLOW` if the gate
     /// of a slot was found worn out.
     pub removed: Result<u32, Errno>,

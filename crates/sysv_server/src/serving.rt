@@ -73,6 +73,7 @@ pub fn serve_on<R: Threads + Wait + Net + Sync>(
         patience: Patience::UNBOUNDED,
         drain: 0,
         stats: false,
+        hold: false,
     };
     let mut lent = Lent::new(listener);
     let mut reason = None;
@@ -212,11 +213,15 @@ fn run<L: Listens, I: Input + Drop, H: Host, R: Threads + Wait + Net + Sync>(
         patience,
         drain,
         stats,
+        hold,
     } = terms;
     *reason = None;
-    let Some((server, rests)) = opened_for(alloc, &terms) else {
+    let Some((mut server, rests)) = opened_for(alloc, &terms) else {
         return Err(ServeFault::NoMemory);
     };
+    if hold {
+        server.allow_hold();
+    }
     let Some(mut books) = empty_books(alloc, at_once) else {
         return Err(ServeFault::NoMemory);
     };

@@ -485,6 +485,7 @@ fn ends_with<R: Threads + Wait + Net + Files + Abort + Clock + Sync>(
         },
         drain: 62,
         stats: matches!(clients, Clients::Looking),
+        hold: false,
     };
     let first = ended(rt, alloc, terms, clients);
     if matches!(&first.0.0, Err(ServeFault::NoMemory | ServeFault::Thread)) {
@@ -592,6 +593,7 @@ fn a_server_without_a_listener_serves_nobody(rt: HostRuntime) {
         patience: Patience::UNBOUNDED,
         drain: 0,
         stats: false,
+        hold: false,
     };
     let mut reason = None;
     let end = serve_listener(

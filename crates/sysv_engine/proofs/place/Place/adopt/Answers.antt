@@ -7,5 +7,6 @@ use Rattle.sysv_engine.proofs.place.Place.adopt.Goals as goal
 pub returns : goal.returns
 returns g c =
     takes g.T.NonBlocking.incoming g.T.NonBlocking.outgoing g.T.NonBlocking.closes _ c.seat.new.self
-    c.args.connection c.open.result c.requires (c.seat.ensures ∙ ap (taken_by c.open.result) c.self.view_is)
+    c.args.connection c.open.result c.requires.0 c.requires.1 (c.seat.ensures ∙ ap (taken_by c.open.result)
+    c.self.view_is)
     c.open.ensures.connection c.open.ensures.sits

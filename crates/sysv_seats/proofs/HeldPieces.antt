@@ -1,0 +1,194 @@
+-- The pieces of a request of a session that may hold a message, one after another, are the request.
+use Rattle.std.proofs.Common.{◌≡◌, ◌≢◌, ◌∙◌, ℕ, ℤ, Bool, true, false, List, [], Option, None, Some, inl, inr, refl, sym}
+use Rattle.std.proofs.Common.{subst, length, arith, ap}
+use Rattle.std.specs.Prelude.{⊤, ◌&&◌, ◌==◌, not}
+use Rattle.sysv_model.specs.declared.cred.Cred.{Cred}
+use Rattle.sysv_model.specs.declared.flags.Flags.{Flags}
+use Rattle.sysv_model.specs.declared.flags.TheConstants.Flags.{MSG_NOERROR}
+use Rattle.sysv_model.specs.HasFlag.{has_flag}
+use Rattle.sysv_session.specs.declared.handler.RequestOutcome.{RequestOutcome}
+use Rattle.sysv_session.specs.declared.handler.RequestOutcome.TheVariants.{Reply, Got, Left}
+use Rattle.sysv_session.specs.Answers.{MayAnswer, is_received}
+use Rattle.sysv_service.specs.declared.progress.Progress.{Progress}
+use Rattle.sysv_service.specs.declared.progress.Progress.TheVariants as progress
+use Rattle.sysv_service.specs.Ran.{Pass}
+use Rattle.sysv_wire.specs.declared.frame.Op.TheVariants as op
+use Rattle.sysv_wire.specs.declared.frame.Version.{Version}
+use Rattle.sysv_wire.specs.declared.reply.ReplyContent.{ReplyContent}
+use Rattle.sysv_wire.specs.declared.reply.ReplyContent.TheVariants as content
+use Rattle.sysv_wire.specs.declared.request.Ask.{Ask}
+use Rattle.sysv_wire.specs.declared.request.Ask.TheVariants.{Rcv, Hold, Done, Back}
+use Rattle.sysv_wire.specs.Frames.{op_number}
+use Rattle.sysv_wire.specs.Replies.{IsAnswer}
+use Rattle.sysv_seats.specs.declared.waiting.Waiting.{Waiting}
+use Rattle.sysv_seats.specs.declared.waiting.Waiting.TheVariants.{Send, Receive, Get}
+use Rattle.sysv_seats.specs.Held.{AnyGoesOn, GoesOnBeside, HoldAsks, HoldBegun, HoldParked, HoldProgress, held_at}
+use Rattle.sysv_seats.specs.Held.{hold_progress}
+use Rattle.sysv_seats.specs.Holding.{Holder, Message, can_hold}
+use Rattle.sysv_seats.specs.InPieces.{asks_any, left}
+use Rattle.sysv_seats.specs.Parked.{HasBegun, IsParked, MayProgress}
+
+-- A request that is no hold, no done and no back.
+abbrev pub IsNoHold : Ask → Type 0
+IsNoHold ask = (id : ℤ) (size : ℕ) (mtype : ℤ) (flags : Flags)
+    (seconds : ℕ) → ask ≡ Hold id size mtype flags seconds → ⊥
+
+-- ---- what may be held
+
+two_of : (a b : Bool) → (a && (b && false)) ≡ true → ⊥
+two_of true true is = cc is
+two_of true false is = cc is
+two_of false b is = cc is
+
+-- A session that may hold a message holds none.
+pub none_held : (flags : Flags) (seconds : ℕ) (message : Option Message) → can_hold flags seconds message ≡ true →
+    message ≡ None
+none_held flags seconds None can = refl
+none_held flags seconds (Some message) can =
+    absurd (two_of (seconds == 0) (not (has_flag MSG_NOERROR flags)) can)
+
+module _ (may : ℕ → Type 0) (version : Version) (cred : Cred) where
+  -- ---- the end
+
+  -- What a caller that does not leave may be told, any caller may be told.
+  pub hold_asks_any : (may_leave : Type 0) (ask : Ask) (text : List ℕ) (before : Holder Pass) (outcome : RequestOutcome)
+      (given : List ℕ) (after : Holder Pass) → HoldAsks may ⊥ version cred ask text before outcome given after →
+      HoldAsks may may_leave version cred ask text before outcome given after
+  hold_asks_any may_leave (Hold id size mtype flags seconds) text before outcome given after (inl refused) = inl refused
+  hold_asks_any may_leave (Hold id size mtype flags seconds) text before outcome given after
+      (inr (can, came, inl over, is, held)) = inr (can, came, inl over, is, held)
+  hold_asks_any may_leave (Hold id size mtype flags seconds) text before outcome given after
+      (inr (can, came, inr leaves, is, held)) = absurd leaves.0.0
+  hold_asks_any may_leave Done text before outcome given after asked = asked
+  hold_asks_any may_leave Back text before outcome given after asked = asked
+  hold_asks_any may_leave ask text before outcome given after asked =
+      (asks_any may version cred may_leave ask text before.at outcome given after.at asked.0, asked.1)
+
+  -- A parked call can be left, if its caller may leave.
+  pub hold_left : (may_leave : Type 0) (ask : Ask) (text : List ℕ) (before : Holder Pass) (waiting : Waiting)
+      (after : Holder Pass) → may_leave → HoldParked may cred ask text before waiting after →
+      HoldAsks may may_leave version cred ask text before Left [] after
+  hold_left may_leave (Hold id size mtype flags seconds) text before waiting after leaves parked = inr (
+    parked.0,
+    Left,
+    left may version cred may_leave (Rcv id size mtype flags) text before.at waiting after.at leaves parked.1,
+    refl,
+    parked.2 ∙ none_held flags seconds before.message parked.0,
+  )
+  hold_left may_leave Done text before waiting after leaves parked = absurd parked.1
+  hold_left may_leave Back text before waiting after leaves parked = absurd parked.1
+  hold_left may_leave ask text before waiting after leaves parked =
+      (left may version cred may_leave ask text before.at waiting after.at leaves parked.1, parked.2)
+
+  -- ---- the beginning
+
+  parked_beside : (ask : Ask) (text : List ℕ) (before : Holder Pass) (waiting : Waiting) (after : Holder Pass) →
+      IsNoHold ask → IsParked may cred ask text before.at waiting after.at → after.message ≡ before.message →
+      HoldParked may cred ask text before waiting after
+  parked_beside (Hold id size mtype flags seconds) text before waiting after not parked same =
+      absurd (not id size mtype flags seconds refl)
+  parked_beside ask text before waiting after not parked same = (refl, parked, same)
+
+  asks_beside : (ask : Ask) (text : List ℕ) (before : Holder Pass) (outcome : RequestOutcome) (given : List ℕ)
+      (after : Holder Pass) → IsNoHold ask → (ask ≡ Done → ⊥) → (ask ≡ Back → ⊥) →
+      HasBegun may version cred ask text before.at (progress.Over outcome) given after.at →
+      after.message ≡ before.message →
+      HoldAsks may ⊥ version cred ask text before outcome given after
+  asks_beside (Hold id size mtype flags seconds) text before outcome given after not no_done no_back asked same =
+      absurd (not id size mtype flags seconds refl)
+  asks_beside Done text before outcome given after not no_done no_back asked same = absurd (no_done refl)
+  asks_beside Back text before outcome given after not no_done no_back asked same = absurd (no_back refl)
+  asks_beside ask text before outcome given after not no_done no_back asked same = (asked, same)
+
+  -- Any other request is one of the handler.
+  pub begun_beside : (ask : Ask) (text : List ℕ) (before : Holder Pass) (came : Progress Waiting RequestOutcome)
+      (given : List ℕ) (after : Holder Pass) → IsNoHold ask → (ask ≡ Done → ⊥) → (ask ≡ Back → ⊥) →
+      HasBegun may version cred ask text before.at came given after.at → after.message ≡ before.message →
+      HoldBegun may version cred ask text before came given after
+  begun_beside ask text before (progress.Waits waiting) given after not no_done no_back begun same =
+      (parked_beside ask text before waiting after not begun.0 same, begun.1)
+  begun_beside ask text before (progress.Over outcome) given after not no_done no_back begun same =
+      asks_beside ask text before outcome given after not no_done no_back begun same
+
+  -- A hold has come as far as its receive.
+  pub hold_begun : (id : ℤ) (size : ℕ) (mtype : ℤ) (flags : Flags) (seconds : ℕ) (text : List ℕ) (before : Holder Pass)
+      (came : Progress Waiting RequestOutcome) (given : List ℕ) (after : Holder Pass) →
+      can_hold flags seconds before.message ≡ true →
+      HasBegun may version cred (Rcv id size mtype flags) text before.at came given after.at →
+      after.message ≡ held_at cred id came given →
+      HoldBegun may version cred (Hold id size mtype flags seconds) text before (hold_progress version came) given after
+  hold_begun id size mtype flags seconds text before (progress.Waits waiting) given after can begun held = (
+    (can, begun.0, held ∙ sym (none_held flags seconds before.message can)),
+    begun.1,
+  )
+  hold_begun id size mtype flags seconds text before (progress.Over outcome) given after can begun held =
+      inr (can, outcome, begun, refl, held)
+
+  -- ---- a parked call goes on
+
+  -- The call of any other request has gone on.
+  pub on_beside : (ask : Ask) (text : List ℕ) (start : Holder Pass) (waiting : Waiting) (before : Holder Pass)
+      (came : Progress Waiting RequestOutcome) (given : List ℕ) (after : Holder Pass) → IsNoHold ask →
+      (IsParked may cred ask text start.at waiting before.at →
+      HasBegun may version cred ask text start.at came given after.at) → after.message ≡ before.message →
+      HoldParked may cred ask text start waiting before → HoldBegun may version cred ask text start came given after
+  on_beside (Hold id size mtype flags seconds) text start waiting before came given after not on same parked =
+      absurd (not id size mtype flags seconds refl)
+  on_beside Done text start waiting before came given after not on same parked = absurd parked.1
+  on_beside Back text start waiting before came given after not on same parked = absurd parked.1
+  on_beside ask text start waiting before came given after not on same parked =
+      begun_beside ask text start came given after not (λ is. cc is) (λ is. cc is) (on parked.1) (same ∙ parked.2)
+
+-- The call of any other request looked at its count once.
+pub looks_beside : (may : ℕ → Type 0) (version : Version) (cred : Cred) (ask : Ask) (waiting : Waiting) (text : List ℕ)
+    (before : Holder Pass) (came : Progress Waiting RequestOutcome) (given : List ℕ) (after : Holder Pass) →
+    IsNoHold ask → GoesOnBeside may version waiting text before came given after →
+    AnyGoesOn may version cred ask waiting text before came given after
+looks_beside may version cred (Hold id size mtype flags seconds) waiting text before came given after not looks =
+    absurd (not id size mtype flags seconds refl)
+looks_beside may version cred ask waiting text before came given after not looks = looks
+
+-- ---- what a handler may return
+
+-- What a receive may be refused with, a hold may be refused with.
+refusal_fits : (version : Version) (number : ℕ) (answer : ReplyContent) → number ≡ op_number op.Rcv →
+    is_received answer ≡ false → IsAnswer version number answer → IsAnswer version (op_number op.Hold) answer
+refusal_fits version number (content.Refused why) is none fits = omega arith
+refusal_fits version number content.Hello is none fits = absurd (omega (arith, is, fits.1))
+refusal_fits version number (content.HelloSlots slots) is none fits = absurd (omega (arith, is, fits.1))
+refusal_fits version number (content.Get id) is none fits = absurd (omega (arith, is, fits))
+refusal_fits version number content.Snd is none fits = absurd (omega (arith, is, fits))
+refusal_fits version number (content.Rcv mtype) is none fits = absurd (cc none)
+refusal_fits version number (content.Stat stat) is none fits = absurd (omega (arith, is, fits.0))
+refusal_fits version number content.Set is none fits = absurd (omega (arith, is, fits))
+refusal_fits version number content.Rm is none fits = absurd (omega (arith, is, fits))
+refusal_fits version number (content.Row None) is none fits = absurd (omega (arith, is, fits))
+refusal_fits version number (content.Row (Some row)) is none fits = absurd (omega (arith, is, fits.0))
+refusal_fits version number (content.Hold mtype) is none fits = absurd (omega (arith, is, fits))
+refusal_fits version number content.Done is none fits = absurd (omega (arith, is, fits))
+refusal_fits version number content.Back is none fits = absurd (omega (arith, is, fits))
+
+pub hold_answers : (version : Version) (id : ℤ) (size : ℕ) (mtype : ℤ) (flags : Flags) (seconds : ℕ)
+    (came : Progress Waiting RequestOutcome) (given : List ℕ) →
+    MayProgress version (Rcv id size mtype flags) came given →
+    HoldProgress version (Hold id size mtype flags seconds) (hold_progress version came) given
+hold_answers version id size mtype flags seconds (progress.Waits waiting) given answers = answers
+hold_answers version id size mtype flags seconds (progress.Over (Reply reply)) given answers = (
+  refl,
+  refl,
+  refusal_fits version reply.op reply.result answers.1 answers.3
+      (subst (λ (v : Version). IsAnswer v reply.op reply.result) answers.0 answers.2),
+  answers.3,
+  answers.4,
+)
+hold_answers version id size mtype flags seconds (progress.Over (Got delivery)) given answers =
+    (refl, refl, refl, refl, answers.2)
+hold_answers version id size mtype flags seconds (progress.Over Left) given answers = answers
+
+-- What a handler may return for any other request.
+pub answers_beside : (version : Version) (ask : Ask) (came : Progress Waiting RequestOutcome) (given : List ℕ) →
+    IsNoHold ask → MayProgress version ask came given → HoldProgress version ask came given
+answers_beside version ask (progress.Over outcome) given not answers = answers
+answers_beside version (Hold id size mtype flags seconds) (progress.Waits waiting) given not answers =
+    absurd (not id size mtype flags seconds refl)
+answers_beside version ask (progress.Waits waiting) given not answers = answers
