@@ -67,6 +67,7 @@ pub struct ServerState {
     /// Whether all clients are to be closed.
     is_cut: AtomicBool,
     /// The number of parked calls of clients that were closed for that.
+    cut_calls: Counter,
     /// The number of places that sessions have left: these are over, and hold no message.
     over: AtomicU64,
     /// The number of places whose sessions are over, and that still give back a message.
