@@ -24,7 +24,7 @@ use Rattle.sysv_engine.specs.OneRun.{Lived}
 use Rattle.sysv_seats.specs.Untold.{Closing}
 
 pub record ServesConnections {S T B : Type 0} (incoming outgoing : T → Option (List ℕ)) (closes : Closing T B)
-    (gives : S → Option T → S → Type 0) (reads holds : Bool) (blocks : ℕ) (source : S) (books : List B) (ended : Ended)
+    (gives : S → Option T → S → Type 0) (reads : Bool) (blocks : ℕ) (source : S) (books : List B) (ended : Ended)
     (source' : S) (books' : List B) : Type 0 where
   -- The source returned these connections, one after the other, and then reported its end.
   pub given : List T
@@ -53,8 +53,8 @@ pub record ServesConnections {S T B : Type 0} (incoming outgoing : T → Option 
   -- No message was lost if no session ended because its connection failed or was reset, or because its
   -- memory was refused.
   pub lost : cut_off_of (told_in shifts) ≡ 0 → ended.sums.lost ≡ 0
-  -- Sessions read versions up to 3 if they may hold messages, and else up to 2.
-  pub versions : AllByRecursion (λ (shift : Shift). shift.newest ≡ newest_of holds) shifts
+  -- Sessions read versions up to 3 if they might hold messages, and else up to 2.
+  pub versions : AllByRecursion (λ (shift : Shift). shift.newest ≡ newest_of ended.setting.holds) shifts
   -- Each message that a hold gave was spent by a done, or the session held it at its end, and the next session of
   -- its place began after a send had given it back that was accepted, found no queue any more, or was refused. Only
   -- that of the last session of a place may still wait, and then the message is lost. So many met each of these

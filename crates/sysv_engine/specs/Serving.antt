@@ -24,11 +24,12 @@ use Rattle.sysv_engine.specs.Looking.{HiresBy}
 use Rattle.sysv_engine.specs.OneRun.{Lived}
 use Rattle.sysv_seats.specs.Untold.{Closing}
 
--- A server ran with this number of workers, which let a client take this long, and with this number of seconds
--- after which its orderly end was to cut sessions off, 0 for never. That the seconds pass is not stated.
-abbrev pub RunsWith : (workers : ℕ) → Patience → (drain : ℕ) → Setting → Type 0
-RunsWith workers patience drain setting =
-    (setting.workers ≡ workers) × (setting.patience ≡ patience) × (setting.drain ≡ drain)
+-- A server ran with this number of workers, which let a client take this long, with this number of seconds
+-- after which its orderly end was to cut sessions off, 0 for never. Its sessions might hold messages if `holds` is
+-- true. That the seconds pass is not stated.
+abbrev pub RunsWith : (workers : ℕ) → Patience → (drain : ℕ) → (holds : Bool) → Setting → Type 0
+RunsWith workers patience drain holds setting = (setting.workers ≡ workers) × (setting.patience ≡ patience)
+    × (setting.drain ≡ drain) × (setting.holds ≡ holds)
 
 -- A client may take as long as it likes.
 abbrev pub unbounded : Patience

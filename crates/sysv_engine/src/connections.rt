@@ -68,12 +68,12 @@ where
         false blocks source.old books.old.items ended source.new books.new.items) }
     ensures balance { IfOk result (λ ended. IsBalanced ended.sums) }
     ensures setting { IfOk result (λ ended.
-        RunsWith workers unbounded 0 ended.setting) }
+        RunsWith workers unbounded 0 false ended.setting) }
     ensures err { IfErr result (λ why. LeavesConnections T.incoming T.outgoing T.closes S.gives
         (HasLived false blocks) source.old books.old.items why source.new books.new.items) }
 {
     let (count, places) = (workers as usize, books.len());
-    let opened = ServerState::open(alloc, count, places, Patience::UNBOUNDED, 0);
+    let opened = ServerState::open(alloc, count, places, Patience::UNBOUNDED, 0, false);
     let Some((server, rests)) = opened else {
         return Err(ServeFault::NoMemory);
     };
@@ -121,7 +121,8 @@ where
         false blocks source.old books.old.items ended source.new books.new.items) }
     ensures balance { IfOk result (λ ended. IsBalanced ended.sums) }
     ensures setting { IfOk result (λ ended.
-        RunsWith (vec_len watches) server.now.patience server.now.drain ended.setting) }
+        RunsWith (vec_len watches) server.now.patience server.now.drain server.now.holds
+        ended.setting) }
     ensures err { IfErr result (λ why. LeavesConnections T.incoming T.outgoing T.closes S.gives
         (HasLived false blocks) source.old books.old.items why source.new books.new.items) }
 {

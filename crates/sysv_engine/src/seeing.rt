@@ -52,7 +52,8 @@ where
         reads blocks source.old books.old.items ended source.new books.new.items) }
     ensures balance { IfOk result (λ ended. IsBalanced ended.sums) }
     ensures setting { IfOk result (λ ended.
-        RunsWith (vec_len watches) server.now.patience server.now.drain ended.setting) }
+        RunsWith (vec_len watches) server.now.patience server.now.drain server.now.holds
+        ended.setting) }
     ensures err { IfErr result (λ why. LeavesConnections T.incoming T.outgoing T.closes S.gives
         (HasLived reads blocks) source.old books.old.items why source.new books.new.items) }
 {

@@ -3,6 +3,7 @@
 ghost use Rattle.std.specs.Prelude.{◌≡◌, ◌≤◌, IfSome, vec_len};
 ghost use Rattle.sysv_keys.specs.declared.identifier.TheConstants.{SLOTS as slot_count};
 ghost use Rattle.sysv_engine.specs.Counting.{IsCounted, IsNothing};
+ghost use Rattle.sysv_engine.specs.Handled.{newest_of};
 ghost use Rattle.sysv_engine.specs.Serving.{RunsWith};
 ghost use Rattle.sysv_engine.specs.declared.counter.Kind.TheVariants.{CutOff};
 
@@ -72,8 +73,8 @@ pub struct ServerState {
     over: AtomicU64,
     /// The number of places whose sessions are over, and that still give back a message.
     returning: AtomicU64,
-    /// The newest version that sessions read.
-    newest: Version,
+    /// Whether sessions may hold messages.
+    holds: bool,
     /// Whether the memory of a session was refused.
     starved: AtomicBool,
     /// Whether the accepting thread waits for a session to be over.
@@ -88,13 +89,14 @@ impl ServerState {
     /// of them rests with. Returns `None` if memory or a descriptor is refused.
     ///
     /// At most `at_once` clients are served at once. After `drain` seconds an orderly end cuts
-    /// sessions off, or never for 0.
+    /// sessions off, or never for 0. If the server `holds`, its sessions may hold messages.
     pub fn open(
         alloc: Global,
         workers: usize,
         at_once: usize,
         patience: Patience,
         drain: u32,
+        holds: bool,
     ) -> Option<(ServerState, Vec<Rest>)>
         ensures workers { IfSome result (λ both. vec_len both.0.posts ≡ workers) }
         ensures rests { IfSome result (λ both. vec_len both.1 ≡ workers) }
@@ -102,6 +104,7 @@ impl ServerState {
         ensures cut { IfSome result (λ both. both.0.cut_calls.kind ≡ CutOff) }
         ensures patience { IfSome result (λ both. both.0.patience ≡ patience) }
         ensures drain { IfSome result (λ both. both.0.drain ≡ drain) }
+        ensures holds { IfSome result (λ both. both.0.holds ≡ holds) }
     {
         let turn = Doorbell::open()?;
         let (posts, rests) = open_posts(alloc, workers)?;
@@ -120,7 +123,7 @@ impl ServerState {
             cut_calls: Counter::new(Kind::CutOff),
             over: AtomicU64::new(0),
             returning: AtomicU64::new(0),
-            newest: Version::Two,
+            holds,
             starved: AtomicBool::new(false),
             is_awaited: AtomicBool::new(false),
             turn,
@@ -128,18 +131,15 @@ impl ServerState {
         Some((server, rests))
     }
 
-    /// Has sessions read version 3, so that they may hold messages.
-    pub fn allow_hold(&mut self)
-        ensures { self.new.newest ≡ Version.Three }
-    {
-        self.newest = Version::Three;
-    }
-
     /// Returns the newest version that sessions read.
     pub(crate) fn newest(&self) -> Version
-        ensures { result ≡ self.now.newest }
+        ensures { result ≡ newest_of self.now.holds }
     {
-        self.newest
+        if self.holds {
+            Version::Three
+        } else {
+            Version::Two
+        }
     }
 
     /// Returns the number of workers.
@@ -158,12 +158,13 @@ impl ServerState {
 
     /// Returns what a server with this number of workers runs with.
     pub(crate) fn setting(&self, workers: usize) -> Setting
-        ensures { RunsWith workers self.now.patience self.now.drain result }
+        ensures { RunsWith workers self.now.patience self.now.drain self.now.holds result }
     {
         Setting {
             workers,
             patience: self.patience,
             drain: self.drain,
+            holds: self.holds,
         }
     }
 

@@ -27,6 +27,7 @@ pub struct Setting {
     pub(crate) workers: usize,
     pub(crate) patience: Patience,
     pub(crate) drain: u32,
+    pub(crate) holds: bool,
 }
 
 impl Setting {
@@ -49,6 +50,13 @@ impl Setting {
         ensures { result ≡ self.drain }
     {
         self.drain
+    }
+
+    /// Returns whether sessions might hold messages.
+    pub fn holds(self) -> bool
+        ensures { result ≡ self.holds }
+    {
+        self.holds
     }
 }
 

@@ -213,15 +213,12 @@ fn run<L: Listens, I: Input + Drop, H: Host, R: Threads + Wait + Net + Sync>(
         patience,
         drain,
         stats,
-        hold,
+        hold: _,
     } = terms;
     *reason = None;
-    let Some((mut server, rests)) = opened_for(alloc, &terms) else {
+    let Some((server, rests)) = opened_for(alloc, &terms) else {
         return Err(ServeFault::NoMemory);
     };
-    if hold {
-        server.allow_hold();
-    }
     let Some(mut books) = empty_books(alloc, at_once) else {
         return Err(ServeFault::NoMemory);
     };
@@ -257,10 +254,18 @@ fn opened_for(alloc: Global, terms: &Terms) -> Option<(ServerState, Vec<Rest>)>
     ensures at_once { IfSome result (λ both. both.0.at_once ≡ terms.now.at_once) }
     ensures times { IfSome result (λ both. (both.0.patience ≡ terms.now.patience)
         × (both.0.drain ≡ terms.now.drain)) }
+    ensures holds { IfSome result (λ both. both.0.holds ≡ terms.now.hold) }
 {
     let workers = terms.workers.min(terms.at_once) as usize;
     let at_once = terms.at_once as usize;
-    ServerState::open(alloc, workers, at_once, terms.patience, terms.drain)
+    ServerState::open(
+        alloc,
+        workers,
+        at_once,
+        terms.patience,
+        terms.drain,
+        terms.hold,
+    )
 }
 
 /// Uses the reference once more. This use ties it to the parameter that lent it.

@@ -58,11 +58,11 @@ EndsWithin limit terms ended =
     (limits_in terms) ended
 
 -- A server on these terms ran with as many workers as they have, or as many as it had places under this
--- limit of open files, and with the limits of time that they have.
+-- limit of open files, and with the limits of time that they have. Its clients might hold messages if the terms say so.
 abbrev pub RanWithin : Option ℕ → Terms → Setting → Type 0
 RanWithin limit terms setting =
     RunsWith (min terms.workers (places_within limit terms.stats terms.workers terms.at_once)) terms.patience
-    terms.drain setting
+    terms.drain terms.hold setting
 
 -- A server that may have an input served on these terms until the input was over or the maximum
 -- number of sessions was reached, and the sums of its sessions were printed. It did so under this limit of
