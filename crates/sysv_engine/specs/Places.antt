@@ -1,7 +1,7 @@
 -- The places of a worker (this project's profile). A worker of a server has several places, each
 -- with a pass of its own. A place has one client after another.
 use Rattle.std.specs.Prelude.{◌≡◌, ℕ, List, [], ◌∷◌, ◌++◌, ◌<◌, ◌≤◌, length, Option, None, Some}
-use Rattle.std.specs.Prelude.{Bool, true, cond, is_some, not, ◌||◌, ◌&&◌, slice_index_or}
+use Rattle.std.specs.Prelude.{Bool, true, cond, is_some, not, ◌||◌, ◌&&◌, slice_index_or, IsSomeAnd}
 use Rattle.std.specs.List.{FoldsTo}
 use Rattle.sysv_bank.specs.Banks.{Each2}
 use Rattle.sysv_service.specs.Ran.{Pass}
@@ -137,6 +137,10 @@ fates_at_end place = cond (is_some place.message) (with_unsent place.fates) plac
 -- connection has taken all replies.
 abbrev pub IsIdle : {T : Type 0} → Sitting T → Type 0
 IsIdle client = (client.parked ≡ None) × (length client.input ≡ 0) × (length client.dialogue.unsent.bytes ≡ 0)
+
+-- There is a client, which is idle and holds no message.
+abbrev pub IsIdleAt : {B T : Type 0} → Seated B T → Type 0
+IsIdleAt place = IsSomeAnd place.client IsIdle × (place.message ≡ None)
 
 -- The place, taken by this client.
 abbrev pub taken_by : {B T : Type 0} → Sitting T → Seated B T → Seated B T

@@ -1,11 +1,11 @@
 //! The places of a server: each serves one client after another.
-ghost use Rattle.std.specs.Prelude.{◌≡◌, ◌+◌, None, Some, IfSome, IsSomeAnd, is_some, not, true};
+ghost use Rattle.std.specs.Prelude.{◌≡◌, ◌+◌, None, Some, IfSome, is_some, not, true};
 ghost use Rattle.sysv_service.specs.Seats.{AreOf};
 ghost use Rattle.sysv_seats.specs.Sits.{Keeps, is_finished};
 ghost use Rattle.sysv_engine.specs.Added.{added, capped, nothing, one_session};
 ghost use Rattle.sysv_engine.specs.Fated.{none_fated};
 ghost use Rattle.sysv_engine.specs.Handled.{one_refused};
-ghost use Rattle.sysv_engine.specs.Places.{IsIdle, KeepsPlace, TakesIn};
+ghost use Rattle.sysv_engine.specs.Places.{IsIdle, IsIdleAt, KeepsPlace, TakesIn};
 ghost use Rattle.sysv_engine.specs.Places.{fates_at_end, has_ended, is_vacant, taken_by};
 
 use crate::awaited::key_of;
@@ -430,22 +430,22 @@ impl<'a, R: Wait, T: NonBlocking> Place<'a, R, T> {
         }
     }
 
-    /// Ends the client if it is idle and there is a limit for an orderly end.
+    /// Ends the client if it is idle, holds no message, and there is a limit for an orderly end.
     pub(crate) fn cut_idle(&mut self)
         ensures keeps { KeepsPlace T.incoming T.outgoing T.closes self.old self.new }
-        ensures stays { (IsSomeAnd self.old.client IsIdle → ⊥) → self.new ≡ self.old }
+        ensures stays { (IsIdleAt self.old → ⊥) → self.new ≡ self.old }
     {
         if self.is_idle() {
             self.cut(Limit::Drain);
         }
     }
 
-    /// Returns whether there is a client that is idle.
+    /// Returns whether there is a client that is idle and holds no message.
     pub(crate) fn is_idle(&self) -> bool
-        ensures { result ≡ true → IsSomeAnd self.now.client IsIdle }
+        ensures { result ≡ true → IsIdleAt self.now }
     {
         match &self.client {
-            Some(client) => is_idle(client),
+            Some(client) => is_idle(client) && !self.has_message(),
             None => false,
         }
     }
