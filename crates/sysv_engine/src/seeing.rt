@@ -4,6 +4,7 @@ ghost use Rattle.sysv_model.specs.declared.limits.TheConstants.{MIN_BLOCKS, MAX_
 ghost use Rattle.sysv_workers.specs.declared.workers.TheConstants.{MAX_WORKERS};
 ghost use Rattle.sysv_service.specs.Seats.{AreOf};
 ghost use Rattle.sysv_engine.specs.Added.{IsBalanced};
+ghost use Rattle.sysv_engine.specs.Handled.{newest_of};
 ghost use Rattle.sysv_engine.specs.Headline.{ServesConnections};
 ghost use Rattle.sysv_engine.specs.Looks.{Looks};
 ghost use Rattle.sysv_engine.specs.Serving.{HasLived, HiredFrom, LeavesConnections, RunsWith, WorkedFrom};
@@ -107,7 +108,7 @@ where
         × (vec_len watches ≤ MAX_WORKERS) }
     ensures pass { AreOf service.now pass.new.seats }
     ensures ok { IfOk result (λ told. WorkedFrom T.incoming T.outgoing T.closes S.gives reads
-        service.now pass.old source.old books.old.items told.0 told.1 told.2 pass.new source.new
+        (newest_of server.now.holds) service.now pass.old source.old books.old.items told.0 told.1 told.2 pass.new source.new
         books.new.items) }
     ensures err { IfErr result (λ why. LeavesConnections T.incoming T.outgoing T.closes S.gives
         (HiredFrom reads service.now pass.old pass.new) source.old books.old.items why source.new
