@@ -13,6 +13,7 @@ pub mod PlaceLists
 pub mod Kept
 pub mod SharedOut
 pub mod Reversed
+pub mod Endings
 pub mod Staffed
 pub mod Behind
 pub mod Looking

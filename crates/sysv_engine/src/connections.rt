@@ -23,7 +23,7 @@ use crate::watch::{Rounds, Watch};
 use std::alloc::Global;
 use std::sync::Wait;
 use std::thread::Threads;
-use sysv_seats::NonBlocking;
+use sysv_seats::{NonBlocking, each_return_can_be_left};
 use sysv_service::{Pass, Service};
 use sysv_workers::{Source, WorkersFault, WorkersRefused, run_workers};
 
@@ -176,8 +176,8 @@ where
         × (vec_len watches ≤ MAX_WORKERS) }
     ensures pass { AreOf service.now pass.new.seats }
     ensures ok { IfOk result (λ told. WorkedFrom T.incoming T.outgoing T.closes S.gives false
-        (newest_of server.now.holds) service.now pass.old source.old books.old.items told.0 told.1 told.2 pass.new source.new
-        books.new.items) }
+        (newest_of server.now.holds) service.now pass.old source.old books.old.items told.0 told.1
+        told.2 pass.new source.new books.new.items) }
     ensures err { IfErr result (λ why. LeavesConnections T.incoming T.outgoing T.closes S.gives
         (HiredFrom false service.now pass.old pass.new) source.old books.old.items why source.new
         books.new.items) }
@@ -209,6 +209,7 @@ where
     let mut dealing = Dealing::new(source, server, shares);
     let outcome = run_workers(rt, alloc, workers, &mut dealing, &job);
     given_back(dealing.into_source());
+    each_return_can_be_left();
     match outcome {
         Ok(workers) => {
             gather(rt, workers, &mut places);

@@ -108,8 +108,8 @@ where
         × (vec_len watches ≤ MAX_WORKERS) }
     ensures pass { AreOf service.now pass.new.seats }
     ensures ok { IfOk result (λ told. WorkedFrom T.incoming T.outgoing T.closes S.gives reads
-        (newest_of server.now.holds) service.now pass.old source.old books.old.items told.0 told.1 told.2 pass.new source.new
-        books.new.items) }
+        (newest_of server.now.holds) service.now pass.old source.old books.old.items told.0 told.1
+        told.2 pass.new source.new books.new.items) }
     ensures err { IfErr result (λ why. LeavesConnections T.incoming T.outgoing T.closes S.gives
         (HiredFrom reads service.now pass.old pass.new) source.old books.old.items why source.new
         books.new.items) }
