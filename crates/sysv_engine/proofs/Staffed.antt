@@ -99,7 +99,8 @@ module _ {T B : Type 0} (incoming outgoing : T → Option (List ℕ)) (closes : 
   begun_stand : (ps : List (Seated B T)) → All (IsOpened gates newest) ps → Each2 St (begun ps) ps
   begun_stand [] all = tt
   begun_stand (p ∷ ps) all =
-      (opened_stands p (All-head (IsOpened gates newest) p ps all), begun_stand ps (All-tail (IsOpened gates newest) p ps all))
+      let first = opened_stands p (All-head (IsOpened gates newest) p ps all) in
+      (first, begun_stand ps (All-tail (IsOpened gates newest) p ps all))
 
   -- The place was not used yet.
   abbrev New : Ending B → Type 0

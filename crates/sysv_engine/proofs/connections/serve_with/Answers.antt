@@ -36,8 +36,8 @@ run_workers-outcome-requires-after_bounds g c κs within =
     let t = g.T.NonBlocking in
     let own = c.args.service.now in
     let workers = c.staff.new.workers.items in
-    staffed t.incoming t.outgoing t.closes own c.newest.result (λ (w : W). w.places.items) workers c.staff.ensures.places
-    (some_each (λ (w : W). w.places) workers c.staff.ensures.each)
+    staffed t.incoming t.outgoing t.closes own c.newest.result (λ (w : W). w.places.items) workers
+    c.staff.ensures.places (some_each (λ (w : W). w.places) workers c.staff.ensures.each)
 
 -- ---- the number of places
 
@@ -89,7 +89,8 @@ gather-requires-in-Err-clause-room g c =
     let W : Type 0 = Worker g.row.R.Denot g.row.T.Denot g.row.W.Denot g.row.T-Book.Denot in
     let D : Type 0 = Dealing g.row.S.Denot in
     let t = g.T.NonBlocking in
-    let many = back_as_many t.incoming t.outgoing t.closes c.args.service.now c.newest.result (λ (w : W). w.places.items)
+    let many = back_as_many t.incoming t.outgoing t.closes c.args.service.now c.newest.result
+    (λ (w : W). w.places.items)
     (Behind (λ (d : D). d.source.now) (λ (d : D). d.source.ghost_name) g.S.Source.gives) c.new-dealing.result
     c.run_workers-outcome.new.source c.staff.new.workers.items c.in-Err.refused.states.items c.staff.ensures.places
     (some_each (λ (w : W). w.places) c.staff.new.workers.items c.staff.ensures.each) c.in-Err.refused.why
@@ -114,7 +115,8 @@ dismiss-requires-in-Err-clause-room g c =
     let W : Type 0 = Worker g.row.R.Denot g.row.T.Denot g.row.W.Denot g.row.T-Book.Denot in
     let D : Type 0 = Dealing g.row.S.Denot in
     let t = g.T.NonBlocking in
-    let many = back_as_many t.incoming t.outgoing t.closes c.args.service.now c.newest.result (λ (w : W). w.places.items)
+    let many = back_as_many t.incoming t.outgoing t.closes c.args.service.now c.newest.result
+    (λ (w : W). w.places.items)
     (Behind (λ (d : D). d.source.now) (λ (d : D). d.source.ghost_name) g.S.Source.gives) c.new-dealing.result
     c.run_workers-outcome.new.source c.staff.new.workers.items c.in-Err.refused.states.items c.staff.ensures.places
     (some_each (λ (w : W). w.places) c.staff.new.workers.items c.staff.ensures.each) c.in-Err.refused.why
@@ -211,7 +213,8 @@ returns-in-Err-clause-err g c =
     let leaves = leaves_behind of name g.S.Source.gives count why old new c.in-Err.ensures.asked in
     let same = leaves_name of name g.S.Source.gives count why old new c.in-Err.ensures.asked in
     let left = all_left t.incoming t.outgoing t.closes own c.newest.result places c.each_return_can_be_left.ensures
-    g.S.Source.gives (of old) (of new) workers c.in-Err.refused.states.items c.gather-in-Err.new.places.items c.staff.ensures.places
+    g.S.Source.gives (of old) (of new) workers c.in-Err.refused.states.items c.gather-in-Err.new.places.items
+    c.staff.ensures.places
     (some_each (λ (w : W). w.places) workers c.staff.ensures.each) c.gather-in-Err.ensures.keeps
     c.gather-in-Err.ensures.ended c.args.books.now.items c.dismiss-in-Err.new.books.items c.args.pass.now
     c.staff.new.pass c.dismiss-in-Err.new.pass c.staff.ensures.books
