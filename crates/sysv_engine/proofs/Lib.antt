@@ -1,6 +1,7 @@
 pub mod SessionMakesCalls
 pub mod SessionsPerConnection
 pub mod SumsOfSessions
+pub mod FatesOfSessions
 mod LostAtAnEnd
 pub mod LifetimeIsOneRun
 pub mod GatesHaveLived

@@ -35,12 +35,11 @@ impl Fates {
     pub(crate) fn count(&mut self, fate: Fate)
         ensures { self.new ≡ one_fated fate self.old }
     {
-        let number = match fate {
-            Fate::Sent => &mut self.sent,
-            Fate::Discarded => &mut self.discarded,
-            Fate::Refused => &mut self.refused,
-        };
-        *number = number.saturating_add(1);
+        match fate {
+            Fate::Sent => self.sent = self.sent.saturating_add(1),
+            Fate::Discarded => self.discarded = self.discarded.saturating_add(1),
+            Fate::Refused => self.refused = self.refused.saturating_add(1),
+        }
     }
 
     /// Counts one more message whose send still waited.

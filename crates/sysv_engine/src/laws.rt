@@ -49,4 +49,5 @@ pub fn each_lifetime_is_one_run()
     every_stop_empties();
     every_order_parks_rightly();
     each_session_makes_calls(&ZERO);
+    each_return_makes_a_call();
 }
