@@ -1,25 +1,21 @@
 -- The places of a server at its end. What gives a message back may still wait there, and is left.
 use Rattle.std.proofs.Common.{◌≡◌, ◌∙◌, ℕ, List, [], ◌∷◌, ◌++◌, Option, Some, None, ap, refl, sym, subst}
-use Rattle.std.specs.Prelude.{Bool, true, false, cond, is_some, not, ◌||◌, ◌&&◌, IfSome}
+use Rattle.std.specs.Prelude.{Bool, true, false, cond, is_some, not, ◌||◌, ◌&&◌}
 use Rattle.std.specs.List.{All, FoldsTo}
 use Rattle.std.proofs.lemmas.List.Elements.{All-head, All-tail}
 use Rattle.sysv_bank.specs.Banks.{Each2}
 use Rattle.sysv_service.specs.Seats.{Gates}
-use Rattle.sysv_session.specs.declared.handler.RequestOutcome.{RequestOutcome}
-use Rattle.sysv_session.specs.declared.handler.RequestOutcome.TheVariants.{Reply, Got, Left}
-use Rattle.sysv_session.specs.Answers.{IsReplied}
+use Rattle.sysv_session.specs.declared.handler.RequestOutcome.TheVariants.{Left}
 use Rattle.sysv_steps.specs.declared.send.SendWait.{SendWait}
 use Rattle.sysv_seats.specs.GivingBack.{EachReturnCanBeLeft, WaitsBack}
 use Rattle.sysv_seats.specs.Holding.{Holder, Message}
 use Rattle.sysv_seats.specs.Sits.{Sitting}
 use Rattle.sysv_service.specs.Ran.{Pass}
 use Rattle.sysv_seats.specs.Untold.{Closing}
-use Rattle.sysv_engine.specs.declared.fates.Fates.{Fates}
 use Rattle.sysv_engine.specs.Fated.{with_unsent}
-use Rattle.sysv_engine.specs.Handled.{fated_by}
 use Rattle.sysv_engine.specs.Places.{Handled, HasLeft, IsPlace, Seated, SitsOn, Standing, Stands, View, fates_at_end}
 use Rattle.sysv_engine.specs.Places.{has_ended, view_of}
-use Rattle.sysv_engine.proofs.FatesOfSessions.{fated_at_end}
+use Rattle.sysv_engine.proofs.FatesOfSessions.{fated_replied}
 use Rattle.sysv_engine.proofs.Shifts as shifts
 use Rattle.sysv_engine.proofs.Shifts.{folds_last}
 
@@ -39,14 +35,6 @@ ends place = record {
   is_left = is_some place.message;
 }
 
--- A message that was given back by a send that ended is counted alike.
-counted_alike : (fates : Fates) (back : Option RequestOutcome) → IfSome back IsReplied →
-    fated_by fates back ≡ fated_at_end fates back
-counted_alike fates None replied = refl
-counted_alike fates (Some (Reply reply)) replied = refl
-counted_alike fates (Some (Got delivery)) replied = refl
-counted_alike fates (Some Left) replied = absurd replied
-
 module _ {T B : Type 0} (incoming outgoing : T → Option (List ℕ)) (closes : Closing T B) where
   -- The place had one more session. If what it held was not given back, the place has ended.
   abbrev pub Ran : Ending B → T → Ending B → Type 0
@@ -65,7 +53,7 @@ module _ {T B : Type 0} (incoming outgoing : T → Option (List ℕ)) (closes : 
         mid = one.mid;
         leaves = one.leaves;
         gives = one.gives;
-        fated = one.fated ∙ counted_alike old.fates one.back one.ended;
+        fated = one.fated ∙ fated_replied old.fates one.back one.ended;
         returned = λ over. one.ended;
       }
 

@@ -279,8 +279,8 @@ module _ {T B : Type 0} (incoming outgoing : T → Option (List ℕ)) (closes : 
             shifts.all_shifted incoming outgoing closes (λ (e : Ending B). e.view.pass)
             (λ (e : Ending B). e.view.sums) (λ (e : Ending B). e.view.refused) (λ (e : Ending B). e.view.book)
             (λ (e : Ending B). e.view.newest) (λ (e : Ending B). e.view.fates) (λ (e : Ending B). e.is_left) gives gates
-            (map begun_as in_order) (map ends ps) source source' books books' total missed returned old kept new newest
-            (places_ran ran) new_ones (versions_of in_order opened_in_order) books_at_first
+            (map begun_as in_order) (map ends ps) source source' books books' total missed returned old kept new
+            (places_ran ran) new_ones books_at_first
             (last_books ∙ ap reverse (sym (map_both (λ (e : Ending B). e.view.book) ends ps)))
             (adds ∙ ap all_added (sym (map_both (λ (e : Ending B). e.view.sums) ends ps)))
             (counts ∙ ap capped (sym (sum_by_map (λ (e : Ending B). e.view.refused) ends ps)))
@@ -289,6 +289,7 @@ module _ {T B : Type 0} (incoming outgoing : T → Option (List ℕ)) (closes : 
             (subst (λ l. FoldsTo TakesIn kept (reverse l) new)
             (sym (map_both (λ (e : Ending B). e.view.pass) ends ps))
             taken)
+            newest (versions_of in_order opened_in_order)
 
         pub all_left : (workers : ℕ) → workers ≤ MAX_WORKERS → (why : WorkersFault) (told : ServeFault) →
             FaultOf why told → LeavesSource gives workers source why source' → GivesBack Runs ws why ws' →
