@@ -47,7 +47,7 @@ module _ {T B : Type 0} (incoming outgoing : T → Option (List ℕ)) (closes : 
   one_ran old connection new handled =
       let one = handled.1 in
       record {
-        open = refl;
+        going = refl;
         same = handled.0;
         back = one.back;
         mid = one.mid;
@@ -73,7 +73,7 @@ module _ {T B : Type 0} (incoming outgoing : T → Option (List ℕ)) (closes : 
       let one = has.2 in
       let holds = one.holds in
       record {
-        open = refl;
+        going = refl;
         same = has.0;
         back = Some Left;
         mid = left;
