@@ -85,7 +85,7 @@ module _ {W T B : Type 0} (incoming outgoing : T → Option (List ℕ)) (closes 
   -- A worker that had not ended had one more session, on this connection, and what the session held was given
   -- back. If that still waits, the worker has ended.
   pub record Ran (old : W) (item : T) (new : W) : Type 0 where
-    pub open : ended old ≡ false
+    pub going : ended old ≡ false
     pub same : newest new ≡ newest old
     pub back : Option RequestOutcome
     pub mid : Holder Pass
@@ -145,7 +145,7 @@ module _ {W T B : Type 0} (incoming outgoing : T → Option (List ℕ)) (closes 
       (run.mid, holds.dialogues,
       subst (λ b. giving.GivesBack run.mid b (pass h.0)) (sym holds.returns) run.gives) in
       let is_returned : ended h.0 ≡ false → IsReturned dialogue =
-      λ open. subst (λ b. IfSome b IsReplied) (sym holds.returns) (run.returned open) in
+      λ going. subst (λ b. IfSome b IsReplied) (sym holds.returns) (run.returned going) in
       record {
         dialogues = dialogue ∷ more.dialogues;
         folds = (
@@ -159,7 +159,7 @@ module _ {W T B : Type 0} (incoming outgoing : T → Option (List ℕ)) (closes 
         counts = more.counts ∙ ap refused_of (append_assoc xs (dialogue.told ∷ []) (reports_of more.dialogues));
         fated = more.fated
             ∙ ap fates_of (append_assoc bs (option_to_list dialogue.back) (backs_of more.dialogues));
-        follows = λ d open. (open run.open, more.follows dialogue is_returned);
+        follows = λ d is. (is run.going, more.follows dialogue is_returned);
         returned = more.follows dialogue is_returned;
       }
 

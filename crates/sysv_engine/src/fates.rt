@@ -4,8 +4,8 @@ ghost use Rattle.sysv_engine.specs.Fated.{both, none_fated, one_fated, with_unse
 
 use sysv_seats::Fate;
 
-/// The numbers of messages that clients held when their sessions ended, by what became of them. Each
-/// number stays at 2^64 - 1 once it has reached it.
+/// The numbers of messages that clients held when their sessions ended, by what became of them.
+/// Each number stays at 2^64 - 1 once it has reached it.
 #[derive(Clone, Copy, PartialEq, Eq, Debug)]
 pub struct Fates {
     /// The messages that were sent again.

@@ -12,9 +12,9 @@ use sysv_thread_laws::{
 
 /// States which calls of a service a session makes.
 ///
-/// It makes one call for each request, except for a request for a row, for a done, and for a hold or a
-/// back that is refused, which are no calls. Each request is answered as its call ended, or its call
-/// was left and has no reply. The session makes no other call with its pass.
+/// It makes one call for each request, except for a request for a row, for a done, and for a hold
+/// or a back that is refused, which are no calls. Each request is answered as its call ended, or
+/// its call was left and has no reply. The session makes no other call with its pass.
 pub fn each_session_makes_calls<C: Clock>(clock: &C)
     ensures { EachSessionMakesCalls (C.may clock.now) ⊤ }
 {
