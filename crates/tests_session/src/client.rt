@@ -76,7 +76,7 @@ const FREED: Notification = Notification::Freed { slot: 0, mtype: 5 };
 const CHANGED: Notification = Notification::Changed { slot: 0 };
 
 /// Returns the tools of a worker. Tolerates one refusal of memory.
-fn tools(rt: &impl Abort, alloc: Global) -> Tools {
+pub(crate) fn tools(rt: &impl Abort, alloc: Global) -> Tools {
     match Tools::open(alloc) {
         Ok(tools) => tools,
         Err(_) => Tools::open(alloc).expect(rt, "a second try"),
@@ -121,7 +121,7 @@ fn loose<'a>(
 }
 
 /// Returns the connection of a client. Tolerates one refusal of memory.
-fn stream<'a>(
+pub(crate) fn stream<'a>(
     rt: &impl Abort,
     alloc: Global,
     input: &'a [u8],
@@ -158,7 +158,7 @@ fn assert_notifications(rt: &impl Abort, tools: &mut Tools, expected: &[Notifica
 
 /// Reports that there may be something to read, has the client take a turn, and gives its
 /// connection the replies.
-fn turn<R: Abort + Wait>(
+pub(crate) fn turn<R: Abort + Wait>(
     handler: &mut Keeper<'_, Zero, R>,
     tools: &mut Tools,
     client: &mut Client<MemoryStream<'_>>,
@@ -172,7 +172,7 @@ fn turn<R: Abort + Wait>(
 
 /// Closes the client, and asserts that its session ended for this reason, after this number of
 /// requests, with this number of messages written and lost, and that these replies were taken.
-fn assert_closed(
+pub(crate) fn assert_closed(
     rt: &impl Abort,
     alloc: Global,
     client: Client<MemoryStream<'_>>,
@@ -556,7 +556,7 @@ fn a_client_that_is_cut(rt: HostRuntime) {
 }
 
 /// Splits off a pass. Tolerates one refusal of memory.
-fn split(rt: &impl Abort, alloc: Global, service: &Service, pass: &mut Pass) -> Pass
+pub(crate) fn split(rt: &impl Abort, alloc: Global, service: &Service, pass: &mut Pass) -> Pass
     requires { AreOf service.now pass.old.seats }
     ensures first { AreOf service.now pass.new.seats }
     ensures other { AreOf service.now result.seats }
