@@ -79,8 +79,8 @@ abbrev pub held_at : Cred → ℤ → Progress Waiting RequestOutcome → List �
 held_at cred id (progress.Waits waiting) given = None
 held_at cred id (progress.Over outcome) given = held_by cred id outcome given
 
--- A parked hold was left at its wait, since memory for its message was refused; or its receive looked at its
--- count once, and what it took is held.
+-- A parked hold was left at its wait, since memory for its message was refused or a message is held; or its receive
+-- looked at its count once, and what it took is held.
 abbrev pub HoldGoesOn : (ℕ → Type 0) → Version → Cred → ℤ → Waiting → List ℕ → Holder Pass →
     Progress Waiting RequestOutcome → List ℕ → Holder Pass → Type 0
 HoldGoesOn may version cred id waiting text before result given after =

@@ -162,12 +162,12 @@ impl<'a, C: Clock, R: Wait> Keeper<'a, C, R> {
     }
 
     /// Continues a request that waits, as `ServiceHandler::go_on` does. If memory for a message is
-    /// refused, a hold is left at its wait, and the count is not read.
+    /// refused or a message is held, a hold is left at its wait, and the count is not read.
     ///
     /// # Conditions
     ///
     /// - Those of `ServiceHandler::go_on`. `cred` is the credentials with which the request was
-    ///   begun, and nothing is held if it is a hold.
+    ///   begun.
     pub fn go_on(
         &mut self,
         cred: Cred,
@@ -253,12 +253,16 @@ impl<'a, C: Clock, R: Wait> Keeper<'a, C, R> {
         seconds == 0 && !flags.contains(Flags::MSG_NOERROR) && self.message.is_none()
     }
 
-    /// Returns memory for a message, or `None` if it is refused.
+    /// Returns memory for a message, or `None` if one is held or memory is refused.
     fn room(&self) -> Option<Vec<u8>>
         ensures room { IfSome result (λ memory. (memory.items ≡ [])
             × (MESSAGE_BYTES ≤ vec_capacity memory)) }
+        ensures free { IfSome result (λ _. self.now.message ≡ None) }
         ensures none { self.now.memory ≡ None → result ≡ None }
     {
+        if self.message.is_some() {
+            return None;
+        }
         Vec::with_capacity(self.memory?, MESSAGE_BYTES).ok()
     }
 }
