@@ -35,6 +35,10 @@ abbrev pub HoldAsks : (ℕ → Type 0) → Type 0 → Version → Cred → Ask �
     Holder Pass → Type 0
 HoldAsks = holding.HoldAsks ComesFrom ReadsReleased TellsRow
 
+-- What was held is spent.
+abbrev pub Spends : Version → Holder Pass → RequestOutcome → List ℕ → Holder Pass → Type 0
+Spends = holding.Spends ComesFrom ReadsReleased TellsRow
+
 -- What the calls of a session mean that may hold a message.
 abbrev pub holds_with : (ℕ → Type 0) → Type 0 → Meaning (Holder Pass)
 holds_with may may_leave old cred request text outcome given new =

@@ -6,8 +6,8 @@ ghost use Rattle.sysv_service.specs.Seats.{AreOf};
 ghost use Rattle.sysv_wire.specs.Requests.{op_of};
 ghost use Rattle.sysv_session.specs.Answers.{MayAnswer};
 ghost use Rattle.sysv_seats.specs.HandlesKept.{KeepsHandles};
-ghost use Rattle.sysv_seats.specs.Holding.{Holder, Spends, can_hold as may_hold, received as the_received};
-ghost use Rattle.sysv_seats.specs.Held.{AnyGoesOn, HoldBegun, HoldParked, HoldProgress, held_at, hold_progress, holder_of};
+ghost use Rattle.sysv_seats.specs.Holding.{Holder, can_hold as may_hold, received as the_received};
+ghost use Rattle.sysv_seats.specs.Held.{AnyGoesOn, HoldBegun, HoldParked, HoldProgress, Spends, held_at, hold_progress, holder_of};
 ghost use Rattle.sysv_seats.specs.Parked.{IsWaitOf, MayProgress};
 ghost use Rattle.sysv_seats.specs.Replies.{reply as the_reply};
 
@@ -39,7 +39,7 @@ pub struct Keeper<'a, C: Clock, R: Wait> {
 impl<'a, C: Clock, R: Wait> Keeper<'a, C, R> {
     /// Creates a keeper of no message, whose sessions may hold none.
     pub fn new(handler: ServiceHandler<'a, C, R>) -> Keeper<'a, C, R>
-        ensures handler { result.handler ≡ handler }
+        ensures handler { result.handler ≡ handler.entry }
         ensures none { result.message ≡ None }
     {
         Keeper {
