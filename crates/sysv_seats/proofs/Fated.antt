@@ -8,17 +8,16 @@ use Rattle.sysv_model.specs.declared.cred.Cred.{Cred}
 use Rattle.sysv_model.specs.declared.errno.Errno.{Errno}
 use Rattle.sysv_queue.specs.Delivery.{Given}
 use Rattle.sysv_session.specs.declared.handler.RequestOutcome.{RequestOutcome}
-use Rattle.sysv_session.specs.declared.handler.RequestOutcome.TheVariants.{Reply, Got, Left}
-use Rattle.sysv_session.specs.Calls.{Call, Leads}
+use Rattle.sysv_session.specs.declared.handler.RequestOutcome.TheVariants.{Left}
 use Rattle.sysv_service.specs.Ran.{Pass}
 use Rattle.sysv_wire.specs.declared.frame.Op.TheVariants as op
 use Rattle.sysv_wire.specs.declared.frame.Version.{Version}
 use Rattle.sysv_wire.specs.declared.reply.ReplyContent.TheVariants as content
 use Rattle.sysv_wire.specs.declared.request.Ask.{Ask}
 use Rattle.sysv_wire.specs.declared.request.Ask.TheVariants.{Hello, Get, Snd, Rcv, Stat, Set, Rm, Row, Hold, Done, Back}
-use Rattle.sysv_seats.specs.Asked.{Asks, Receives}
-use Rattle.sysv_seats.specs.Fates.{EachMessageIsSpentOrHeld, given_by, given_in, held_count, spent_by, spent_in}
-use Rattle.sysv_seats.specs.Held.{HoldAsks, holds_with}
+use Rattle.sysv_seats.specs.Asked.{Asks}
+use Rattle.sysv_seats.specs.Fates.{EachMessageIsSpentOrHeld, given_by, held_count, spent_by}
+use Rattle.sysv_seats.specs.Held.{HoldAsks}
 use Rattle.sysv_seats.specs.Holding.{Holder, Message, done_outcome, held_by, hold_outcome}
 use Rattle.sysv_seats.specs.Sits.{zero_moment}
 use Rattle.sysv_seats.specs.Replies.{done_reply, given_reply, id_reply, row_reply, stat_reply}

@@ -1,7 +1,7 @@
 -- The pieces of a request of a session that may hold a message, one after another, are the request.
-use Rattle.std.proofs.Common.{◌≡◌, ◌≢◌, ◌∙◌, ℕ, ℤ, Bool, true, false, List, [], Option, None, Some, inl, inr, refl, sym}
+use Rattle.std.proofs.Common.{◌≡◌, ◌∙◌, ℕ, ℤ, Bool, true, false, List, [], Option, None, Some, inl, inr, refl, sym}
 use Rattle.std.proofs.Common.{subst, length, arith, ap}
-use Rattle.std.specs.Prelude.{⊤, ◌≤◌, ◌&&◌, ◌==◌, not, cond, Result}
+use Rattle.std.specs.Prelude.{◌≤◌, ◌&&◌, ◌==◌, not, cond, Result}
 use Rattle.sysv_model.specs.declared.cred.Cred.{Cred}
 use Rattle.sysv_model.specs.declared.errno.Errno.{Errno}
 use Rattle.sysv_model.specs.declared.errno.Errno.TheVariants.{EAGAIN, EINVAL}

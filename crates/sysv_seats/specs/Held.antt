@@ -1,12 +1,9 @@
 -- What a handler that may hold a message does to its pass and its message (this project's profile). These
 -- are the definitions of `Holding`, for a pass, and the pieces of a request, as in `Parked`.
-use Rattle.std.specs.Prelude.{◌≡◌, ◌≢◌, ◌⊎◌, ⊤, ℕ, ℤ, Bool, true, false, List, [], Option, None, Some}
+use Rattle.std.specs.Prelude.{◌≡◌, ◌⊎◌, ℕ, ℤ, true, List, [], Option, None}
 use Rattle.sysv_keys.specs.declared.identifier.TheConstants.{SLOTS}
 use Rattle.sysv_model.specs.declared.cred.Cred.{Cred}
-use Rattle.sysv_model.specs.declared.errno.Errno.TheVariants.{EINVAL, EIDRM}
-use Rattle.sysv_model.specs.declared.flags.Flags.{Flags}
 use Rattle.sysv_session.specs.declared.handler.RequestOutcome.{RequestOutcome}
-use Rattle.sysv_session.specs.declared.handler.RequestOutcome.TheVariants.{Reply, Got, Left}
 use Rattle.sysv_session.specs.declared.served.Served.{Served}
 use Rattle.sysv_session.specs.Answers.{MayAnswer}
 use Rattle.sysv_session.specs.Calls.{Meaning}

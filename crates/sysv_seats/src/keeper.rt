@@ -200,8 +200,8 @@ impl<'a, C: Clock, R: Wait> Keeper<'a, C, R> {
         self.keep(request.version, cred, id, came, given, memory)
     }
 
-    /// Keeps the message of a receive that has come so far, if it took one, in `memory`. Returns how
-    /// far its hold has come.
+    /// Keeps the message of a receive that has come so far, if it took one, in `memory`. Returns
+    /// how far its hold has come.
     fn keep(
         &mut self,
         version: Version,

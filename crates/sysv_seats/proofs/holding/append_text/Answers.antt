@@ -1,4 +1,4 @@
-use Rattle.std.proofs.Common.{◌≡◌, ◌≤◌, ◌+◌, ◌*◌, ◌++◌, ◌∙◌, ℕ, List, take, drop, length, sym, ap, arith}
+use Rattle.std.proofs.Common.{◌≡◌, ◌≤◌, ◌+◌, ◌*◌, ◌++◌, ◌∙◌, ℕ, List, take, length, sym, ap, arith}
 use Rattle.std.proofs.Common.{length-append, length-take, vec_capacity}
 use Rattle.std.proofs.Math.Nat.{min-le_right}
 use lib.Seq.{take-add}

@@ -1,12 +1,10 @@
 -- A hold goes on as its receive, and any other request as one of the handler.
-use Rattle.std.proofs.Common.{◌≡◌, ◌∙◌, ap, inr, refl, rules, subst, FitsSigned, w32}
+use Rattle.std.proofs.Common.{◌∙◌, ap, inr, refl, rules, subst, FitsSigned, w32}
 use Rattle.std.proofs.lemmas.Int.{to_z-of_z}
-use Rattle.sysv_wire.specs.declared.frame.Version.{Version}
 use Rattle.sysv_wire.specs.declared.request.Ask.{Ask}
-use Rattle.sysv_wire.specs.declared.request.Ask.TheVariants.{Rcv}
 use Rattle.sysv_seats.specs.Held.{holder_of}
 use Rattle.sysv_seats.specs.Holding.{received}
-use Rattle.sysv_seats.specs.Parked.{GoesOn, IsWaitOf, MayProgress}
+use Rattle.sysv_seats.specs.Parked.{IsWaitOf, MayProgress}
 use Rattle.sysv_seats.proofs.HeldPieces.{answers_beside, goes_short, hold_answers, hold_on, looks_beside, on_beside}
 use Rattle.sysv_seats.proofs.HeldPieces.{wait_beside}
 use Rattle.sysv_seats.proofs.keeper.Keeper.go_on.Goals as goal
