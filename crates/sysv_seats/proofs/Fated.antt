@@ -8,18 +8,18 @@ use Rattle.sysv_model.specs.declared.cred.Cred.{Cred}
 use Rattle.sysv_model.specs.declared.errno.Errno.{Errno}
 use Rattle.sysv_queue.specs.Delivery.{Given}
 use Rattle.sysv_session.specs.declared.handler.RequestOutcome.{RequestOutcome}
-use Rattle.sysv_session.specs.declared.handler.RequestOutcome.TheVariants.{Reply, Got, Left}
-use Rattle.sysv_session.specs.Calls.{Call, Leads}
+use Rattle.sysv_session.specs.declared.handler.RequestOutcome.TheVariants.{Left}
 use Rattle.sysv_service.specs.Ran.{Pass}
 use Rattle.sysv_wire.specs.declared.frame.Op.TheVariants as op
 use Rattle.sysv_wire.specs.declared.frame.Version.{Version}
 use Rattle.sysv_wire.specs.declared.reply.ReplyContent.TheVariants as content
 use Rattle.sysv_wire.specs.declared.request.Ask.{Ask}
 use Rattle.sysv_wire.specs.declared.request.Ask.TheVariants.{Hello, Get, Snd, Rcv, Stat, Set, Rm, Row, Hold, Done, Back}
-use Rattle.sysv_seats.specs.Asked.{Asks, Receives}
-use Rattle.sysv_seats.specs.Fates.{EachMessageIsSpentOrHeld, given_by, given_in, held_count, spent_by, spent_in}
-use Rattle.sysv_seats.specs.Held.{HoldAsks, holds_with}
+use Rattle.sysv_seats.specs.Asked.{Asks}
+use Rattle.sysv_seats.specs.Fates.{EachMessageIsSpentOrHeld, given_by, held_count, spent_by}
+use Rattle.sysv_seats.specs.Held.{HoldAsks}
 use Rattle.sysv_seats.specs.Holding.{Holder, Message, done_outcome, held_by, hold_outcome}
+use Rattle.sysv_seats.specs.Sits.{zero_moment}
 use Rattle.sysv_seats.specs.Replies.{done_reply, given_reply, id_reply, row_reply, stat_reply}
 use Rattle.sysv_seats.proofs.HeldPieces.{none_held}
 
@@ -59,31 +59,31 @@ module _ (may : ℕ → Type 0) (may_leave : Type 0) (version : Version) (cred :
   -- Any other call has neither.
   neither : (ask : Ask) (text : List ℕ) (before : Pass) (outcome : RequestOutcome) (given : List ℕ) (after : Pass) →
       (ask ≡ Done → ⊥) → Asks may may_leave version cred ask text before outcome given after → IsNeither outcome
-  neither (Hello other) text before outcome given after no asked = absurd asked
-  neither (Get key flags) text before outcome given after no (inl over, none) =
+  neither (Hello other) text before outcome given after unspent asked = absurd asked
+  neither (Get key flags) text before outcome given after unspent (inl over, none) =
       subst IsNeither (sym over.4) (id_is version over.0)
-  neither (Get key flags) text before outcome given after no (inr left, none) = subst IsNeither (sym left.1)
+  neither (Get key flags) text before outcome given after unspent (inr left, none) = subst IsNeither (sym left.1)
       (refl, refl)
-  neither (Snd id mtype flags) text before outcome given after no ((released, mid, read, inl over), none) =
+  neither (Snd id mtype flags) text before outcome given after unspent ((released, mid, read, inl over), none) =
       subst IsNeither (sym over.4) (sent_is version over.0)
-  neither (Snd id mtype flags) text before outcome given after no ((released, mid, read, inr left), none) =
+  neither (Snd id mtype flags) text before outcome given after unspent ((released, mid, read, inr left), none) =
       subst IsNeither (sym left.1) (refl, refl)
-  neither (Rcv id size mtype flags) text before outcome given after no (inl over) =
+  neither (Rcv id size mtype flags) text before outcome given after unspent (inl over) =
       subst IsNeither (sym over.4) (got_is version over.0)
-  neither (Rcv id size mtype flags) text before outcome given after no (inr left) =
+  neither (Rcv id size mtype flags) text before outcome given after unspent (inr left) =
       subst IsNeither (sym left.2) (refl, refl)
-  neither (Stat id) text before outcome given after no asked =
+  neither (Stat id) text before outcome given after unspent asked =
       subst IsNeither (sym asked.0.4) (stat_is version asked.0.0)
-  neither (Set id to) text before outcome given after no asked =
+  neither (Set id to) text before outcome given after unspent asked =
       subst IsNeither (sym asked.0.4) (set_is version asked.0.0)
-  neither (Rm id) text before outcome given after no asked =
+  neither (Rm id) text before outcome given after unspent asked =
       subst IsNeither (sym asked.0.4) (removed_is version asked.0.0)
-  neither (Row slot) text before outcome given after no asked =
+  neither (Row slot) text before outcome given after unspent asked =
       subst IsNeither (sym asked.0.2) (row_is version asked.0.0)
-  neither (Hold id size mtype flags seconds) text before outcome given after no asked =
+  neither (Hold id size mtype flags seconds) text before outcome given after unspent asked =
       subst IsNeither (sym asked.0.1) (refl, refl)
-  neither Done text before outcome given after no asked = absurd (no refl)
-  neither Back text before outcome given after no asked = subst IsNeither (sym asked.0.1) (refl, refl)
+  neither Done text before outcome given after unspent asked = absurd (unspent refl)
+  neither Back text before outcome given after unspent asked = subst IsNeither (sym asked.0.1) (refl, refl)
 
   -- What a hold takes is held.
   holds_one : (id : ℤ) (answer : Result Given Errno) (given : List ℕ) →
@@ -146,11 +146,11 @@ module _ (may : ℕ → Type 0) (may_leave : Type 0) (version : Version) (cred :
       (neither ask text old.at outcome given new.at (λ is. cc is) asked.0) asked.1
 
 pub each_message : EachMessageIsSpentOrHeld
-each_message may may_leave cred old [] new is = omega (arith, ap (λ (h : Holder Pass). held_count h.message) is)
-each_message may may_leave cred old (call ∷ calls) new leads =
+each_message cred old [] new is = omega (arith, ap (λ (h : Holder Pass). held_count h.message) is)
+each_message cred old (call ∷ calls) new leads =
     omega (
       arith,
-      one may may_leave call.request.version cred call.request.ask call.text old call.outcome call.given leads.0
+      one zero_moment ⊤ call.request.version cred call.request.ask call.text old call.outcome call.given leads.0
           leads.1,
-      each_message may may_leave cred leads.0 calls new leads.2,
+      each_message cred leads.0 calls new leads.2,
     )

@@ -1,17 +1,25 @@
 -- The pieces of a request of a session that may hold a message, one after another, are the request.
-use Rattle.std.proofs.Common.{◌≡◌, ◌≢◌, ◌∙◌, ℕ, ℤ, Bool, true, false, List, [], Option, None, Some, inl, inr, refl, sym}
+use Rattle.std.proofs.Common.{◌≡◌, ◌∙◌, ℕ, ℤ, Bool, true, false, List, [], Option, None, Some, inl, inr, refl, sym}
 use Rattle.std.proofs.Common.{subst, length, arith, ap}
-use Rattle.std.specs.Prelude.{⊤, ◌&&◌, ◌==◌, not}
+use Rattle.std.specs.Prelude.{◌≤◌, ◌&&◌, ◌==◌, not, cond, Result}
 use Rattle.sysv_model.specs.declared.cred.Cred.{Cred}
+use Rattle.sysv_model.specs.declared.errno.Errno.{Errno}
+use Rattle.sysv_model.specs.declared.errno.Errno.TheVariants.{EAGAIN, EINVAL}
 use Rattle.sysv_model.specs.declared.flags.Flags.{Flags}
 use Rattle.sysv_model.specs.declared.flags.TheConstants.Flags.{MSG_NOERROR}
+use Rattle.sysv_model.specs.declared.limits.TheConstants.{MESSAGE_BYTES}
 use Rattle.sysv_model.specs.HasFlag.{has_flag}
+use Rattle.sysv_queue.specs.Delivery.{Given}
 use Rattle.sysv_session.specs.declared.handler.RequestOutcome.{RequestOutcome}
 use Rattle.sysv_session.specs.declared.handler.RequestOutcome.TheVariants.{Reply, Got, Left}
 use Rattle.sysv_session.specs.Answers.{MayAnswer, is_received}
 use Rattle.sysv_service.specs.declared.progress.Progress.{Progress}
 use Rattle.sysv_service.specs.declared.progress.Progress.TheVariants as progress
+use Rattle.sysv_service.specs.Pending.{ReceivesOn}
 use Rattle.sysv_service.specs.Ran.{Pass}
+use Rattle.sysv_steps.specs.declared.receive.ReceiveWait.{ReceiveWait}
+use Rattle.sysv_steps.specs.Call.{Receives}
+use Rattle.sysv_steps.specs.State.{State}
 use Rattle.sysv_wire.specs.declared.frame.Op.TheVariants as op
 use Rattle.sysv_wire.specs.declared.frame.Version.{Version}
 use Rattle.sysv_wire.specs.declared.reply.ReplyContent.{ReplyContent}
@@ -24,9 +32,10 @@ use Rattle.sysv_seats.specs.declared.waiting.Waiting.{Waiting}
 use Rattle.sysv_seats.specs.declared.waiting.Waiting.TheVariants.{Send, Receive, Get}
 use Rattle.sysv_seats.specs.Held.{AnyGoesOn, GoesOnBeside, HoldAsks, HoldBegun, HoldParked, HoldProgress, held_at}
 use Rattle.sysv_seats.specs.Held.{hold_progress}
-use Rattle.sysv_seats.specs.Holding.{Holder, Message, can_hold}
+use Rattle.sysv_seats.specs.Holding.{Holder, Message, can_hold, received}
 use Rattle.sysv_seats.specs.InPieces.{asks_any, left}
-use Rattle.sysv_seats.specs.Parked.{HasBegun, IsParked, MayProgress}
+use Rattle.sysv_seats.specs.Parked.{GoesOn, HasBegun, IsParked, IsWaitOf, MayProgress, receive_progress}
+use Rattle.sysv_seats.specs.Replies.{reply as the_reply}
 
 -- A request that is no hold, no done and no back.
 abbrev pub IsNoHold : Ask → Type 0
@@ -110,6 +119,15 @@ module _ (may : ℕ → Type 0) (version : Version) (cred : Cred) where
   begun_beside ask text before (progress.Over outcome) given after not no_done no_back begun same =
       asks_beside ask text before outcome given after not no_done no_back begun same
 
+  -- A hold was refused, and no call was made.
+  pub hold_refused : (id : ℤ) (size : ℕ) (mtype : ℤ) (flags : Flags) (seconds : ℕ) (text : List ℕ)
+      (before : Holder Pass) (can : Bool) (given : List ℕ) → can ≡ can_hold flags seconds before.message →
+      given ≡ [] →
+      HoldBegun may version cred (Hold id size mtype flags seconds) text before
+      (progress.Over (the_reply version op.Hold (content.Refused (cond can EAGAIN EINVAL)))) given before
+  hold_refused id size mtype flags seconds text before can given is none =
+      inl (refl, none, ap (λ (b : Bool). the_reply version op.Hold (content.Refused (cond b EAGAIN EINVAL))) is)
+
   -- A hold has come as far as its receive.
   pub hold_begun : (id : ℤ) (size : ℕ) (mtype : ℤ) (flags : Flags) (seconds : ℕ) (text : List ℕ) (before : Holder Pass)
       (came : Progress Waiting RequestOutcome) (given : List ℕ) (after : Holder Pass) →
@@ -139,6 +157,62 @@ module _ (may : ℕ → Type 0) (version : Version) (cred : Cred) where
   on_beside ask text start waiting before came given after not on same parked =
       begun_beside ask text start came given after not (λ is. cc is) (λ is. cc is) (on parked.1) (same ∙ parked.2)
 
+  -- The receive of a hold has gone on.
+  pub hold_on : (id : ℤ) (size : ℕ) (mtype : ℤ) (flags : Flags) (seconds : ℕ) (text : List ℕ) (start : Holder Pass)
+      (waiting : Waiting) (before : Holder Pass) (came : Progress Waiting RequestOutcome) (given : List ℕ)
+      (after : Holder Pass) →
+      (IsParked may cred (Rcv id size mtype flags) text start.at waiting before.at →
+      HasBegun may version cred (Rcv id size mtype flags) text start.at came given after.at) →
+      after.message ≡ held_at cred id came given →
+      HoldParked may cred (Hold id size mtype flags seconds) text start waiting before →
+      HoldBegun may version cred (Hold id size mtype flags seconds) text start (hold_progress version came) given after
+  hold_on id size mtype flags seconds text start waiting before came given after on held parked =
+      hold_begun id size mtype flags seconds text start came given after parked.0 (on parked.1) held
+
+-- ---- what is received is short
+
+given_short : (version : Version) (ask : Ask) (outcome : RequestOutcome) (given : List ℕ) →
+    MayAnswer version ask outcome given → length given ≤ MESSAGE_BYTES
+given_short version ask (Reply reply) given answers = answers.4
+given_short version ask (Got delivery) given answers = answers.2
+given_short version ask Left given answers = rw answers (omega arith)
+
+-- What was received by a request that was begun.
+pub begun_short : (may : ℕ → Type 0) (version : Version) (cred : Cred) (ask : Ask) (text : List ℕ) (before : Pass)
+    (came : Progress Waiting RequestOutcome) (given : List ℕ) (after : Pass) →
+    HasBegun may version cred ask text before came given after → MayProgress version ask came given →
+    length given ≤ MESSAGE_BYTES
+begun_short may version cred ask text before (progress.Waits waiting) given after begun answers =
+    rw begun.1 (omega arith)
+begun_short may version cred ask text before (progress.Over outcome) given after begun answers =
+    given_short version ask outcome given answers
+
+-- A receive that waits has no body.
+waits_empty : (may : ℕ → Type 0) (version : Version) (from : State Receives) (before : Pass) (waiting : Waiting)
+    (came : Progress ReceiveWait (Result Given Errno)) (given : List ℕ) (after : Pass) →
+    ReceivesOn may from before came given after → progress.Waits waiting ≡ receive_progress version came → given ≡ []
+waits_empty may version from before waiting (progress.Waits w) given after on is = on.1
+waits_empty may version from before waiting (progress.Over told) given after on is = absurd (cc is)
+
+-- What was received by a receive that has gone on.
+pub goes_short : (may : ℕ → Type 0) (version : Version) (id : ℤ) (size : ℕ) (mtype : ℤ) (flags : Flags)
+    (waiting : Waiting) (text : List ℕ) (before : Pass) (came : Progress Waiting RequestOutcome) (given : List ℕ)
+    (after : Pass) → IsWaitOf (Rcv id size mtype flags) waiting →
+    GoesOn may version waiting text before came given after → MayProgress version (Rcv id size mtype flags) came given →
+    length given ≤ MESSAGE_BYTES
+goes_short may version id size mtype flags waiting text before (progress.Over outcome) given after is goes answers =
+    given_short version (Rcv id size mtype flags) outcome given answers
+goes_short may version id size mtype flags waiting text before (progress.Waits still) given after is (inl stays)
+    answers = rw stays.2 (omega arith)
+goes_short may version id size mtype flags (Receive w) text before (progress.Waits still) given after is (inr went)
+    answers =
+    let none : given ≡ [] = waits_empty may version _ _ still went.3.0 given after went.3.1 went.3.2 in
+    rw none (omega arith)
+goes_short may version id size mtype flags (Send w) text before (progress.Waits still) given after is (inr went)
+    answers = absurd is
+goes_short may version id size mtype flags (Get w) text before (progress.Waits still) given after is (inr went)
+    answers = absurd is
+
 -- The call of any other request looked at its count once.
 pub looks_beside : (may : ℕ → Type 0) (version : Version) (cred : Cred) (ask : Ask) (waiting : Waiting) (text : List ℕ)
     (before : Holder Pass) (came : Progress Waiting RequestOutcome) (given : List ℕ) (after : Holder Pass) →
@@ -147,6 +221,12 @@ pub looks_beside : (may : ℕ → Type 0) (version : Version) (cred : Cred) (ask
 looks_beside may version cred (Hold id size mtype flags seconds) waiting text before came given after not looks =
     absurd (not id size mtype flags seconds refl)
 looks_beside may version cred ask waiting text before came given after not looks = looks
+
+-- A wait of the call of any other request is one of that request.
+pub wait_beside : (ask : Ask) (waiting : Waiting) → IsNoHold ask → IsWaitOf (received ask) waiting →
+    IsWaitOf ask waiting
+wait_beside (Hold id size mtype flags seconds) waiting not is = absurd (not id size mtype flags seconds refl)
+wait_beside ask waiting not is = is
 
 -- ---- what a handler may return
 
@@ -184,6 +264,14 @@ hold_answers version id size mtype flags seconds (progress.Over (Reply reply)) g
 hold_answers version id size mtype flags seconds (progress.Over (Got delivery)) given answers =
     (refl, refl, refl, refl, answers.2)
 hold_answers version id size mtype flags seconds (progress.Over Left) given answers = answers
+
+-- A hold may be refused with any error.
+pub refused_answers : (version : Version) (id : ℤ) (size : ℕ) (mtype : ℤ) (flags : Flags) (seconds : ℕ) (why : Errno)
+    (given : List ℕ) → given ≡ [] →
+    HoldProgress version (Hold id size mtype flags seconds)
+    (progress.Over (the_reply version op.Hold (content.Refused why))) given
+refused_answers version id size mtype flags seconds why given none =
+    (refl, refl, omega arith, refl, rw none (omega arith))
 
 -- What a handler may return for any other request.
 pub answers_beside : (version : Version) (ask : Ask) (came : Progress Waiting RequestOutcome) (given : List ℕ) →

@@ -1,6 +1,6 @@
 -- What becomes of the messages that holds give (this project's profile). Each is spent by a done, or it is held at the
 -- end of the session, and is then given back.
-use Rattle.std.specs.Prelude.{◌≡◌, ◌+◌, ℕ, List, [], ◌∷◌, Option, None, Some}
+use Rattle.std.specs.Prelude.{◌≡◌, ◌+◌, ⊤, ℕ, List, [], ◌∷◌, Option, None, Some}
 use Rattle.sysv_model.specs.declared.cred.Cred.{Cred}
 use Rattle.sysv_session.specs.declared.handler.RequestOutcome.{RequestOutcome}
 use Rattle.sysv_session.specs.declared.handler.RequestOutcome.TheVariants.{Reply, Got, Left}
@@ -10,6 +10,7 @@ use Rattle.sysv_wire.specs.declared.reply.ReplyContent.{ReplyContent}
 use Rattle.sysv_wire.specs.declared.reply.ReplyContent.TheVariants as content
 use Rattle.sysv_seats.specs.Held.{holds_with}
 use Rattle.sysv_seats.specs.Holding.{Holder, Message}
+use Rattle.sysv_seats.specs.Sits.{zero_moment}
 
 -- 1 for the reply of a hold with a message.
 abbrev pub gives : ReplyContent → ℕ
@@ -46,8 +47,8 @@ held_count None = 0
 held_count (Some message) = 1
 
 -- Each message that was held before these calls, or that a hold of them gave, was spent by one of them, or is held
--- after them.
+-- after them. These are the calls of a client: every time is 0, and the client may leave.
 abbrev pub EachMessageIsSpentOrHeld : Type 0
-EachMessageIsSpentOrHeld = (may : ℕ → Type 0) (may_leave : Type 0) (cred : Cred) (old : Holder Pass)
-    (calls : List Call) (new : Holder Pass) → Leads (holds_with may may_leave) cred old calls new →
+EachMessageIsSpentOrHeld = (cred : Cred) (old : Holder Pass) (calls : List Call) (new : Holder Pass) →
+    Leads (holds_with zero_moment ⊤) cred old calls new →
     held_count old.message + given_in calls ≡ spent_in calls + held_count new.message

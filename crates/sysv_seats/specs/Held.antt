@@ -1,12 +1,9 @@
 -- What a handler that may hold a message does to its pass and its message (this project's profile). These
 -- are the definitions of `Holding`, for a pass, and the pieces of a request, as in `Parked`.
-use Rattle.std.specs.Prelude.{◌≡◌, ◌≢◌, ◌⊎◌, ⊤, ℕ, ℤ, Bool, true, false, List, [], Option, None, Some}
+use Rattle.std.specs.Prelude.{◌≡◌, ◌⊎◌, ℕ, ℤ, true, List, [], Option, None}
 use Rattle.sysv_keys.specs.declared.identifier.TheConstants.{SLOTS}
 use Rattle.sysv_model.specs.declared.cred.Cred.{Cred}
-use Rattle.sysv_model.specs.declared.errno.Errno.TheVariants.{EINVAL, EIDRM}
-use Rattle.sysv_model.specs.declared.flags.Flags.{Flags}
 use Rattle.sysv_session.specs.declared.handler.RequestOutcome.{RequestOutcome}
-use Rattle.sysv_session.specs.declared.handler.RequestOutcome.TheVariants.{Reply, Got, Left}
 use Rattle.sysv_session.specs.declared.served.Served.{Served}
 use Rattle.sysv_session.specs.Answers.{MayAnswer}
 use Rattle.sysv_session.specs.Calls.{Meaning}
@@ -34,6 +31,10 @@ holder_of keeper = record { at = keeper.handler.pass; message = keeper.message }
 abbrev pub HoldAsks : (ℕ → Type 0) → Type 0 → Version → Cred → Ask → List ℕ → Holder Pass → RequestOutcome → List ℕ →
     Holder Pass → Type 0
 HoldAsks = holding.HoldAsks ComesFrom ReadsReleased TellsRow
+
+-- What was held is spent.
+abbrev pub Spends : Version → Holder Pass → RequestOutcome → List ℕ → Holder Pass → Type 0
+Spends = holding.Spends ComesFrom ReadsReleased TellsRow
 
 -- What the calls of a session mean that may hold a message.
 abbrev pub holds_with : (ℕ → Type 0) → Type 0 → Meaning (Holder Pass)
@@ -79,8 +80,8 @@ abbrev pub held_at : Cred → ℤ → Progress Waiting RequestOutcome → List �
 held_at cred id (progress.Waits waiting) given = None
 held_at cred id (progress.Over outcome) given = held_by cred id outcome given
 
--- A parked hold was left at its wait, since memory for its message was refused; or its receive looked at its
--- count once, and what it took is held.
+-- A parked hold was left at its wait, since memory for its message was refused or a message is held; or its receive
+-- looked at its count once, and what it took is held.
 abbrev pub HoldGoesOn : (ℕ → Type 0) → Version → Cred → ℤ → Waiting → List ℕ → Holder Pass →
     Progress Waiting RequestOutcome → List ℕ → Holder Pass → Type 0
 HoldGoesOn may version cred id waiting text before result given after =

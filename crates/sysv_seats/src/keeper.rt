@@ -6,8 +6,8 @@ ghost use Rattle.sysv_service.specs.Seats.{AreOf};
 ghost use Rattle.sysv_wire.specs.Requests.{op_of};
 ghost use Rattle.sysv_session.specs.Answers.{MayAnswer};
 ghost use Rattle.sysv_seats.specs.HandlesKept.{KeepsHandles};
-ghost use Rattle.sysv_seats.specs.Holding.{Holder, Spends, can_hold as may_hold, received as the_received};
-ghost use Rattle.sysv_seats.specs.Held.{AnyGoesOn, HoldBegun, HoldParked, HoldProgress, held_at, hold_progress, holder_of};
+ghost use Rattle.sysv_seats.specs.Holding.{Holder, can_hold as may_hold, received as the_received};
+ghost use Rattle.sysv_seats.specs.Held.{AnyGoesOn, HoldBegun, HoldParked, HoldProgress, Spends, held_at, hold_progress, holder_of};
 ghost use Rattle.sysv_seats.specs.Parked.{IsWaitOf, MayProgress};
 ghost use Rattle.sysv_seats.specs.Replies.{reply as the_reply};
 
@@ -39,7 +39,7 @@ pub struct Keeper<'a, C: Clock, R: Wait> {
 impl<'a, C: Clock, R: Wait> Keeper<'a, C, R> {
     /// Creates a keeper of no message, whose sessions may hold none.
     pub fn new(handler: ServiceHandler<'a, C, R>) -> Keeper<'a, C, R>
-        ensures handler { result.handler ≡ handler }
+        ensures handler { result.handler ≡ handler.entry }
         ensures none { result.message ≡ None }
     {
         Keeper {
@@ -162,12 +162,12 @@ impl<'a, C: Clock, R: Wait> Keeper<'a, C, R> {
     }
 
     /// Continues a request that waits, as `ServiceHandler::go_on` does. If memory for a message is
-    /// refused, a hold is left at its wait, and the count is not read.
+    /// refused or a message is held, a hold is left at its wait, and the count is not read.
     ///
     /// # Conditions
     ///
     /// - Those of `ServiceHandler::go_on`. `cred` is the credentials with which the request was
-    ///   begun, and nothing is held if it is a hold.
+    ///   begun.
     pub fn go_on(
         &mut self,
         cred: Cred,
@@ -200,8 +200,8 @@ impl<'a, C: Clock, R: Wait> Keeper<'a, C, R> {
         self.keep(request.version, cred, id, came, given, memory)
     }
 
-    /// Keeps the message of a receive that has come so far, if it took one, in `memory`. Returns how
-    /// far its hold has come.
+    /// Keeps the message of a receive that has come so far, if it took one, in `memory`. Returns
+    /// how far its hold has come.
     fn keep(
         &mut self,
         version: Version,
@@ -253,12 +253,16 @@ impl<'a, C: Clock, R: Wait> Keeper<'a, C, R> {
         seconds == 0 && !flags.contains(Flags::MSG_NOERROR) && self.message.is_none()
     }
 
-    /// Returns memory for a message, or `None` if it is refused.
+    /// Returns memory for a message, or `None` if one is held or memory is refused.
     fn room(&self) -> Option<Vec<u8>>
         ensures room { IfSome result (λ memory. (memory.items ≡ [])
             × (MESSAGE_BYTES ≤ vec_capacity memory)) }
+        ensures free { IfSome result (λ _. self.now.message ≡ None) }
         ensures none { self.now.memory ≡ None → result ≡ None }
     {
+        if self.message.is_some() {
+            return None;
+        }
         Vec::with_capacity(self.memory?, MESSAGE_BYTES).ok()
     }
 }

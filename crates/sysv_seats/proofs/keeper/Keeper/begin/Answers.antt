@@ -17,3 +17,11 @@ returns-in-Done-clause-begun g c = rw c.in-Done.is (rw c.requires.empty c.spend.
 
 pub returns-in-Back-clause-begun : goal.returns-in-Back-clause-begun
 returns-in-Back-clause-begun g c = rw c.in-Back.is (refl, c.refusal.ensures, c.requires.empty)
+
+pub returns-in_default-clause-begun : goal.returns-in_default-clause-begun
+returns-in_default-clause-begun g c =
+    begun_beside _ _ _ c.args.request.now.ask c.args.text.now (holder_of c.args.self.now) c.begin.result
+    c.begin.new.given _ c.in_default.not-Hold c.in_default.not-Done c.in_default.not-Back c.begin.ensures.begun refl
+
+pub returns-in_default-clause-answer : goal.returns-in_default-clause-answer
+returns-in_default-clause-answer g c = answers_beside _ _ _ _ c.in_default.not-Hold c.begin.ensures.answer
