@@ -1,7 +1,7 @@
 -- What became of the messages that sessions held at their ends.
 use Rattle.std.proofs.Common.{◌≡◌, ◌∙◌, ℕ, ◌+◌, List, [], ◌∷◌, ◌++◌, Option, Some, None, Bool, cond, ap, refl, sym}
 use Rattle.std.proofs.Common.{arith}
-use Rattle.std.specs.Prelude.{◌^◌, ◌-◌, ◌||◌, true, false, not, IfSome, count_by, flat_map}
+use Rattle.std.specs.Prelude.{◌||◌, true, false, not, IfSome, count_by, flat_map}
 use Rattle.std.specs.Option.{option_to_list}
 use Rattle.std.specs.List.{sum_by}
 use Rattle.std.proofs.lemmas.List.{append-nil}
