@@ -182,16 +182,10 @@ module _ {T B C : Type 0} (incoming outgoing : T → Option (List ℕ)) (closes 
         subst (λ (r : Option SendWait). ComesBackAt incoming outgoing closes left r left) (sym stands.6) refl,
       )
 
-  -- The pass with which the return began.
-  began_at : (left now : Holder Pass) → ComesBackAt incoming outgoing closes left None now →
-      (now.at ≡ left.at) × (now.message ≡ left.message)
-  began_at left now is = (ap (λ (h : Holder Pass). h.at) is, ap (λ (h : Holder Pass). h.message) is)
-
   -- The session left the same place, if nothing of it but its pass has changed since then.
   left_as : (old : View B) (connection : T) (left : Holder Pass) (view new : View B) →
       HasLeft incoming outgoing closes old connection left view →
-      SameView view new →
-      new.fates ≡ view.fates → HasLeft incoming outgoing closes old connection left new
+      SameView view new → new.fates ≡ view.fates → HasLeft incoming outgoing closes old connection left new
   left_as old connection left view new has same fated =
       let one = has.2 in
       let holds = one.holds in (
@@ -217,9 +211,8 @@ module _ {T B C : Type 0} (incoming outgoing : T → Option (List ℕ)) (closes 
       (now : Option Message) (result : Return)
       (stands : Is place view None (Some message) returning) →
       ComesBack stands.3.at stands.3.message result (record { at = new.pass; message = now }) →
-      stands.3.message ≡ Some message →
-      SameView view new →
-      new.fates ≡ fates_by view.fates result → Is place new None now (wait_in result)
+      stands.3.message ≡ Some message → SameView view new → new.fates ≡ fates_by view.fates result →
+      Is place new None now (wait_in result)
   comes place view new message returning now (come.Waits wait) stands came held same fated =
       let waits = came.0 in
       let still : now ≡ Some message = came.1 ∙ held in
@@ -263,7 +256,8 @@ module _ {T B C : Type 0} (incoming outgoing : T → Option (List ℕ)) (closes 
   begins place view new None now (come.Over what) came same fated stands =
       let no : None ≡ Some came.0 = came.1 in absurd (cc no)
   begins place view new (Some message) now result came same fated stands =
-      let is : record { at = view.pass; message = Some message } ≡ stands.3 = stands.7 in
+      let held : Holder Pass = record { at = view.pass; message = Some message } in
+      let is : held ≡ stands.3 = stands.7 in
       comes place view new message None now result stands
       (subst (λ (h : Holder Pass). ComesBack h.at h.message result (record { at = new.pass; message = now })) is came)
       (sym (ap (λ (h : Holder Pass). h.message) is)) same fated
@@ -312,7 +306,8 @@ module _ {T B : Type 0} (incoming outgoing : T → Option (List ℕ)) (closes : 
         (keeps old.newest stood.2 stood.1 stood.5.0, still ∙ stood.5.1),
         stood.6,
       ) in
-      let view : record (view_of old) { pass = new.pass } ≡ view_of new = cc in (
+      let went : View B = record (view_of old) { pass = new.pass } in
+      let view : went ≡ view_of new = cc in (
         same.0 ∙ stands.0,
         subst (λ c. Is (view_of new) c new.message new.returning) (sym holds)
             (subst (λ r. Is (view_of new) (Some client') new.message r) (sym waits)
@@ -366,7 +361,8 @@ module _ {T B : Type 0} (incoming outgoing : T → Option (List ℕ)) (closes : 
         caused = subst (λ b. MayEnd b served.«end») sits.1 cause;
       })
       sums refused stood in
-      let view : record (view_of old) { sums = new.sums; refused = new.refused; book = book' } ≡ view_of new = cc in (
+      let counted : View B = record (view_of old) { sums = new.sums; refused = new.refused; book = book' } in
+      let view : counted ≡ view_of new = cc in (
         same.0 ∙ stands.0,
         subst (λ c. Is (view_of new) c new.message new.returning) (sym same.3)
             (subst (λ m. Is (view_of new) None m new.returning) (sym same.5)
