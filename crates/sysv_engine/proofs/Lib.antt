@@ -11,6 +11,7 @@ pub mod Adopting
 pub mod PlacesRun
 pub mod PlaceLemmas
 pub mod PlaceLists
+pub mod FatesAdded
 pub mod Kept
 pub mod SharedOut
 pub mod Reversed

@@ -23,25 +23,40 @@ use Rattle.sysv_engine.specs.Added.{added, capped, one_session}
 use Rattle.sysv_engine.specs.Fated.{one_fated}
 use Rattle.sysv_engine.specs.Handled.{Handles, Leaves, fated_by, one_refused}
 use Rattle.sysv_engine.specs.Places.{ComesBackAt, Handled, HasLeft, IsPlace, KeepsPlace, Seated, SitsOn, Standing}
-use Rattle.sysv_engine.specs.Places.{Stands, TakesIn, View, taken_by, view_of, with_one, with_pass}
+use Rattle.sysv_engine.specs.Places.{Stands, TakesIn, View, come_so_far, fates_by, taken_by, view_of, wait_in}
+use Rattle.sysv_engine.specs.Places.{with_one, with_pass}
 use Rattle.sysv_engine.specs.Converses.{Closes, ConversesAs, tally_of}
-use Rattle.sysv_engine.proofs.Shifts.{folds_last}
+use Rattle.std.proofs.lemmas.Fn.{FoldsTo-push}
 
 -- The pass of a place, and the message that is held at it.
 abbrev pub holder_at : {B T : Type 0} → Seated B T → Holder Pass
 holder_at place = record { at = place.pass; message = place.message }
 
--- The wait of a return that has come so far.
-abbrev pub wait_in : Return → Option SendWait
-wait_in (come.Waits wait) = Some wait
-wait_in come.Nothing = None
-wait_in (come.Over what) = None
+-- The same of two views, but for the pass and the fates.
+abbrev SameView : {B : Type 0} → View B → View B → Type 0
+SameView view new = (new.newest ≡ view.newest) × (new.sums ≡ view.sums) × (new.refused ≡ view.refused)
+    × (new.book ≡ view.book)
 
--- The numbers once a return has come so far.
-abbrev pub fates_by : Fates → Return → Fates
-fates_by fates (come.Waits wait) = fates
-fates_by fates come.Nothing = fates
-fates_by fates (come.Over what) = one_fated what fates
+same_view : {B : Type 0} (view new : View B) → SameView view new → new.pass ≡ view.pass → new.fates ≡ view.fates →
+    view ≡ new
+same_view {B} view new same pass fates =
+    let one : View B = record {
+      pass = view.pass;
+      newest = view.newest;
+      sums = view.sums;
+      refused = view.refused;
+      fates = view.fates;
+      book = view.book;
+    } in
+    let other : View B = record {
+      pass = new.pass;
+      newest = new.newest;
+      sums = new.sums;
+      refused = new.refused;
+      fates = new.fates;
+      book = new.book;
+    } in
+    let is : one ≡ other = cc in is
 
 module _ {T B C : Type 0} (incoming outgoing : T → Option (List ℕ)) (closes : Closing T B)
     (At : Version → Pass → T → C → Holder Pass → Type 0) where
@@ -98,7 +113,7 @@ module _ {T B C : Type 0} (incoming outgoing : T → Option (List ℕ)) (closes 
   -- What the session held was given back, and its send had this outcome.
   returned : (old : View B) (connection : T) (left : Holder Pass) (view new : View B) (back : Option RequestOutcome) →
       HasLeft incoming outgoing closes old connection left view → GivesBack left back new.pass → IfSome back IsReplied →
-      (new.newest ≡ view.newest) × (new.sums ≡ view.sums) × (new.refused ≡ view.refused) × (new.book ≡ view.book) →
+      SameView view new →
       new.fates ≡ fated_by view.fates back → Handled incoming outgoing closes old connection new
   returned old connection left view new back has gives ended same fated =
       let one = has.2 in
@@ -146,7 +161,7 @@ module _ {T B C : Type 0} (incoming outgoing : T → Option (List ℕ)) (closes 
       returned (with_pass start view) connection (empty_handed view.pass) new new None (refl, refl, one) (refl, refl) tt
       (refl, refl, refl, refl) refl in (
         subst (λ l. FoldsTo (Handled incoming outgoing closes) place.start l new) (sym stands.3)
-            (folds_last (Handled incoming outgoing closes) place.start stands.0 (with_pass start view) connection new
+            (FoldsTo-push (Handled incoming outgoing closes) place.start stands.0 (with_pass start view) connection new
             stands.4 whole),
         stands.6,
       )
@@ -167,16 +182,10 @@ module _ {T B C : Type 0} (incoming outgoing : T → Option (List ℕ)) (closes 
         subst (λ (r : Option SendWait). ComesBackAt incoming outgoing closes left r left) (sym stands.6) refl,
       )
 
-  -- The pass with which the return began.
-  began_at : (left now : Holder Pass) → ComesBackAt incoming outgoing closes left None now →
-      (now.at ≡ left.at) × (now.message ≡ left.message)
-  began_at left now is = (ap (λ (h : Holder Pass). h.at) is, ap (λ (h : Holder Pass). h.message) is)
-
   -- The session left the same place, if nothing of it but its pass has changed since then.
   left_as : (old : View B) (connection : T) (left : Holder Pass) (view new : View B) →
       HasLeft incoming outgoing closes old connection left view →
-      (new.newest ≡ view.newest) × (new.sums ≡ view.sums) × (new.refused ≡ view.refused) × (new.book ≡ view.book) →
-      new.fates ≡ view.fates → HasLeft incoming outgoing closes old connection left new
+      SameView view new → new.fates ≡ view.fates → HasLeft incoming outgoing closes old connection left new
   left_as old connection left view new has same fated =
       let one = has.2 in
       let holds = one.holds in (
@@ -202,9 +211,8 @@ module _ {T B C : Type 0} (incoming outgoing : T → Option (List ℕ)) (closes 
       (now : Option Message) (result : Return)
       (stands : Is place view None (Some message) returning) →
       ComesBack stands.3.at stands.3.message result (record { at = new.pass; message = now }) →
-      stands.3.message ≡ Some message →
-      (new.newest ≡ view.newest) × (new.sums ≡ view.sums) × (new.refused ≡ view.refused) × (new.book ≡ view.book) →
-      new.fates ≡ fates_by view.fates result → Is place new None now (wait_in result)
+      stands.3.message ≡ Some message → SameView view new → new.fates ≡ fates_by view.fates result →
+      Is place new None now (wait_in result)
   comes place view new message returning now (come.Waits wait) stands came held same fated =
       let waits = came.0 in
       let still : now ≡ Some message = came.1 ∙ held in
@@ -224,7 +232,7 @@ module _ {T B C : Type 0} (incoming outgoing : T → Option (List ℕ)) (closes 
         ),
       )
   comes place view new message returning now come.Nothing stands came held same fated =
-      absurd (let no : Some message ≡ None = sym held ∙ came.0 in cc no)
+      let no : Some message ≡ None = sym held ∙ came.0 in absurd (cc no)
   comes place view new message returning now (come.Over what) stands came held same fated =
       let outcome = came.2 in
       let whole : Handled incoming outgoing closes stands.2 stands.1 new =
@@ -232,9 +240,40 @@ module _ {T B C : Type 0} (incoming outgoing : T → Option (List ℕ)) (closes 
       (fated ∙ ap (λ (f : Fate). one_fated f view.fates) came.5) in
       subst (λ (m : Option Message). Is place new None m None) (sym came.6) (
         subst (λ l. FoldsTo (Handled incoming outgoing closes) place.start l new) (sym stands.4)
-            (folds_last (Handled incoming outgoing closes) place.start stands.0 stands.2 stands.1 new stands.5 whole),
+            (FoldsTo-push (Handled incoming outgoing closes) place.start stands.0 stands.2 stands.1 new stands.5 whole),
         refl,
       )
+
+  -- The return of what is held was begun, and has come so far.
+  begins : (place : Standing (View B) T) (view new : View B) (message now : Option Message) (result : Return) →
+      ComesBack view.pass message result (record { at = new.pass; message = now }) → SameView view new →
+      new.fates ≡ fates_by view.fates result → Is place view None message None → Is place new None now (wait_in result)
+  begins place view new None now (come.Waits wait) came same fated stands =
+      let no : None ≡ Some came.0.0 = sym came.1 ∙ came.0.1 in absurd (cc no)
+  begins place view new None now come.Nothing came same fated stands =
+      subst (λ (m : Option Message). Is place new None m None) (sym came.2)
+      (subst (λ (v : View B). DidAll place place.had v) (same_view view new same came.1 fated) stands.0, refl)
+  begins place view new None now (come.Over what) came same fated stands =
+      let no : None ≡ Some came.0 = came.1 in absurd (cc no)
+  begins place view new (Some message) now result came same fated stands =
+      let held : Holder Pass = record { at = view.pass; message = Some message } in
+      let is : held ≡ stands.3 = stands.7 in
+      comes place view new message None now result stands
+      (subst (λ (h : Holder Pass). ComesBack h.at h.message result (record { at = new.pass; message = now })) is came)
+      (sym (ap (λ (h : Holder Pass). h.message) is)) same fated
+
+  -- The return that waited went on, and has come so far.
+  continues : (place : Standing (View B) T) (view new : View B) (message now : Option Message) (wait : SendWait)
+      (result : Return) →
+      GoesBackOn (record { at = view.pass; message = message }) wait result (record { at = new.pass; message = now }) →
+      SameView view new → new.fates ≡ fates_by view.fates result → Is place view None message (Some wait) →
+      Is place new None now (wait_in result)
+  continues place view new None now wait result goes same fated stands =
+      let no : Some wait ≡ None = stands.1 in absurd (cc no)
+  continues place view new (Some message) now wait result goes same fated stands =
+      comes place view new message (Some wait) now result stands
+      (subst (λ (m : Option Message). ComesBack stands.3.at m result (record { at = new.pass; message = now }))
+      stands.7.1 (goes stands.3.at stands.7.0)) (sym stands.7.1) same fated
 
 module _ {T B : Type 0} (incoming outgoing : T → Option (List ℕ)) (closes : Closing T B) where
   -- The place that is the same as this one keeps what this one keeps.
@@ -267,7 +306,8 @@ module _ {T B : Type 0} (incoming outgoing : T → Option (List ℕ)) (closes : 
         (keeps old.newest stood.2 stood.1 stood.5.0, still ∙ stood.5.1),
         stood.6,
       ) in
-      let view : record (view_of old) { pass = new.pass } ≡ view_of new = cc in (
+      let went : View B = record (view_of old) { pass = new.pass } in
+      let view : went ≡ view_of new = cc in (
         same.0 ∙ stands.0,
         subst (λ c. Is (view_of new) c new.message new.returning) (sym holds)
             (subst (λ r. Is (view_of new) (Some client') new.message r) (sym waits)
@@ -321,10 +361,59 @@ module _ {T B : Type 0} (incoming outgoing : T → Option (List ℕ)) (closes : 
         caused = subst (λ b. MayEnd b served.«end») sits.1 cause;
       })
       sums refused stood in
-      let view : record (view_of old) { sums = new.sums; refused = new.refused; book = book' } ≡ view_of new = cc in (
+      let counted : View B = record (view_of old) { sums = new.sums; refused = new.refused; book = book' } in
+      let view : counted ≡ view_of new = cc in (
         same.0 ∙ stands.0,
         subst (λ c. Is (view_of new) c new.message new.returning) (sym same.3)
             (subst (λ m. Is (view_of new) None m new.returning) (sym same.5)
             (subst (λ r. Is (view_of new) None old.message r) (sym same.6)
             (subst (λ v. Is v None old.message old.returning) view none))),
       )
+
+  -- The place is the same before and after what keeps it.
+  pub keeps_round : (old first second new : Seated B T) → first ≡ old →
+      KeepsPlace incoming outgoing closes first second → new ≡ second → KeepsPlace incoming outgoing closes old new
+  keeps_round old first second new before keeps after = λ gates standing stands.
+      subst (λ p. Stands incoming outgoing closes gates standing p) (sym after)
+      (keeps gates standing (subst (λ p. Stands incoming outgoing closes gates standing p) (sym before) stands))
+
+  -- The return of what is held at the place has come so far, from what it was.
+  returns : (old mid new : Seated B T) (result : Return) (waits : Option SendWait) → old.client ≡ None →
+      old.returning ≡ waits → SameBut old mid → mid.client ≡ old.client → new ≡ come_so_far result mid →
+      ((standing : Standing (View B) T) →
+      IsPlace incoming outgoing closes (SitsOn incoming outgoing closes) standing (view_of old) None old.message
+      waits →
+      IsPlace incoming outgoing closes (SitsOn incoming outgoing closes) standing (view_of (come_so_far result mid)) None
+      mid.message (wait_in result)) →
+      KeepsPlace incoming outgoing closes old new
+  returns old mid new result waits none returning same still is so_far = λ gates standing stands.
+      let Is = IsPlace incoming outgoing closes (SitsOn incoming outgoing closes) standing in
+      let stood : Is (view_of old) None old.message waits =
+      subst (λ r. Is (view_of old) None old.message r) returning
+      (subst (λ c. Is (view_of old) c old.message old.returning) none stands.1) in
+      subst (λ p. Stands incoming outgoing closes gates standing p) (sym is) (
+        same.0 ∙ stands.0,
+        subst (λ c. Is (view_of (come_so_far result mid)) c mid.message (wait_in result)) (sym (still ∙ none))
+            (so_far standing stood),
+      )
+
+  -- The return of what is held at a place without a client was begun.
+  pub gives_back : (old mid new : Seated B T) (result : Return) → old.client ≡ None → old.returning ≡ None →
+      SameBut old mid → mid.client ≡ old.client → GoesBack (holder_at old) result (holder_at mid) →
+      new ≡ come_so_far result mid → KeepsPlace incoming outgoing closes old new
+  gives_back old mid new result none returning same still goes is =
+      returns old mid new result None none returning same still is
+      (λ standing stood. begins incoming outgoing closes (SitsOn incoming outgoing closes) standing (view_of old)
+      (view_of (come_so_far result mid)) old.message mid.message result goes (same.1, same.2, same.3, same.5)
+      (ap (λ (f : Fates). fates_by f result) same.4) stood)
+
+  -- The return of what is held at a place without a client went on.
+  pub gives_back_on : (old mid new : Seated B T) (result : Return) (wait : SendWait) → old.client ≡ None →
+      old.returning ≡ Some wait → SameBut old mid → mid.client ≡ old.client →
+      GoesBackOn (holder_at old) wait result (holder_at mid) → new ≡ come_so_far result mid →
+      KeepsPlace incoming outgoing closes old new
+  gives_back_on old mid new result wait none returning same still goes is =
+      returns old mid new result (Some wait) none returning same still is
+      (λ standing stood. continues incoming outgoing closes (SitsOn incoming outgoing closes) standing (view_of old)
+      (view_of (come_so_far result mid)) old.message mid.message wait result goes (same.1, same.2, same.3, same.5)
+      (ap (λ (f : Fates). fates_by f result) same.4) stood)

@@ -2,7 +2,7 @@
 use Rattle.std.proofs.Common.{◌≡◌, ◌∙◌, ℕ, List, [], ◌∷◌, ◌<◌, slice_set, slice_index_or, length, suc, zero, Option}
 use Rattle.std.proofs.Common.{subst}
 use Rattle.std.proofs.Common.{sym, refl, ap, arith, None, Some, Bool, true, false, not}
-use Rattle.std.specs.Prelude.{is_some, ◌||◌}
+use Rattle.std.specs.Prelude.{is_some, ◌||◌, ◌&&◌}
 use Rattle.std.specs.List.{All, list_all}
 use Rattle.std.proofs.lemmas.List.Sums.{AllPass-from_list_all}
 use Rattle.sysv_bank.specs.Banks.{Each2}
@@ -65,6 +65,14 @@ pub is_free : {B T : Type 0} (place : Seated B T) → is_vacant place ≡ true �
     (place.client ≡ None) × (place.message ≡ None)
 is_free place vacant =
     (none_of place.client (is_some place.message) vacant, last_none (is_some place.client) place.message vacant)
+
+no_client : {A : Type 0} (held : Option A) (other : Bool) → not (is_some held) && other ≡ true → held ≡ None
+no_client None other ended = refl
+no_client (Some held) other ended = absurd (cc ended)
+
+-- A place at which nothing is left to do has no client.
+pub is_left : {B T : Type 0} (place : Seated B T) → has_ended place ≡ true → place.client ≡ None
+is_left place ended = no_client place.client (not (is_some place.message) || is_some place.returning) ended
 
 -- The place of this number, which is vacant.
 pub vacant_there : {B T : Type 0} (places : List (Seated B T)) (at : ℕ) (there : Seated B T) → at < length places →

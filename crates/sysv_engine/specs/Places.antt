@@ -8,12 +8,14 @@ use Rattle.sysv_service.specs.Ran.{Pass}
 use Rattle.sysv_service.specs.Seats.{Gates}
 use Rattle.sysv_wire.specs.declared.frame.Version.{Version}
 use Rattle.sysv_steps.specs.declared.send.SendWait.{SendWait}
+use Rattle.sysv_seats.specs.declared.returning.Return.{Return}
+use Rattle.sysv_seats.specs.declared.returning.Return.TheVariants as come
 use Rattle.sysv_seats.specs.GivingBack.{WaitsBack}
 use Rattle.sysv_seats.specs.Holding.{Holder, Message}
 use Rattle.sysv_seats.specs.Sits.{Sits, Sitting}
 use Rattle.sysv_seats.specs.Untold.{Closing}
 use Rattle.sysv_engine.specs.declared.sums.Sums.{Sums}
-use Rattle.sysv_engine.specs.Fated.{none_fated, with_unsent}
+use Rattle.sysv_engine.specs.Fated.{none_fated, one_fated, with_unsent}
 use Rattle.sysv_engine.specs.declared.fates.Fates.{Fates}
 use Rattle.sysv_engine.specs.Handled.{Handles, Leaves}
 use Rattle.sysv_engine.specs.Serving.{IsNew}
@@ -155,6 +157,33 @@ taken_by client place = record {
   client = Some client;
   message = place.message;
   returning = place.returning;
+}
+
+-- The wait of a return that has come so far.
+abbrev pub wait_in : Return → Option SendWait
+wait_in (come.Waits wait) = Some wait
+wait_in come.Nothing = None
+wait_in (come.Over what) = None
+
+-- The numbers once a return has come so far.
+abbrev pub fates_by : Fates → Return → Fates
+fates_by fates (come.Waits wait) = fates
+fates_by fates come.Nothing = fates
+fates_by fates (come.Over what) = one_fated what fates
+
+-- The place, once the return of what is held at it has come so far.
+abbrev pub come_so_far : {B T : Type 0} → Return → Seated B T → Seated B T
+come_so_far came place = record {
+  gates = place.gates;
+  pass = place.pass;
+  newest = place.newest;
+  sums = place.sums;
+  refused = place.refused;
+  fates = fates_by place.fates came;
+  book = place.book;
+  client = place.client;
+  message = place.message;
+  returning = wait_in came;
 }
 
 module _ {T B : Type 0} (incoming outgoing : T → Option (List ℕ)) (closes : Closing T B) where

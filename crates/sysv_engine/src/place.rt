@@ -1,12 +1,13 @@
 //! The places of a server: each serves one client after another.
-ghost use Rattle.std.specs.Prelude.{◌≡◌, ◌+◌, None, Some, IfSome, is_some, not, true};
+ghost use Rattle.std.specs.Prelude.{◌≡◌, ◌+◌, None, Some, IfSome, cond, is_some, not, true};
 ghost use Rattle.sysv_service.specs.Seats.{AreOf};
 ghost use Rattle.sysv_seats.specs.Sits.{Keeps, is_finished};
 ghost use Rattle.sysv_engine.specs.Added.{added, capped, nothing, one_session};
-ghost use Rattle.sysv_engine.specs.Fated.{none_fated};
+ghost use Rattle.sysv_engine.specs.Fated.{none_fated, with_unsent};
 ghost use Rattle.sysv_engine.specs.Handled.{one_refused};
 ghost use Rattle.sysv_engine.specs.Places.{IsIdle, IsIdleAt, KeepsPlace, TakesIn};
-ghost use Rattle.sysv_engine.specs.Places.{fates_at_end, has_ended, is_vacant, taken_by};
+ghost use Rattle.sysv_engine.specs.Places.{come_so_far, fates_at_end, fates_by, has_ended, is_vacant};
+ghost use Rattle.sysv_engine.specs.Places.{taken_by, wait_in};
 
 use crate::awaited::key_of;
 use crate::fates::Fates;
@@ -140,7 +141,7 @@ impl<'a, R: Wait, T: NonBlocking> Place<'a, R, T> {
             returning: _,
             sums,
             refused,
-            mut fates,
+            fates,
             book,
             times: _,
             in_turns: _,
@@ -153,9 +154,7 @@ impl<'a, R: Wait, T: NonBlocking> Place<'a, R, T> {
         match client {
             Some(_) => unreachable!(),
             None => {
-                if handler.has_message() {
-                    fates.count_unsent();
-                }
+                let fates = at_end(fates, handler.has_message());
                 (handler.into_pass(), sums, refused, fates, book)
             }
         }
@@ -221,21 +220,39 @@ impl<'a, R: Wait, T: NonBlocking> Place<'a, R, T> {
         ensures keeps { KeepsPlace T.incoming T.outgoing T.closes self.old self.new }
     {
         if self.client.is_none() && self.returning.is_none() {
-            self.returns = self.handler.has_message();
-            let came = self.handler.give_back(tools);
-            self.note_return(came);
+            self.begin_return(tools);
             self.count_hold(tools);
         }
     }
 
+    /// Begins to give back the message that the last client held, if it held one.
+    fn begin_return(&mut self, tools: &mut Tools)
+        requires { (self.old.client ≡ None) × (self.old.returning ≡ None) }
+        ensures keeps { KeepsPlace T.incoming T.outgoing T.closes self.old self.new }
+    {
+        self.returns = self.handler.has_message();
+        let came = self.handler.give_back(tools);
+        self.note_return(came);
+    }
+
+    /// Has the send that gives back a message go on, if one waits and it may.
+    fn go_on_returning(&mut self, tools: &mut Tools)
+        requires { self.old.client ≡ None }
+        ensures keeps { KeepsPlace T.incoming T.outgoing T.closes self.old self.new }
+    {
+        let Some(wait) = self.returning else {
+            return;
+        };
+        let came = self.handler.give_back_on(wait, tools);
+        self.note_return(came);
+    }
+
     /// Takes note of how far the return of the message has come.
-    fn note_return(&mut self, came: Return) {
-        self.returning = None;
-        match came {
-            Return::Nothing => {}
-            Return::Waits(wait) => self.returning = Some(wait),
-            Return::Over(fate) => self.fates.count(fate),
-        }
+    fn note_return(&mut self, came: Return)
+        ensures { self.new ≡ come_so_far came self.old }
+    {
+        self.returning = wait_of(came);
+        self.fates = counted(self.fates, came);
     }
 
     /// Returns whether what the last client held was given back since this was last asked.
@@ -325,11 +342,18 @@ impl<'a, R: Wait, T: NonBlocking> Place<'a, R, T> {
         ensures keeps { KeepsPlace T.incoming T.outgoing T.closes self.old self.new }
     {
         self.allow_hold(tools);
+        self.take_up(tools);
+        self.count_hold(tools);
+    }
+
+    /// Has the client take up and answer a share of the requests that have arrived.
+    fn take_up(&mut self, tools: &mut Tools)
+        ensures keeps { KeepsPlace T.incoming T.outgoing T.closes self.old self.new }
+    {
         if let Some(client) = &mut self.client {
             client.take_turn(&mut self.handler, tools);
             client.drain();
         }
-        self.count_hold(tools);
     }
 
     /// Continues the parked call, or the send that gives back a message, if it may go on.
@@ -337,13 +361,18 @@ impl<'a, R: Wait, T: NonBlocking> Place<'a, R, T> {
         ensures keeps { KeepsPlace T.incoming T.outgoing T.closes self.old self.new }
     {
         self.allow_hold(tools);
-        if let Some(client) = &mut self.client {
-            client.go_on(&mut self.handler, tools);
-        } else if let Some(wait) = self.returning {
-            let came = self.handler.give_back_on(wait, tools);
-            self.note_return(came);
-        }
+        self.resume(tools);
         self.count_hold(tools);
+    }
+
+    /// Has the parked call go on, or the send that gives back a message, if it may.
+    fn resume(&mut self, tools: &mut Tools)
+        ensures keeps { KeepsPlace T.incoming T.outgoing T.closes self.old self.new }
+    {
+        match &mut self.client {
+            Some(client) => client.go_on(&mut self.handler, tools),
+            None => self.go_on_returning(tools),
+        }
     }
 
     /// Gives the connection as many bytes of the replies as it takes now.
@@ -529,4 +558,39 @@ fn refusals(served: &Served) -> u64
         End::NoMemory => 1,
         _ => 0,
     }
+}
+
+/// Returns the wait of a return that has come so far.
+fn wait_of(came: Return) -> Option<SendWait>
+    ensures { result ≡ wait_in came }
+{
+    match came {
+        Return::Waits(wait) => Some(wait),
+        Return::Nothing | Return::Over(_) => None,
+    }
+}
+
+/// Returns the numbers once a return has come so far.
+fn counted(fates: Fates, came: Return) -> Fates
+    ensures { result ≡ fates_by fates came }
+{
+    let mut fates = fates;
+    match came {
+        Return::Nothing | Return::Waits(_) => fates,
+        Return::Over(fate) => {
+            fates.count(fate);
+            fates
+        }
+    }
+}
+
+/// Returns the numbers at the end of the server, if a message is still held or not.
+fn at_end(fates: Fates, is_held: bool) -> Fates
+    ensures { result ≡ cond is_held (with_unsent fates) fates }
+{
+    let mut fates = fates;
+    if is_held {
+        fates.count_unsent();
+    }
+    fates
 }

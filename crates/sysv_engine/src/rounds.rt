@@ -259,16 +259,56 @@ impl<'a, 'c, R: Wait> Serving<'a, 'c, R> {
             ≡ record worker.old.agenda { parking = worker.new.agenda.parking } }
     {
         self.line_up(worker, place);
+        self.close_if_over(worker, place);
+        self.note_given_back(worker, place);
+        if worker.has_client(place) {
+            self.await_client(worker, place);
+        }
+    }
+
+    /// Closes a client if its session is over.
+    fn close_if_over<T: NonBlocking, W: Watch<T>>(
+        &self,
+        worker: &mut Worker<'a, R, T, W>,
+        place: usize,
+    )
+        ensures keeps { KeepsAll T.incoming T.outgoing T.closes worker.old.places.items
+            worker.new.places.items }
+        ensures moves { MovesOnly place worker.old.agenda.parking worker.new.agenda.parking }
+        ensures rest { worker.new.agenda
+            ≡ record worker.old.agenda { parking = worker.new.agenda.parking } }
+    {
         if worker.is_over(place) {
             self.close(worker, place);
         }
+    }
+
+    /// Vacates the place if what its last client held was given back since this was last looked at.
+    fn note_given_back<T: NonBlocking, W: Watch<T>>(
+        &self,
+        worker: &mut Worker<'a, R, T, W>,
+        place: usize,
+    )
+        ensures keeps { KeepsAll T.incoming T.outgoing T.closes worker.old.places.items
+            worker.new.places.items }
+        ensures agenda { worker.new.agenda ≡ worker.old.agenda }
+    {
         if worker.has_given_back(place) {
             self.server.count_return(false);
             self.vacate(worker, place);
         }
-        if !worker.has_client(place) {
-            return;
-        }
+    }
+
+    /// Has the worker wait for what comes next for a client.
+    fn await_client<T: NonBlocking, W: Watch<T>>(
+        &self,
+        worker: &mut Worker<'a, R, T, W>,
+        place: usize,
+    )
+        ensures keeps { KeepsAll T.incoming T.outgoing T.closes worker.old.places.items
+            worker.new.places.items }
+        ensures agenda { worker.new.agenda ≡ worker.old.agenda }
+    {
         worker.await_more(place);
         worker.set_time(place, self.server.patience());
         worker.look_again(place);
@@ -368,6 +408,18 @@ impl<'a, 'c, R: Wait> Serving<'a, 'c, R> {
             self.server.starve();
         }
         self.server.end(worker.agenda.number(), &served.tally);
+        self.release(worker, place);
+    }
+
+    /// Begins to give back the message that a client held which was closed, or vacates its place if
+    /// it held none.
+    fn release<T: NonBlocking, W: Watch<T>>(&self, worker: &mut Worker<'a, R, T, W>, place: usize)
+        ensures keeps { KeepsAll T.incoming T.outgoing T.closes worker.old.places.items
+            worker.new.places.items }
+        ensures moves { MovesOnly place worker.old.agenda.parking worker.new.agenda.parking }
+        ensures rest { worker.new.agenda
+            ≡ record worker.old.agenda { parking = worker.new.agenda.parking } }
+    {
         let returns = worker.has_message(place);
         if returns {
             self.server.count_return(true);

@@ -64,8 +64,8 @@ returns-clause-keeps g c =
     (all_back places c.loop-worker.places.items _ c.loop-worker.workers.items none c.loop-worker.invariant.all)
     c.vacate.ensures.keeps
 
-pub returns-clause-vacant : goal.returns-clause-vacant
-returns-clause-vacant g c = c.vacate.ensures.vacant
+pub returns-clause-ended : goal.returns-clause-ended
+returns-clause-ended g c = c.vacate.ensures.ended
 
 pub returns-clause-count : goal.returns-clause-count
 returns-clause-count g c =

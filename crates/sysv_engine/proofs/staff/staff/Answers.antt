@@ -29,7 +29,7 @@ loop-kit-init g c =
     let W : Type 0 = Worker g.row.R.Denot g.row.T.Denot g.row.W.Denot g.row.T-Book.Denot in
     let S : Type 0 = Seated g.row.T-Book.Denot g.row.T.Denot in
     let Q : W → Type 0 = λ w. 1 ≤ vec_len w.places in
-    let O : S → Type 0 = IsOpened c.args.service.now in
+    let O : S → Type 0 = IsOpened c.args.service.now c.args.newest in
     let places : W → List S = λ w. w.places.items in
     let of : S → Pass = λ p. p.pass in
     let book : S → g.row.T-Book.Denot = λ p. p.book in
@@ -66,7 +66,7 @@ loop-kit-preserved g c =
     let S : Type 0 = Seated g.row.T-Book.Denot g.row.T.Denot in
     let P : K → Type 0 = λ k. (k.places.items ≡ []) × (1 ≤ vec_capacity k.places) in
     let Q : W → Type 0 = λ w. 1 ≤ vec_len w.places in
-    let O : S → Type 0 = IsOpened c.args.service.now in
+    let O : S → Type 0 = IsOpened c.args.service.now c.args.newest in
     let was = c.loop-kit.invariant in
     let is = c.in-Some.ensures.items in
     let places : W → List S = λ w. w.places.items in
@@ -121,7 +121,7 @@ returns-clause-places g c =
     let W : Type 0 = Worker g.row.R.Denot g.row.T.Denot g.row.W.Denot g.row.T-Book.Denot in
     let S : Type 0 = Seated g.row.T-Book.Denot g.row.T.Denot in
     let places : W → List S = λ w. w.places.items in
-    let O : S → Type 0 = IsOpened c.args.service.now in
+    let O : S → Type 0 = IsOpened c.args.service.now c.args.newest in
     subst (λ l. All O (flat_map places l)) (sym c.reverse.ensures.items) c.loop-kit.invariant.places
 
 pub returns-clause-gives : goal.returns-clause-gives

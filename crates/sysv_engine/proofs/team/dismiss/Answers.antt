@@ -1,7 +1,7 @@
 -- The last place's pass is one of the service, its sums are added, and its book is put back.
 use Rattle.std.proofs.Common.{◌≡◌, ◌∙◌, ℕ, ◌+◌, ◌∷◌, [], ◌++◌, map, reverse, ap, append-nil, arith, length, refl, sym}
 use Rattle.std.proofs.Common.{zero-add}
-use Rattle.std.proofs.Common.{subst, None}
+use Rattle.std.proofs.Common.{subst, true}
 use Rattle.std.proofs.lemmas.List.{map-append, reverse-append}
 use Rattle.std.proofs.lemmas.List.Sums.{sum_by_push}
 use Rattle.std.specs.List.{FoldsTo, sum_by}
@@ -10,7 +10,11 @@ use Rattle.sysv_thread_laws.specs.Hiring.{TakesIn}
 use Rattle.sysv_service.specs.Ran.{Pass}
 use Rattle.sysv_engine.specs.declared.sums.Sums.{Sums}
 use Rattle.sysv_engine.specs.Added.{added, capped}
-use Rattle.sysv_engine.specs.Places.{Seated}
+use Rattle.sysv_engine.specs.declared.fates.Fates.{Fates}
+use Rattle.sysv_engine.specs.Fated.{both}
+use Rattle.sysv_engine.specs.Places.{Seated, fates_at_end, has_ended}
+use Rattle.sysv_engine.proofs.FatesAdded.{all_gathered, gathering_none, gathering_one}
+use Rattle.sysv_engine.proofs.PlaceLists.{is_left}
 use Rattle.sysv_engine.proofs.SumsOfSessions.{adding_none, adding_one, all_counted, counting_one, emptied}
 use Rattle.sysv_engine.proofs.Shifts.{but_last, reverse_last, the_last, unpopped}
 use Rattle.sysv_engine.proofs.team.dismiss.Goals as goal
@@ -19,9 +23,10 @@ pub loop-place-init : goal.loop-place-init
 loop-place-init g c = record {
   pass = c.requires.pass;
   places = c.requires.places;
-  vacant = c.requires.vacant;
+  ended = c.requires.ended;
   sums = adding_none _ c.open-sums.result c.open-sums.ensures;
   refused = ap capped (zero-add _);
+  fates = gathering_none _ c.open-fates.result c.open-fates.ensures;
   small = omega arith;
   takes = λ home folds. folds;
   books = refl;
@@ -30,8 +35,9 @@ loop-place-init g c = record {
 
 pub into_parts-theirs-requires : goal.into_parts-theirs-requires
 into_parts-theirs-requires g c =
-    the_last (λ (p : Seated g.row.T-Book.Denot g.row.T.Denot). p.client ≡ None) c.pop.new.self.items
-    c.loop-place.places.items c.in-Some.place c.in-Some.ensures.items c.loop-place.invariant.vacant
+    is_left c.in-Some.place
+    (the_last (λ (p : Seated g.row.T-Book.Denot g.row.T.Denot). has_ended p ≡ true) c.pop.new.self.items
+    c.loop-place.places.items c.in-Some.place c.in-Some.ensures.items c.loop-place.invariant.ended)
 
 pub join_pass-requires-clause-other : goal.join_pass-requires-clause-other
 join_pass-requires-clause-other g c =
@@ -50,6 +56,8 @@ loop-place-preserved g c =
     let missed : S → ℕ = λ p. p.refused in
     let book : S → g.row.T-Book.Denot = λ p. p.book in
     let fewer = ap (map sums) is ∙ map-append sums c.pop.new.self.items (c.in-Some.place ∷ []) in
+    let of_fates : S → Fates = λ p. fates_at_end p in
+    let fated = ap (map of_fates) is ∙ map-append of_fates c.pop.new.self.items (c.in-Some.place ∷ []) in
     let rest = reverse (map book c.pop.new.self.items) in
     let booked = ap (λ ps. reverse (map book ps)) is
     ∙ (ap reverse (map-append book c.pop.new.self.items (c.in-Some.place ∷ []))
@@ -64,8 +72,10 @@ loop-place-preserved g c =
       pass = c.join_pass.ensures.pass;
       places = but_last (λ (p : S). p.gates ≡ c.args.service.now) c.pop.new.self.items c.loop-place.places.items
           c.in-Some.place is c.loop-place.invariant.places;
-      vacant = but_last (λ (p : S). p.client ≡ None) c.pop.new.self.items c.loop-place.places.items c.in-Some.place is
-          c.loop-place.invariant.vacant;
+      ended = but_last (λ (p : S). has_ended p ≡ true) c.pop.new.self.items c.loop-place.places.items c.in-Some.place is
+          c.loop-place.invariant.ended;
+      fates = gathering_one _ _ _ _ _ _ c.loop-place.invariant.fates fated
+          (c.add-2.ensures ∙ ap (both c.loop-place.fates) parts.3);
       sums = adding_one _ _ _ _ _ _ c.loop-place.invariant.sums fewer
           (c.add.ensures ∙ ap (added c.loop-place.sums) parts.1);
       refused = ap (λ n. capped (n + sum_by missed c.pop.new.self.items))
@@ -79,8 +89,8 @@ loop-place-preserved g c =
           c.loop-place.invariant.takes home
           (subst (λ ps. FoldsTo TakesIn c.loop-place.pass ps home) (sym passes) (c.join_pass.new.pass, joined, rest));
       books = ap (λ l. l ++ rest) c.push_reserved.ensures.items
-          ∙ (unpopped c.loop-place.books.items c.into_parts-theirs.result.3 rest
-          ∙ (ap (λ b. c.loop-place.books.items ++ b ∷ rest) parts.3
+          ∙ (unpopped c.loop-place.books.items c.into_parts-theirs.result.4 rest
+          ∙ (ap (λ b. c.loop-place.books.items ++ b ∷ rest) parts.4
           ∙ (ap (λ l. c.loop-place.books.items ++ l) (sym booked) ∙ c.loop-place.invariant.books)));
       room = let room = c.loop-place.invariant.room in let len = c.push_reserved.ensures.len in
           let same = c.push_reserved.ensures.capacity in let less = c.in-Some.ensures.cases in
@@ -110,6 +120,15 @@ returns-clause-refused g c =
     let empty = ap (sum_by missed) (emptied c.loop-place.places.items none) in
     all_counted c.loop-place.refused (sum_by missed c.loop-place.places.items)
     (sum_by missed c.args.places.items) c.loop-place.invariant.small empty c.loop-place.invariant.refused
+
+pub returns-clause-fates : goal.returns-clause-fates
+returns-clause-fates g c =
+    let of_fates : Seated g.row.T-Book.Denot g.row.T.Denot → Fates = λ p. fates_at_end p in
+    let len = c.in_default.ensures.cases.0 in
+    let ok = c.loop-place.places.ok in
+    let none : length c.loop-place.places.items ≡ 0 = omega arith in
+    all_gathered _ _ c.loop-place.fates c.loop-place.invariant.fates
+    (ap (map of_fates) (emptied c.loop-place.places.items none))
 
 pub returns-clause-takes : goal.returns-clause-takes
 returns-clause-takes g c =
