@@ -18,4 +18,4 @@ pub use sysv_engine::{Ended, Fates, Patience, ServeFault, Sums};
 pub use terms::Terms;
 
 /// The version of the server and of its clients.
-pub const VERSION: &str = "0.3.0-dev";
+pub const VERSION: &str = "0.3.0";
