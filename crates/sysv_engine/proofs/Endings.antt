@@ -104,10 +104,10 @@ module _ {T B : Type 0} (incoming outgoing : T → Option (List ℕ)) (closes : 
       IsPlace incoming outgoing closes (SitsOn incoming outgoing closes) s view client message wait →
       (not (is_some client) && (not (is_some message) || is_some wait)) ≡ true →
       FoldsTo Ran (begins s.start) s.had (
-        record {
-          view = record view { fates = cond (is_some message) (with_unsent view.fates) view.fates };
-          is_left = is_some message;
-        }
+      record {
+        view = record view { fates = cond (is_some message) (with_unsent view.fates) view.fates };
+        is_left = is_some message;
+      }
       )
   over_at law s view (Some client) message wait stands over = absurd (cc over)
   over_at law s view None None wait stands over = all_ran s.start s.had view stands.0

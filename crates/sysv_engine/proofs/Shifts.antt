@@ -141,9 +141,11 @@ module _ {W T B : Type 0} (incoming outgoing : T → Option (List ℕ)) (closes 
       (run.fated ∙ (ap (λ f. fated_at_end f run.back) back ∙ fated_last bs run.back)) in
       let more = tells items h.0 w' (xs ++ dialogue.told ∷ []) (bs ++ option_to_list dialogue.back) h.2 next
       more_refused more_back in
-      let whole : Converses (newest w) (pass w) dialogue (pass h.0) =
-      (run.mid, holds.dialogues,
-      subst (λ b. giving.GivesBack run.mid b (pass h.0)) (sym holds.returns) run.gives) in
+      let whole : Converses (newest w) (pass w) dialogue (pass h.0) = (
+        run.mid,
+        holds.dialogues,
+        subst (λ b. giving.GivesBack run.mid b (pass h.0)) (sym holds.returns) run.gives,
+      ) in
       let is_returned : ended h.0 ≡ false → IsReturned dialogue =
       λ going. subst (λ b. IfSome b IsReplied) (sym holds.returns) (run.returned going) in
       record {
@@ -212,13 +214,13 @@ module _ {W T B : Type 0} (incoming outgoing : T → Option (List ℕ)) (closes 
       (All-tail (λ (p : Part W T). New gates p.before) p parts new) in
       record {
         shifts = record {
-              newest = newest p.before;
-              before = pass p.before;
-              dialogues = one.dialogues;
-              after = pass p.after;
-              worked = one.folds;
-              returned = one.returned;
-            }
+          newest = newest p.before;
+          before = pass p.before;
+          dialogues = one.dialogues;
+          after = pass p.after;
+          worked = one.folds;
+          returned = one.returned;
+        }
             ∷ rest.shifts;
         desks = record { connections = p.items; first = book p.before; last = book p.after } ∷ rest.desks;
         passes = ((first.0, first.1), rest.passes);

@@ -7,9 +7,7 @@ use crate::serving::ended;
 use std::alloc::Global;
 use std::process::Abort;
 use std::sync::Wait;
-use sysv_seats::{
-    Client, Fate, Keeper, MemoryStream, Return, ServiceHandler, Tools, ZERO, Zero,
-};
+use sysv_seats::{Client, Fate, Keeper, MemoryStream, Return, ServiceHandler, Tools, ZERO, Zero};
 use sysv_session::End;
 use sysv_wire::Version;
 
@@ -53,6 +51,7 @@ const REMOVING: &[u8] = &[
 
 /// The replies to a hello and a set, and to a hello and a removal, in version 1.
 const NARROWED: &[u8] = &[0, 0, 0, 3, 1, 0, 0, 0, 0, 0, 3, 1, 5, 0];
+
 const REMOVED: &[u8] = &[0, 0, 0, 3, 1, 0, 0, 0, 0, 0, 3, 1, 6, 0];
 
 /// Has the client of this connection take its turns, and closes it. Its session may hold messages.
@@ -104,7 +103,10 @@ fn a_message_is_spent_once(rt: HostRuntime) {
     handler.set_memory(Some(alloc));
     serve(&rt, alloc, &mut handler, &mut tools, SPENDING, 6, SPENT);
     assert_that(&rt, !handler.has_message());
-    assert_that(&rt, matches!(given_back(&mut handler, &mut tools), Return::Nothing));
+    assert_that(
+        &rt,
+        matches!(given_back(&mut handler, &mut tools), Return::Nothing),
+    );
     let pass = handler.into_pass();
     ended(&rt, service, pass, 0);
 }
@@ -119,7 +121,11 @@ fn a_message_that_is_held_at_the_end_comes_back(rt: HostRuntime) {
     let (input, replies) = (&SPENDING[..HOLDING], &SPENT[..HELD]);
     serve(&rt, alloc, &mut handler, &mut tools, input, 4, replies);
     assert_that(&rt, handler.has_message());
-    assert_is(&rt, (handler.return_length(), handler.blocks_in_use()), (24, 0));
+    assert_is(
+        &rt,
+        (handler.return_length(), handler.blocks_in_use()),
+        (24, 0),
+    );
     let came = given_back(&mut handler, &mut tools);
     assert_that(&rt, matches!(came, Return::Over(Fate::Sent)));
     assert_that(&rt, !handler.has_message());
@@ -133,7 +139,15 @@ fn a_hold_without_memory_takes_nothing(rt: HostRuntime) {
     let (service, pass) = opened(&rt, alloc, 128, 0);
     let mut handler = Keeper::new(ServiceHandler::new(&rt, &service, &ZERO, pass));
     let mut tools = tools(&rt, alloc);
-    serve(&rt, alloc, &mut handler, &mut tools, &SPENDING[..HOLDING], 4, REFUSED);
+    serve(
+        &rt,
+        alloc,
+        &mut handler,
+        &mut tools,
+        &SPENDING[..HOLDING],
+        4,
+        REFUSED,
+    );
     assert_that(&rt, !handler.has_message());
     let pass = handler.into_pass();
     ended(&rt, service, pass, 1);
