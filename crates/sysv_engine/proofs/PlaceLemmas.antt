@@ -256,8 +256,7 @@ module _ {T B C : Type 0} (incoming outgoing : T → Option (List ℕ)) (closes 
   begins place view new None now (come.Over what) came same fated stands =
       let no : None ≡ Some came.0 = came.1 in absurd (cc no)
   begins place view new (Some message) now result came same fated stands =
-      let held : Holder Pass = record { at = view.pass; message = Some message } in
-      let is : held ≡ stands.3 = stands.7 in
+      let is : record { at = view.pass; message = Some message } ≡ stands.3 = stands.7 in
       comes place view new message None now result stands
       (subst (λ (h : Holder Pass). ComesBack h.at h.message result (record { at = new.pass; message = now })) is came)
       (sym (ap (λ (h : Holder Pass). h.message) is)) same fated
@@ -306,8 +305,7 @@ module _ {T B : Type 0} (incoming outgoing : T → Option (List ℕ)) (closes : 
         (keeps old.newest stood.2 stood.1 stood.5.0, still ∙ stood.5.1),
         stood.6,
       ) in
-      let went : View B = record (view_of old) { pass = new.pass } in
-      let view : went ≡ view_of new = cc in (
+      let view : record (view_of old) { pass = new.pass } ≡ view_of new = cc in (
         same.0 ∙ stands.0,
         subst (λ c. Is (view_of new) c new.message new.returning) (sym holds)
             (subst (λ r. Is (view_of new) (Some client') new.message r) (sym waits)
@@ -361,8 +359,7 @@ module _ {T B : Type 0} (incoming outgoing : T → Option (List ℕ)) (closes : 
         caused = subst (λ b. MayEnd b served.«end») sits.1 cause;
       })
       sums refused stood in
-      let counted : View B = record (view_of old) { sums = new.sums; refused = new.refused; book = book' } in
-      let view : counted ≡ view_of new = cc in (
+      let view : record (view_of old) { sums = new.sums; refused = new.refused; book = book' } ≡ view_of new = cc in (
         same.0 ∙ stands.0,
         subst (λ c. Is (view_of new) c new.message new.returning) (sym same.3)
             (subst (λ m. Is (view_of new) None m new.returning) (sym same.5)
