@@ -83,7 +83,8 @@ fn there(request: &Request, outcome: &RequestOutcome) -> Option<Notification>
     ensures { result ≡ changed_by request.now.ask outcome.now }
 {
     match request.ask {
-        Ask::Rcv { id, .. } | Ask::Hold { id, .. } => freed(id, outcome),
+        Ask::Rcv { id, .. } => freed(id, outcome),
+        Ask::Hold { id, .. } => freed(id, outcome),
         Ask::Snd { id, mtype, .. } if is_done(outcome) => Some(Notification::Arrived {
             slot: slot_of_id(id),
             mtype,
