@@ -1,11 +1,10 @@
 -- What gives a message back is a send of it.
-use Rattle.std.proofs.Common.{◌≡◌, ◌∙◌, ℕ, ℤ, List, [], Option, None, Some, refl, sym, ap, subst, subst₂, false}
+use Rattle.std.proofs.Common.{◌≡◌, ◌∙◌, ℕ, ℤ, List, Option, None, Some, refl, sym, ap, subst, subst₂}
 use Rattle.std.specs.Prelude.{⊤}
 use Rattle.sysv_model.specs.declared.cred.Cred.{Cred}
 use Rattle.sysv_model.specs.declared.flags.Flags.{Flags}
 use Rattle.sysv_session.specs.declared.handler.RequestOutcome.{RequestOutcome}
 use Rattle.sysv_session.specs.declared.handler.RequestOutcome.TheVariants.{Reply, Got, Left}
-use Rattle.sysv_session.specs.Answers.{is_message}
 use Rattle.sysv_service.specs.declared.progress.Progress.{Progress}
 use Rattle.sysv_service.specs.declared.progress.Progress.TheVariants as progress
 use Rattle.sysv_service.specs.Ran.{Pass}
@@ -18,7 +17,7 @@ use Rattle.sysv_seats.specs.declared.returning.Return.{Return}
 use Rattle.sysv_seats.specs.declared.waiting.Waiting.{Waiting}
 use Rattle.sysv_seats.specs.declared.waiting.Waiting.TheVariants.{Send, Receive, Get}
 use Rattle.sysv_seats.specs.GivingBack.{ComesBack, EachReturnCanBeLeft, GoesBack, GoesBackOn, IsOfSend, IsReturn}
-use Rattle.sysv_seats.specs.GivingBack.{WaitsBack, fate_of, held_after, return_by, return_of}
+use Rattle.sysv_seats.specs.GivingBack.{held_after, return_by, return_of}
 use Rattle.sysv_seats.specs.Holding.{Holder, Message, no_flags}
 use Rattle.sysv_seats.specs.InPieces.{asks_any, left}
 use Rattle.sysv_seats.specs.Parked.{HasBegun, IsParked, MayProgress}
