@@ -30,7 +30,7 @@ use Rattle.sysv_wire.specs.declared.frame.Version.{Version}
 use Rattle.sysv_seats.specs.declared.parked.Parked.{Parked}
 use Rattle.sysv_seats.specs.Breaking.{Breaks, HasCause, MayEnd}
 use Rattle.sysv_seats.specs.Held.{holds_with}
-use Rattle.sysv_seats.specs.Holding.{Holder, empty_handed, received}
+use Rattle.sysv_seats.specs.Holding.{Holder, empty_handed}
 use Rattle.sysv_seats.proofs.HeldPieces.{hold_left}
 use Rattle.sysv_seats.specs.Sits.{Arrives, HasFrame, HasStopped, IsAt, IsBehind, IsCounted, IsFree, IsOver}
 use Rattle.sysv_seats.specs.Sits.{IsReady, end_at_close, is_finished, is_early}
