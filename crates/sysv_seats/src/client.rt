@@ -97,8 +97,8 @@ impl<T: NonBlocking> Model for Client<T> {
 }
 
 impl<T: NonBlocking> Client<T> {
-    /// Creates the client of a connection from which nothing was read. Its session reads versions up
-    /// to `newest`. Allocates nothing.
+    /// Creates the client of a connection from which nothing was read. Its session reads versions
+    /// up to `newest`. Allocates nothing.
     pub fn open(alloc: Global, connection: T, newest: Version) -> Client<T>
         ensures connection { result.connection ≡ connection }
         ensures sits { (pass : Pass) →
@@ -226,8 +226,8 @@ impl<T: NonBlocking> Client<T> {
         self.connection.may_be_cut(limit)
     }
 
-    /// Returns whether more bytes may be there than the last read returned, although nothing reports
-    /// them: it was short, and no read since has found nothing.
+    /// Returns whether more bytes may be there than the last read returned, although nothing
+    /// reports them: it was short, and no read since has found nothing.
     pub fn may_hold_more(&self) -> bool {
         self.is_short && !self.is_held()
     }

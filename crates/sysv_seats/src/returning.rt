@@ -59,7 +59,8 @@ impl<'a, R: Wait> Keeper<'a, Zero, R> {
 
     /// Looks whether the send that gives back the message may go on, and continues it if so.
     ///
-    /// The contract says what becomes of the message if `wait` is that of the send that gives it back.
+    /// The contract says what becomes of the message if `wait` is that of the send that gives it
+    /// back.
     pub fn give_back_on(&mut self, wait: SendWait, tools: &mut Tools) -> Return
         ensures goes { GoesBackOn (holder_of self.old) wait result (holder_of self.new) }
         ensures handles { KeepsHandles self.old.handler self.new.handler }
