@@ -1,6 +1,6 @@
 -- One worker more has a place for each of the last books, as many as its kit has room for. At the end
 -- the workers are in the order of the kits.
-use Rattle.std.proofs.Common.{◌≡◌, ◌∙◌, ◌≤◌, ℕ, List, [], ◌++◌, map, reverse, ap, append-nil, append_assoc, arith}
+use Rattle.std.proofs.Common.{◌≡◌, ◌∙◌, ◌≤◌, ◌+◌, ℕ, List, [], ◌++◌, map, reverse, ap, append-nil, append_assoc, arith}
 use Rattle.std.proofs.Common.{length, refl, subst, sym, vec_capacity, vec_len}
 use Rattle.std.proofs.lemmas.List.{map-append}
 use Rattle.std.proofs.lemmas.List.Elements.{All-append, All-nil, All-push}
@@ -23,6 +23,11 @@ none_left : {K B : Type 0} (room : K → ℕ) (kits : List K) (books : List B) �
 none_left room kits books none same =
     let empty = ap (sum_by room) (emptied kits none) in
     emptied books (omega arith)
+
+-- The books that are left are enough for the kits that are left.
+still_enough : (all rest room books less own old_len new_len own_len : ℕ) → all ≡ rest + room → all ≡ old_len →
+    old_len ≡ books → books ≡ less + own → new_len ≡ less → own_len ≡ own → own_len ≡ room → rest ≡ new_len
+still_enough all rest room books less own old_len new_len own_len split before old fewer new mine full = omega arith
 
 pub loop-kit-init : goal.loop-kit-init
 loop-kit-init g c =
@@ -87,10 +92,9 @@ loop-kit-preserved g c =
           let before = was.count in
           omega arith;
       room = let same = c.push_reserved.ensures.capacity in let before = was.room in omega arith;
-      enough = let all = fewer book c.loop-kit.books.items c.hire.new.books.items own c.hire.ensures.books in
-          let before = was.enough in let old = c.loop-kit.books.ok in let new = c.hire.new.books.ok in
-          let mine = c.hire.new.places.ok in
-          omega arith;
+      enough = still_enough _ _ _ _ _ _ _ _ _ room was.enough c.loop-kit.books.ok.0
+          (fewer book c.loop-kit.books.items c.hire.new.books.items own c.hire.ensures.books)
+          c.hire.new.books.ok.0 c.hire.new.places.ok.0 full;
       kits = but_last P c.pop.new.self.items c.loop-kit.kits.items c.in-Some.kit is was.kits;
       each = subst (All Q) (sym c.push_reserved.ensures.items)
           (All-push Q c.loop-kit.workers.items c.new.result was.each some);
