@@ -167,7 +167,8 @@ impl<'a, R: Wait, T: NonBlocking> Place<'a, R, T> {
     {
         self.times = Times::new();
         self.awaits_room = false;
-        self.seat(Client::open(alloc, connection, self.newest));
+        let client = Client::open(alloc, connection, self.newest);
+        self.seat(client);
     }
 
     /// Gives a vacant place to a client.
