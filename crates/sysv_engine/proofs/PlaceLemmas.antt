@@ -380,8 +380,8 @@ module _ {T B : Type 0} (incoming outgoing : T → Option (List ℕ)) (closes : 
       ((standing : Standing (View B) T) →
       IsPlace incoming outgoing closes (SitsOn incoming outgoing closes) standing (view_of old) None old.message
       waits →
-      IsPlace incoming outgoing closes (SitsOn incoming outgoing closes) standing (view_of (come_so_far result mid)) None
-      mid.message (wait_in result)) →
+      IsPlace incoming outgoing closes (SitsOn incoming outgoing closes) standing (view_of (come_so_far result mid))
+      None mid.message (wait_in result)) →
       KeepsPlace incoming outgoing closes old new
   returns old mid new result waits none returning same still is so_far = λ gates standing stands.
       let Is = IsPlace incoming outgoing closes (SitsOn incoming outgoing closes) standing in

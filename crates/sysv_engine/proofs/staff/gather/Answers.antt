@@ -1,6 +1,6 @@
 -- The places of one worker more were taken back. At the end no worker is left.
-use Rattle.std.proofs.Common.{◌≡◌, ◌∙◌, ◌≤◌, ◌+◌, ℕ, List, [], ◌++◌, ap, append-nil, arith, length, length-append, reverse, subst}
-use Rattle.std.proofs.Common.{sym, vec_len}
+use Rattle.std.proofs.Common.{◌≡◌, ◌∙◌, ◌≤◌, ◌+◌, ℕ, List, [], ◌++◌, ap, append-nil, arith, length, length-append}
+use Rattle.std.proofs.Common.{reverse, subst, sym, vec_len}
 use Rattle.std.proofs.lemmas.List.{length-reverse}
 use Rattle.std.proofs.lemmas.List.Sums.{sum_by_push}
 use Rattle.std.specs.List.{flat_map, sum_by}
