@@ -48,7 +48,7 @@ returns-in-Ok-outcome-clause-ok g c =
       refused = worked.counts;
       lost = lost_at_an_end shifts c.in-Ok-outcome.sums worked.adds;
       versions = subst (λ (h : Bool). AllByRecursion (λ (shift : Shift). shift.newest ≡ newest_of h) shifts)
-          (sym c.setting.ensures.3) worked.versions;
+          (sym c.setting-setting.ensures.3) worked.versions;
       held = worked.held;
       lived = lived laws.run laws.whole laws.none_held laws.empty c.args.blocks c.in-Ok.service c.stop-removed.result
           stopped

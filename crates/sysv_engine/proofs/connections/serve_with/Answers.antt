@@ -36,7 +36,7 @@ run_workers-outcome-requires-after_bounds g c κs within =
     let t = g.T.NonBlocking in
     let own = c.args.service.now in
     let workers = c.staff.new.workers.items in
-    staffed t.incoming t.outgoing t.closes own c.newest.result (λ (w : W). w.places.items) workers
+    staffed t.incoming t.outgoing t.closes own c.newest-newest.result (λ (w : W). w.places.items) workers
     c.staff.ensures.places (some_each (λ (w : W). w.places) workers c.staff.ensures.each)
 
 -- ---- the number of places
@@ -46,7 +46,7 @@ gather-requires-clause-room g c =
     let W : Type 0 = Worker g.row.R.Denot g.row.T.Denot g.row.W.Denot g.row.T-Book.Denot in
     let D : Type 0 = Dealing g.row.S.Denot in
     let t = g.T.NonBlocking in
-    let many = ran_as_many t.incoming t.outgoing t.closes c.args.service.now c.newest.result (λ (w : W). w.places.items)
+    let many = ran_as_many t.incoming t.outgoing t.closes c.args.service.now c.newest-newest.result (λ (w : W). w.places.items)
     (Behind (λ (d : D). d.source.now) (λ (d : D). d.source.ghost_name) g.S.Source.gives) c.new-dealing.result
     c.run_workers-outcome.new.source c.staff.new.workers.items c.in-Ok-outcome.workers.items c.staff.ensures.places
     (some_each (λ (w : W). w.places) c.staff.new.workers.items c.staff.ensures.each) c.in-Ok-outcome.ensures.ok in
@@ -61,7 +61,7 @@ pub dismiss-requires-clause-places : goal.dismiss-requires-clause-places
 dismiss-requires-clause-places g c =
     let W : Type 0 = Worker g.row.R.Denot g.row.T.Denot g.row.W.Denot g.row.T-Book.Denot in
     let t = g.T.NonBlocking in
-    gates_again t.incoming t.outgoing t.closes c.args.service.now c.newest.result (λ (w : W). w.places.items)
+    gates_again t.incoming t.outgoing t.closes c.args.service.now c.newest-newest.result (λ (w : W). w.places.items)
     c.in-Ok-outcome.workers.items c.gather.new.places.items c.in-Ok-outcome.ensures.fits c.gather.ensures.keeps
 
 pub dismiss-requires-clause-room : goal.dismiss-requires-clause-room
@@ -69,7 +69,7 @@ dismiss-requires-clause-room g c =
     let W : Type 0 = Worker g.row.R.Denot g.row.T.Denot g.row.W.Denot g.row.T-Book.Denot in
     let D : Type 0 = Dealing g.row.S.Denot in
     let t = g.T.NonBlocking in
-    let many = ran_as_many t.incoming t.outgoing t.closes c.args.service.now c.newest.result (λ (w : W). w.places.items)
+    let many = ran_as_many t.incoming t.outgoing t.closes c.args.service.now c.newest-newest.result (λ (w : W). w.places.items)
     (Behind (λ (d : D). d.source.now) (λ (d : D). d.source.ghost_name) g.S.Source.gives) c.new-dealing.result
     c.run_workers-outcome.new.source c.staff.new.workers.items c.in-Ok-outcome.workers.items c.staff.ensures.places
     (some_each (λ (w : W). w.places) c.staff.new.workers.items c.staff.ensures.each) c.in-Ok-outcome.ensures.ok in
@@ -89,7 +89,7 @@ gather-requires-in-Err-clause-room g c =
     let W : Type 0 = Worker g.row.R.Denot g.row.T.Denot g.row.W.Denot g.row.T-Book.Denot in
     let D : Type 0 = Dealing g.row.S.Denot in
     let t = g.T.NonBlocking in
-    let many = back_as_many t.incoming t.outgoing t.closes c.args.service.now c.newest.result
+    let many = back_as_many t.incoming t.outgoing t.closes c.args.service.now c.newest-newest.result
     (λ (w : W). w.places.items)
     (Behind (λ (d : D). d.source.now) (λ (d : D). d.source.ghost_name) g.S.Source.gives) c.new-dealing.result
     c.run_workers-outcome.new.source c.staff.new.workers.items c.in-Err.refused.states.items c.staff.ensures.places
@@ -106,7 +106,7 @@ pub dismiss-requires-in-Err-clause-places : goal.dismiss-requires-in-Err-clause-
 dismiss-requires-in-Err-clause-places g c =
     let W : Type 0 = Worker g.row.R.Denot g.row.T.Denot g.row.W.Denot g.row.T-Book.Denot in
     let t = g.T.NonBlocking in
-    gates_again t.incoming t.outgoing t.closes c.args.service.now c.newest.result (λ (w : W). w.places.items)
+    gates_again t.incoming t.outgoing t.closes c.args.service.now c.newest-newest.result (λ (w : W). w.places.items)
     c.in-Err.refused.states.items c.gather-in-Err.new.places.items c.in-Err.ensures.err.1
     c.gather-in-Err.ensures.keeps
 
@@ -115,7 +115,7 @@ dismiss-requires-in-Err-clause-room g c =
     let W : Type 0 = Worker g.row.R.Denot g.row.T.Denot g.row.W.Denot g.row.T-Book.Denot in
     let D : Type 0 = Dealing g.row.S.Denot in
     let t = g.T.NonBlocking in
-    let many = back_as_many t.incoming t.outgoing t.closes c.args.service.now c.newest.result
+    let many = back_as_many t.incoming t.outgoing t.closes c.args.service.now c.newest-newest.result
     (λ (w : W). w.places.items)
     (Behind (λ (d : D). d.source.now) (λ (d : D). d.source.ghost_name) g.S.Source.gives) c.new-dealing.result
     c.run_workers-outcome.new.source c.staff.new.workers.items c.in-Err.refused.states.items c.staff.ensures.places
@@ -143,7 +143,7 @@ source_is g c =
     let t = g.T.NonBlocking in
     let places : W → List S = λ w. w.places.items in
     let same = runs_name (λ (d : D). d.source.now) (λ (d : D). d.source.ghost_name) g.S.Source.gives
-    (Runs t.incoming t.outgoing t.closes c.args.service.now c.newest.result places) c.staff.new.workers.items
+    (Runs t.incoming t.outgoing t.closes c.args.service.now c.newest-newest.result places) c.staff.new.workers.items
     c.in-Ok-outcome.workers.items c.new-dealing.result c.run_workers-outcome.new.source
     c.in-Ok-outcome.ensures.ok in
     let name_is = c.into_source.ensures.same_reference ∙ (same ∙ c.new-dealing.ensures.same_reference) in
@@ -165,9 +165,9 @@ returns-in-Ok-outcome-clause-ok g c =
     let new : D = c.run_workers-outcome.new.source in
     let workers = c.staff.new.workers.items in
     let workers' = c.in-Ok-outcome.workers.items in
-    let runs = Runs t.incoming t.outgoing t.closes own c.newest.result places in
+    let runs = Runs t.incoming t.outgoing t.closes own c.newest-newest.result places in
     let ran = runs_behind of name g.S.Source.gives runs workers workers' old new c.in-Ok-outcome.ensures.ok in
-    let worked = all_worked t.incoming t.outgoing t.closes own c.newest.result places c.each_return_can_be_left.ensures
+    let worked = all_worked t.incoming t.outgoing t.closes own c.newest-newest.result places c.each_return_can_be_left.ensures
     g.S.Source.gives (of old) (of new) workers workers' c.gather.new.places.items c.staff.ensures.places
     (some_each (λ (w : W). w.places) workers c.staff.ensures.each) c.gather.ensures.keeps c.gather.ensures.ended
     c.args.books.now.items c.dismiss.new.books.items c.args.pass.now c.staff.new.pass c.dismiss.new.pass
@@ -179,9 +179,9 @@ returns-in-Ok-outcome-clause-ok g c =
     WorkedFrom t.incoming t.outgoing t.closes g.S.Source.gives false v own c.args.pass.now before
     c.args.books.now.items c.dismiss.result.0 c.dismiss.result.1 c.dismiss.result.2 c.dismiss.new.pass after
     c.dismiss.new.books.items in
-    subst (λ v. Worked v c.args.source.now c.source-1.given.0) c.newest.ensures
-    (subst (λ s. Worked c.newest.result c.args.source.now s) (source_is g c)
-    (subst (λ s. Worked c.newest.result s (of new)) c.new-dealing.ensures.source worked))
+    subst (λ v. Worked v c.args.source.now c.source-1.given.0) c.newest-newest.ensures
+    (subst (λ s. Worked c.newest-newest.result c.args.source.now s) (source_is g c)
+    (subst (λ s. Worked c.newest-newest.result s (of new)) c.new-dealing.ensures.source worked))
 
 pub fault-requires : goal.fault-requires
 fault-requires g c bad =
@@ -212,7 +212,7 @@ returns-in-Err-clause-err g c =
     let most = c.requires.count in omega arith) in
     let leaves = leaves_behind of name g.S.Source.gives count why old new c.in-Err.ensures.asked in
     let same = leaves_name of name g.S.Source.gives count why old new c.in-Err.ensures.asked in
-    let left = all_left t.incoming t.outgoing t.closes own c.newest.result places c.each_return_can_be_left.ensures
+    let left = all_left t.incoming t.outgoing t.closes own c.newest-newest.result places c.each_return_can_be_left.ensures
     g.S.Source.gives (of old) (of new) workers c.in-Err.refused.states.items c.gather-in-Err.new.places.items
     c.staff.ensures.places
     (some_each (λ (w : W). w.places) workers c.staff.ensures.each) c.gather-in-Err.ensures.keeps

@@ -11,4 +11,4 @@ returns-in-Some-clause-vacant g c =
     subst (λ (l : List S). IsVacantAt place l) c.deref.ensures.value
     (vacant_there c.deref.result.now place c.in-Some.there.now (ltb-true _ _ (sym c.in-Some.ensures.lookup.0))
     c.in-Some.ensures.lookup.1
-    (of_not (is_vacant c.in-Some.there.now) (ap not (sym c.is_taken.ensures) ∙ c.if-not-is_taken.true)))
+    (of_not (is_vacant c.in-Some.there.now) (ap not (sym c.is_taken.ensures ∙ c.if-not-is_taken.true))))
