@@ -26,7 +26,7 @@ pub run_workers-outcome-requires-sync-J : goal.run_workers-outcome-requires-sync
 run_workers-outcome-requires-sync-J g c κs within =
     let t = serving_sync (record { mir = lifetime 8; lft = κs.1.1.1.1.1.1.1.1.0 })
     (record { mir = lifetime 11; lft = κs.1.1.1.1.1.1.1.1.1.1.1.0 }) _ c.type_bounds.sync-R in
-    param_sync 3 (lts.arg-12-3 g.row.T g.row.S g.row.W g.row.R g.row.T-Book g.T.laws g.S.laws g.W.laws g.R.laws
+    param_sync 3 (lts.arg-13-3 g.row.T g.row.S g.row.W g.row.R g.row.T-Book g.T.laws g.S.laws g.W.laws g.R.laws
     g.T.Book.laws g.T.NonBlocking g.T.NonBlocking-dict g.S.Source g.S.Source-dict g.W.Watch g.W.Watch-dict g.R.Threads
     g.R.Threads-dict g.R.Wait g.R.Wait-dict g.T.Destruct-dict g.W.Destruct-dict κs) (record { shared = t.shared })
 
@@ -227,7 +227,7 @@ returns-in-Err-clause-err g c =
     subst (λ s. LeavesConnections t.incoming t.outgoing t.closes g.S.Source.gives
     (HiredFrom false own c.args.pass.now c.dismiss-in-Err.new.pass) c.args.source.now c.args.books.now.items
     c.fault.result s
-    c.dismiss-in-Err.new.books.items) (grind arith)
+    c.dismiss-in-Err.new.books.items) (sym (c.source-1.given.1 (sym name_is) ∙ back))
     (subst (λ s. LeavesConnections t.incoming t.outgoing t.closes g.S.Source.gives
     (HiredFrom false own c.args.pass.now c.dismiss-in-Err.new.pass) s c.args.books.now.items c.fault.result (of new)
     c.dismiss-in-Err.new.books.items) c.new-dealing.ensures.source left)
