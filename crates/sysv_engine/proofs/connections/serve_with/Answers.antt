@@ -46,7 +46,8 @@ gather-requires-clause-room g c =
     let W : Type 0 = Worker g.row.R.Denot g.row.T.Denot g.row.W.Denot g.row.T-Book.Denot in
     let D : Type 0 = Dealing g.row.S.Denot in
     let t = g.T.NonBlocking in
-    let many = ran_as_many t.incoming t.outgoing t.closes c.args.service.now c.newest-newest.result (λ (w : W). w.places.items)
+    let many = ran_as_many t.incoming t.outgoing t.closes c.args.service.now c.newest-newest.result
+    (λ (w : W). w.places.items)
     (Behind (λ (d : D). d.source.now) (λ (d : D). d.source.ghost_name) g.S.Source.gives) c.new-dealing.result
     c.run_workers-outcome.new.source c.staff.new.workers.items c.in-Ok-outcome.workers.items c.staff.ensures.places
     (some_each (λ (w : W). w.places) c.staff.new.workers.items c.staff.ensures.each) c.in-Ok-outcome.ensures.ok in
@@ -69,7 +70,8 @@ dismiss-requires-clause-room g c =
     let W : Type 0 = Worker g.row.R.Denot g.row.T.Denot g.row.W.Denot g.row.T-Book.Denot in
     let D : Type 0 = Dealing g.row.S.Denot in
     let t = g.T.NonBlocking in
-    let many = ran_as_many t.incoming t.outgoing t.closes c.args.service.now c.newest-newest.result (λ (w : W). w.places.items)
+    let many = ran_as_many t.incoming t.outgoing t.closes c.args.service.now c.newest-newest.result
+    (λ (w : W). w.places.items)
     (Behind (λ (d : D). d.source.now) (λ (d : D). d.source.ghost_name) g.S.Source.gives) c.new-dealing.result
     c.run_workers-outcome.new.source c.staff.new.workers.items c.in-Ok-outcome.workers.items c.staff.ensures.places
     (some_each (λ (w : W). w.places) c.staff.new.workers.items c.staff.ensures.each) c.in-Ok-outcome.ensures.ok in
@@ -167,8 +169,8 @@ returns-in-Ok-outcome-clause-ok g c =
     let workers' = c.in-Ok-outcome.workers.items in
     let runs = Runs t.incoming t.outgoing t.closes own c.newest-newest.result places in
     let ran = runs_behind of name g.S.Source.gives runs workers workers' old new c.in-Ok-outcome.ensures.ok in
-    let worked = all_worked t.incoming t.outgoing t.closes own c.newest-newest.result places c.each_return_can_be_left.ensures
-    g.S.Source.gives (of old) (of new) workers workers' c.gather.new.places.items c.staff.ensures.places
+    let worked = all_worked t.incoming t.outgoing t.closes own c.newest-newest.result places
+    c.each_return_can_be_left.ensures g.S.Source.gives (of old) (of new) workers workers' c.gather.new.places.items c.staff.ensures.places
     (some_each (λ (w : W). w.places) workers c.staff.ensures.each) c.gather.ensures.keeps c.gather.ensures.ended
     c.args.books.now.items c.dismiss.new.books.items c.args.pass.now c.staff.new.pass c.dismiss.new.pass
     c.staff.ensures.books
@@ -212,8 +214,8 @@ returns-in-Err-clause-err g c =
     let most = c.requires.count in omega arith) in
     let leaves = leaves_behind of name g.S.Source.gives count why old new c.in-Err.ensures.asked in
     let same = leaves_name of name g.S.Source.gives count why old new c.in-Err.ensures.asked in
-    let left = all_left t.incoming t.outgoing t.closes own c.newest-newest.result places c.each_return_can_be_left.ensures
-    g.S.Source.gives (of old) (of new) workers c.in-Err.refused.states.items c.gather-in-Err.new.places.items
+    let left = all_left t.incoming t.outgoing t.closes own c.newest-newest.result places
+    c.each_return_can_be_left.ensures g.S.Source.gives (of old) (of new) workers c.in-Err.refused.states.items c.gather-in-Err.new.places.items
     c.staff.ensures.places
     (some_each (λ (w : W). w.places) workers c.staff.ensures.each) c.gather-in-Err.ensures.keeps
     c.gather-in-Err.ensures.ended c.args.books.now.items c.dismiss-in-Err.new.books.items c.args.pass.now
