@@ -170,7 +170,8 @@ returns-in-Ok-outcome-clause-ok g c =
     let runs = Runs t.incoming t.outgoing t.closes own c.newest-newest.result places in
     let ran = runs_behind of name g.S.Source.gives runs workers workers' old new c.in-Ok-outcome.ensures.ok in
     let worked = all_worked t.incoming t.outgoing t.closes own c.newest-newest.result places
-    c.each_return_can_be_left.ensures g.S.Source.gives (of old) (of new) workers workers' c.gather.new.places.items c.staff.ensures.places
+    c.each_return_can_be_left.ensures g.S.Source.gives (of old) (of new) workers workers'
+    c.gather.new.places.items c.staff.ensures.places
     (some_each (λ (w : W). w.places) workers c.staff.ensures.each) c.gather.ensures.keeps c.gather.ensures.ended
     c.args.books.now.items c.dismiss.new.books.items c.args.pass.now c.staff.new.pass c.dismiss.new.pass
     c.staff.ensures.books
@@ -215,7 +216,8 @@ returns-in-Err-clause-err g c =
     let leaves = leaves_behind of name g.S.Source.gives count why old new c.in-Err.ensures.asked in
     let same = leaves_name of name g.S.Source.gives count why old new c.in-Err.ensures.asked in
     let left = all_left t.incoming t.outgoing t.closes own c.newest-newest.result places
-    c.each_return_can_be_left.ensures g.S.Source.gives (of old) (of new) workers c.in-Err.refused.states.items c.gather-in-Err.new.places.items
+    c.each_return_can_be_left.ensures g.S.Source.gives (of old) (of new) workers
+    c.in-Err.refused.states.items c.gather-in-Err.new.places.items
     c.staff.ensures.places
     (some_each (λ (w : W). w.places) workers c.staff.ensures.each) c.gather-in-Err.ensures.keeps
     c.gather-in-Err.ensures.ended c.args.books.now.items c.dismiss-in-Err.new.books.items c.args.pass.now
