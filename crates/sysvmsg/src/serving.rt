@@ -253,11 +253,10 @@ fn tell<S: Write>(screen: &mut S, ended: &Ended, has_input: bool) -> ExitCode
     ensures { SucceedsOnlyIf (Appends (S.contents screen.old) (S.contents screen.new)
         (sums_line has_input ended.now)) result }
 {
-    let holds = ended.setting.holds();
-    match (has_input, holds) {
+    match (has_input, ended.setting.holds()) {
         (false, false) => tell_sums(screen, &ended.sums),
         (true, false) => tell_cut(screen, &ended.sums, ended.cut),
-        (false, true) => tell_fates(screen, &ended.sums, &ended.fates),
+        (false, true) => tell_held(screen, &ended.sums, &ended.fates),
         (true, true) => tell_all(screen, &ended.sums, ended.cut, &ended.fates),
     }
 }
@@ -303,37 +302,34 @@ fn tell_cut<S: Write>(screen: &mut S, sums: &Sums, cut: u64) -> ExitCode
 }
 
 /// Prints the sums, and what became of the messages that sessions held.
-fn tell_fates<S: Write>(screen: &mut S, sums: &Sums, fates: &Fates) -> ExitCode
+#[tactic(auto, using(crate::proofs::Lines::held_line))]
+fn tell_held<S: Write>(screen: &mut S, sums: &Sums, fates: &Fates) -> ExitCode
     ensures { SucceedsOnlyIf (Appends (S.contents screen.old) (S.contents screen.new)
         (line_of sums.now (fates_of fates.now))) result }
 {
-    let Sums {
-        sessions,
-        taken,
-        written,
-        lost,
-    } = *sums;
-    let Fates {
-        sent,
-        discarded,
-        refused,
-        unsent,
-    } = *fates;
-    match writeln!(
-        screen,
-        "sessions {sessions} taken {taken} written {written} lost {lost} back {sent} discarded \
-         {discarded} refused {refused} unsent {unsent}"
-    ) {
-        Ok(()) => ExitCode::SUCCESS,
+    match begin_sums(screen, sums) {
+        Ok(()) => tell_fates(screen, fates),
         Err(_) => ExitCode::from(FAULT),
     }
 }
 
 /// Prints the sums, the number of calls that the end cut off, and what became of the messages that
 /// sessions held.
+#[tactic(auto, using(crate::proofs::Lines::whole_line))]
 fn tell_all<S: Write>(screen: &mut S, sums: &Sums, cut: u64, fates: &Fates) -> ExitCode
     ensures { SucceedsOnlyIf (Appends (S.contents screen.old) (S.contents screen.new)
         (line_of sums.now (codes " cut " ++ decimal cut ++ fates_of fates.now))) result }
+{
+    match begin_cut(screen, sums, cut) {
+        Ok(()) => tell_fates(screen, fates),
+        Err(_) => ExitCode::from(FAULT),
+    }
+}
+
+/// Prints the sums, and does not end the line.
+fn begin_sums<S: Write>(screen: &mut S, sums: &Sums) -> io::Result<()>
+    ensures { IfOk result (λ _. Appends (S.contents screen.old) (S.contents screen.new)
+        (line_of sums.now [])) }
 {
     let Sums {
         sessions,
@@ -341,6 +337,34 @@ fn tell_all<S: Write>(screen: &mut S, sums: &Sums, cut: u64, fates: &Fates) -> E
         written,
         lost,
     } = *sums;
+    write!(
+        screen,
+        "sessions {sessions} taken {taken} written {written} lost {lost}"
+    )
+}
+
+/// Prints the sums and the number of calls that the end cut off, and does not end the line.
+fn begin_cut<S: Write>(screen: &mut S, sums: &Sums, cut: u64) -> io::Result<()>
+    ensures { IfOk result (λ _. Appends (S.contents screen.old) (S.contents screen.new)
+        (line_of sums.now (codes " cut " ++ decimal cut))) }
+{
+    let Sums {
+        sessions,
+        taken,
+        written,
+        lost,
+    } = *sums;
+    write!(
+        screen,
+        "sessions {sessions} taken {taken} written {written} lost {lost} cut {cut}"
+    )
+}
+
+/// Prints what became of the messages that sessions held, and ends the line.
+fn tell_fates<S: Write>(screen: &mut S, fates: &Fates) -> ExitCode
+    ensures { SucceedsOnlyIf (Appends (S.contents screen.old) (S.contents screen.new)
+        (fates_of fates.now)) result }
+{
     let Fates {
         sent,
         discarded,
@@ -349,8 +373,7 @@ fn tell_all<S: Write>(screen: &mut S, sums: &Sums, cut: u64, fates: &Fates) -> E
     } = *fates;
     match writeln!(
         screen,
-        "sessions {sessions} taken {taken} written {written} lost {lost} cut {cut} back {sent} \
-         discarded {discarded} refused {refused} unsent {unsent}"
+        " back {sent} discarded {discarded} refused {refused} unsent {unsent}"
     ) {
         Ok(()) => ExitCode::SUCCESS,
         Err(_) => ExitCode::from(FAULT),
