@@ -26,6 +26,7 @@ static const struct option options[] = {
     {"--idle", "SECONDS", "a whole number of seconds", 10, 0, UINT32_MAX},
     {"--stall", "SECONDS", "a whole number of seconds", 10, 0, UINT32_MAX},
     {"--drain", "SECONDS", "a whole number of seconds", 10, 0, UINT32_MAX},
+    {"--hold", NULL, NULL, 0, 0, 0},
     {"--stats", "PATH2", NULL, 0, 0, 0},
 };
 

@@ -276,7 +276,7 @@ static char **server_words(const struct request *request)
     size_t count = 0;
     while (request->options[count])
         count++;
-    char **words = calloc(count + 9, sizeof *words);
+    char **words = calloc(count + 10, sizeof *words);
     if (!words)
         fail(NOT_STARTED, "calloc");
     char **next = words;
@@ -292,6 +292,8 @@ static char **server_words(const struct request *request)
         *next++ = "--blocks";
         *next++ = "65536";
     }
+    if (!has_option(request->options, "--hold"))
+        *next++ = "--hold";
     memcpy(next, request->options, count * sizeof *words);
     return words;
 }

@@ -43,6 +43,7 @@ struct connection {
     atomic_bool taken;
     bool is_opened;     /* by connection_open */
     atomic_bool in_use; /* of one that was opened: a call uses it */
+    atomic_bool holds;  /* its session has a message that is not done */
     const struct peer *peer;
     int fd; /* -1: it is not open */
     struct file file;
@@ -164,6 +165,7 @@ static void end_session(struct connection *connection)
         release_descriptors(&hold);
     }
     connection->fd = -1;
+    connection->holds = false;
 }
 
 /* Closes a child's copy of its parent's connection, whose session goes on. */
@@ -172,6 +174,7 @@ static void close_copy(struct connection *connection)
     if (is_open(connection))
         close(connection->fd);
     connection->fd = -1;
+    connection->holds = false;
 }
 
 static void end_thread(void *connection)
@@ -527,6 +530,7 @@ static int unanswered(
 /* Sends a request and reads its reply. */
 static int exchange(struct connection *connection, struct frame *frame, struct call *call)
 {
+    frame_state_version(frame, connection->peer->can_hold ? VERSION_THREE : VERSION_TWO);
     size_t sent = write_request(connection->fd, frame);
     if (sent < frame->length)
         return unsent(connection, call, sent);
@@ -697,6 +701,7 @@ static struct connection *take_place(const struct peer *peer)
         each->fd = -1;
         each->peer = peer;
         each->is_opened = false;
+        each->holds = false;
         each->why = NULL;
         each->was_sent = false;
         return each;
@@ -730,14 +735,22 @@ static struct connection *borrow(struct connection *single, const struct call *c
     return single;
 }
 
-/* The same of a connection that was opened. A single one also serves a thread if another one uses
- * the connection. */
-static struct connection *borrow_opened(
-    struct connection *opened, struct connection *single, const struct call *call)
+/* Whether a call is about the message that its session holds. */
+static bool is_of_held(const struct frame *frame)
 {
-    if (call->process == process && !atomic_exchange(&opened->in_use, true))
+    return frame->operation == HOLD || frame->operation == DONE;
+}
+
+/* The same of a connection that was opened. A single one also serves a thread if another one uses
+ * the connection, and a call that may wait while a message is held. Returns NULL if the call needs
+ * the session of the connection. */
+static struct connection *borrow_opened(struct connection *opened, struct connection *single,
+    const struct call *call, const struct frame *frame)
+{
+    bool is_apart = opened->holds && call->may_wait && !is_of_held(frame);
+    if (!is_apart && call->process == process && !atomic_exchange(&opened->in_use, true))
         return opened;
-    return single;
+    return is_of_held(frame) ? NULL : single;
 }
 
 static void give_back(struct connection *connection, struct connection *single)
@@ -759,6 +772,27 @@ static int make_call(struct connection *connection, struct frame *frame, struct 
     if (call->ended_by != 0)
         end_session(connection);
     frame->slots = connection->slots;
+    if (error == 0 && is_of_held(frame))
+        connection->holds = frame->operation == HOLD;
+    return error;
+}
+
+/* Makes a call over the connection, or over a single one that ends after it. */
+static int call_over(struct connection *opened, struct frame *frame, struct call *call)
+{
+    struct connection single = {.fd = -1, .peer = opened ? opened->peer : &server};
+    struct connection *connection =
+        opened ? borrow_opened(opened, &single, call, frame) : borrow(&single, call);
+    if (!connection)
+        return EBUSY;
+    int error = make_call(connection, frame, call);
+    if (error == EIO && !opened)
+        say_once(connection->why);
+    if (error == EIO && opened && connection == &single) {
+        opened->why = single.why;
+        opened->was_sent = single.was_sent;
+    }
+    give_back(connection, &single);
     return error;
 }
 
@@ -772,33 +806,44 @@ int ask(struct connection *opened, struct frame *frame, bool may_wait, int milli
 {
     int cancel_state, errno_before = errno;
     const struct peer *peer = opened ? opened->peer : &server;
-    struct connection single = {.fd = -1, .peer = peer};
+    if (is_of_held(frame) && !peer->can_hold)
+        return EPROTONOSUPPORT;
     pthread_setcancelstate(PTHREAD_CANCEL_DISABLE, &cancel_state);
     struct call call = {.process = getpid(),
         .may_wait = may_wait,
         .ends_by_signals = peer->ends_by_signals,
         .cancel_state = may_wait ? cancel_state : PTHREAD_CANCEL_DISABLE,
         .deadline = may_wait ? deadline_in(milliseconds_at_most) : 0};
-    struct connection *connection =
-        opened ? borrow_opened(opened, &single, &call) : borrow(&single, &call);
-    int error = make_call(connection, frame, &call);
-    if (error == EIO && !opened)
-        say_once(connection->why);
-    if (error == EIO && opened && connection == &single) {
-        opened->why = single.why;
-        opened->was_sent = single.was_sent;
-    }
-    give_back(connection, &single);
+    int error = call_over(opened, frame, &call);
     pthread_setcancelstate(cancel_state, NULL);
     errno = errno_before;
     return error;
 }
 
-/* Begins a session within a time. Returns 0 or an errno, that of the connect if it failed. */
+/* Whether the server begins a session of version 2. */
+static bool reads_version_two(const struct connection *connection, struct call *call)
+{
+    struct peer peer = *connection->peer;
+    struct connection single = {.fd = -1, .peer = &peer};
+    peer.can_hold = false;
+    int error = make_ready(&single, call);
+    end_session(&single);
+    return error == 0;
+}
+
+/* Begins a session within a time. Returns 0 or an errno, that of the connect if it failed. A server
+ * that does not read version 3 closes the connection, as one does that ends. */
 static int begin_opened(struct connection *connection, struct call *call)
 {
     int error = make_ready(connection, call);
-    return error == EIO && connection->unconnected != 0 ? connection->unconnected : error;
+    if (error != EIO)
+        return error;
+    if (connection->unconnected != 0)
+        return connection->unconnected;
+    if (!connection->peer->can_hold || !reads_version_two(connection, call))
+        return EIO;
+    connection->why = "the server lets clients hold no messages";
+    return EPROTONOSUPPORT;
 }
 
 /* The call that begins a session. It is no cancellation point. */
@@ -843,6 +888,20 @@ int connection_slots(const struct connection *connection) { return connection->s
 const char *connection_why(const struct connection *connection) { return connection->why; }
 
 bool connection_was_sent(const struct connection *connection) { return connection->was_sent; }
+
+bool connection_is_holding(const struct connection *connection) { return connection->holds; }
+
+int connection_back(struct connection *connection)
+{
+    int error = EBUSY;
+    if (!atomic_exchange(&connection->in_use, true)) {
+        error = connection->holds ? 0 : EINVAL;
+        if (error == 0)
+            end_session(connection);
+        atomic_store(&connection->in_use, false);
+    }
+    return error;
+}
 
 /* Whether no server listens, or one ended while the session began. Another one may start. */
 static bool has_no_server(const struct connection *connection, int error)

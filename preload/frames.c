@@ -4,8 +4,6 @@
 #include <limits.h>
 #include <stdbool.h>
 
-enum { VERSION = 2 };
-
 /* Where a field is among those of its reply. */
 enum { STAT_MODE = 20, ROW_ID = 1, ROW_MODE = 13 };
 
@@ -31,9 +29,15 @@ static uint64_t take(struct frame *frame, int bytes)
 
 void frame_begin(struct frame *frame, enum operation operation)
 {
-    *frame = (struct frame){.length = LENGTH_BYTES, .operation = operation};
-    put(frame, VERSION, 1);
+    *frame = (struct frame){.length = LENGTH_BYTES, .operation = operation, .version = VERSION_TWO};
+    put(frame, VERSION_TWO, 1);
     put(frame, operation, 1);
+}
+
+void frame_state_version(struct frame *frame, enum version version)
+{
+    frame->version = version;
+    frame->bytes[LENGTH_BYTES] = (unsigned char)version;
 }
 
 void frame_put_u32(struct frame *frame, uint32_t value) { put(frame, value, 4); }
@@ -54,22 +58,28 @@ void frame_end(struct frame *frame)
     frame->length = length;
 }
 
+/* Whether the reply to a request has a message. */
+static bool gets_message(const struct frame *frame)
+{
+    return frame->operation == RCV || frame->operation == HOLD;
+}
+
 /* Fills two pieces, of which the second one may be empty. */
-static void fill(
-    struct frame *frame, struct iovec pieces[2], size_t inside, enum operation with_message)
+static void fill(struct frame *frame, struct iovec pieces[2], size_t inside, bool has_message)
 {
     pieces[0] = (struct iovec){frame->bytes, inside};
-    pieces[1] = frame->operation == with_message ? frame->message : (struct iovec){frame->bytes, 0};
+    pieces[1] = has_message ? frame->message : (struct iovec){frame->bytes, 0};
 }
 
 void frame_request(struct frame *frame, struct iovec pieces[2])
 {
-    fill(frame, pieces, frame->length - outside(frame), SND);
+    fill(frame, pieces, frame->length - outside(frame), frame->operation == SND);
 }
 
 void frame_reply(struct frame *frame, struct iovec pieces[2])
 {
-    fill(frame, pieces, frame->operation == RCV ? REPLY_HEAD : sizeof frame->bytes, RCV);
+    bool has_message = gets_message(frame);
+    fill(frame, pieces, has_message ? REPLY_HEAD : sizeof frame->bytes, has_message);
 }
 
 size_t frame_length(const unsigned char *bytes)
@@ -120,6 +130,7 @@ static bool has_fields(const struct frame *frame)
     case HELLO: return count == 4 && number(fields, 4) <= SLOTS_MAX;
     case GET: return count == 4 && number(fields, 4) <= INT_MAX;
     case RCV:
+    case HOLD:
         return count >= TYPE_BYTES && count <= frame->message.iov_len && frame_type(frame) > 0;
     case STAT: return count == STAT_FIELDS && number(fields + STAT_MODE, 2) <= MODE_MAX;
     case ROW: return is_row(fields, count);
@@ -132,7 +143,7 @@ int frame_judge(struct frame *frame)
     if (frame->length < REPLY_HEAD || frame_length(frame->bytes) != frame->length)
         return -1;
     frame->read = LENGTH_BYTES;
-    if (take(frame, 1) != VERSION || take(frame, 1) != frame->operation)
+    if (take(frame, 1) != frame->version || take(frame, 1) != frame->operation)
         return -1;
     unsigned char error = frame_take_u8(frame);
     if (error != 0)

@@ -8,7 +8,10 @@
 #include <stdint.h>
 #include <sys/uio.h>
 
-enum operation { HELLO, GET, SND, RCV, STAT, SET, RM, ROW };
+/* Those from HOLD on are only in frames of version 3. */
+enum operation { HELLO, GET, SND, RCV, STAT, SET, RM, ROW, HOLD, DONE };
+
+enum version { VERSION_TWO = 2, VERSION_THREE = 3 };
 
 enum {
     TEXT_MAX = 8192,                 /* the longest message */
@@ -30,8 +33,9 @@ struct frame {
     size_t read;   /* the bytes of a reply that were taken from it */
     int slots;     /* of a reply: how many slots its server has */
     enum operation operation;
-    struct iovec message; /* in the caller's memory: the body of a send; the room of a receive for
-                             what follows REPLY_HEAD, which is the type and the body */
+    enum version version;
+    struct iovec message; /* in the caller's memory: the body of a send; the room of a receive or a
+                             hold for what follows REPLY_HEAD, which is the type and the body */
 };
 
 void frame_begin(struct frame *frame, enum operation operation);
@@ -39,6 +43,8 @@ void frame_put_u32(struct frame *frame, uint32_t value);
 void frame_put_u64(struct frame *frame, uint64_t value);
 /* Writes the length of a request, once all of it is there. */
 void frame_end(struct frame *frame);
+/* States the version of a request, which is that of its session. It is 2 unless this is called. */
+void frame_state_version(struct frame *frame, enum version version);
 
 /* The two pieces of memory that a request is in, and those that its reply goes to. */
 void frame_request(struct frame *frame, struct iovec pieces[2]);

@@ -32,24 +32,66 @@ int request_snd(struct connection *opened, int id, int64_t type, const void *bod
     return ask(opened, &frame, !(flags & NOWAIT), milliseconds_at_most);
 }
 
+/* A receive, and what a hold has of it. */
+struct receive {
+    int id;
+    void *message;
+    size_t size;
+    int64_t type;
+    int flags;
+};
+
+static void begin_receive(
+    struct frame *frame, enum operation operation, const struct receive *receive)
+{
+    frame_begin(frame, operation);
+    frame->message = (struct iovec){receive->message, TYPE_BYTES + receive->size};
+    frame_put_u32(frame, (uint32_t)receive->id);
+    frame_put_u32(frame, (uint32_t)receive->size);
+    frame_put_u64(frame, (uint64_t)receive->type);
+    frame_put_u32(frame, (uint32_t)receive->flags);
+}
+
+/* Asks for a message. */
+static int ask_message(struct connection *opened, struct frame *frame,
+    const struct receive *receive, int milliseconds_at_most, size_t *got)
+{
+    frame_end(frame);
+    int error = ask(opened, frame, !(receive->flags & NOWAIT), milliseconds_at_most);
+    if (error != 0)
+        return error;
+    int64_t found = frame_type(frame);
+    memcpy(receive->message, &found, sizeof found);
+    *got = frame->length - REPLY_HEAD - TYPE_BYTES;
+    return 0;
+}
+
 int request_rcv(struct connection *opened, int id, void *message, size_t size, int64_t type,
     int flags, int milliseconds_at_most, size_t *got)
 {
+    const struct receive receive = {id, message, size, type, flags};
     struct frame frame;
-    frame_begin(&frame, RCV);
-    frame.message = (struct iovec){message, TYPE_BYTES + size};
-    frame_put_u32(&frame, (uint32_t)id);
-    frame_put_u32(&frame, (uint32_t)size);
-    frame_put_u64(&frame, (uint64_t)type);
-    frame_put_u32(&frame, (uint32_t)flags);
+    begin_receive(&frame, RCV, &receive);
+    return ask_message(opened, &frame, &receive, milliseconds_at_most, got);
+}
+
+int request_hold(struct connection *opened, int id, void *message, size_t size, int64_t type,
+    int flags, int milliseconds_at_most, size_t *got)
+{
+    const struct receive receive = {id, message, size, type, flags};
+    struct frame frame;
+    begin_receive(&frame, HOLD, &receive);
+    /* (the message is held without a limit of time) */
+    frame_put_u32(&frame, 0);
+    return ask_message(opened, &frame, &receive, milliseconds_at_most, got);
+}
+
+int request_done(struct connection *opened)
+{
+    struct frame frame;
+    frame_begin(&frame, DONE);
     frame_end(&frame);
-    int error = ask(opened, &frame, !(flags & NOWAIT), milliseconds_at_most);
-    if (error != 0)
-        return error;
-    int64_t found = frame_type(&frame);
-    memcpy(message, &found, sizeof found);
-    *got = frame.length - REPLY_HEAD - TYPE_BYTES;
-    return 0;
+    return ask(opened, &frame, false, -1);
 }
 
 /* Asks for one thing of one queue or slot. */

@@ -38,6 +38,15 @@ int request_snd(struct connection *opened, int id, int64_t type, const void *bod
 int request_rcv(struct connection *opened, int id, void *message, size_t size, int64_t type,
     int flags, int milliseconds_at_most, size_t *got);
 
+/* The same, and the session holds the message until it says that it is done, or ends. It fails with
+ * EPROTONOSUPPORT if the connection cannot hold messages, and with EBUSY if another thread uses it.
+ */
+int request_hold(struct connection *opened, int id, void *message, size_t size, int64_t type,
+    int flags, int milliseconds_at_most, size_t *got);
+
+/* Fails with EINVAL if no message is held, and with EBUSY if another thread uses the connection. */
+int request_done(struct connection *opened);
+
 int request_stat(struct connection *opened, int id, struct queue_stat *stat);
 int request_set(struct connection *opened, int id, const struct queue_set *set);
 int request_rm(struct connection *opened, int id);

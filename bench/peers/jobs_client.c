@@ -1,6 +1,7 @@
 /* N senders and N receivers on one queue of a server, each a process with a connection of its own to a Unix socket.
  *   jobs_client WAY PATH PAIRS MILLISECONDS PID
- * WAY is sysvmsg (a send; a receive that waits), redis (LPUSH; BRPOP) or beanstalkd (put; reserve and delete). PAIRS is
+ * WAY is sysvmsg (a send; a receive that waits), hold (a send; a done of the last message and a hold that waits, at once),
+ * redis (LPUSH; BRPOP) or beanstalkd (put; reserve and delete). PAIRS is
  * N, 1 to 1000. PID is the process of the server. Its queue must be new or empty.
  *
  * The receivers wait before the first send. The senders send messages of 64 bytes for the given time, each as soon as
@@ -28,6 +29,8 @@
 #define BODY 64
 #define MOST 1000
 #define GRACE 15
+/* The number of bytes of a done. */
+#define DONE 6
 #define STOP UINT32_MAX
 #define BROKEN (UINT32_MAX - 1)
 
@@ -52,20 +55,23 @@ struct shared {
     struct receipt receipts[];
 };
 
-/* A connection: its request to send, with the place of the body, its request to receive, and the reply to the last. */
+/* A connection: its request to send, with the place of the body, its request to receive, and the reply to the last. If it
+ * holds a message, its request to receive begins with a done. */
 struct peer {
-    int fd;
+    int fd, holds;
     char send[160], take[64], reply[512];
     size_t body, send_count, take_count, count;
 };
 
-/* A kind of server. `sent` and `took` read a reply; `took` returns the place of the body in it. */
+/* A kind of server. `sent` and `took` read a reply; `took` returns the place of the body in it. `asks` writes a request to
+ * receive, if that is not always the same. */
 struct way {
     const char *name;
     void (*open)(struct peer *);
     void (*sent)(struct peer *);
     size_t (*took)(struct peer *);
     int deletes;
+    void (*asks)(struct peer *);
 };
 
 static const char *doing;
@@ -133,13 +139,15 @@ static void read_frame(struct peer *peer, size_t wanted) {
     read_to(peer, wanted);
 }
 
-static void sysvmsg_open(struct peer *peer) {
+static void sysvmsg_open_as(struct peer *peer, char version) {
     char frame[32];
     char *at = begin(frame, 0, 12);
+    frame[4] = version;
     at = number(number(number(at, 1000, 4), 1000, 4), (uint64_t)getpid(), 4);
     ask(peer, frame, (size_t)(at - frame));
-    read_frame(peer, 7);
+    read_frame(peer, version == 1 ? 7 : 11);
     at = number(number(begin(frame, 1, 8), 7, 4), 01000 + 0600, 4);
+    frame[4] = version;
     ask(peer, frame, (size_t)(at - frame));
     read_frame(peer, 11);
     const char *id = peer->reply + 7;
@@ -153,11 +161,38 @@ static void sysvmsg_open(struct peer *peer) {
     peer->take_count = (size_t)(at - peer->take);
 }
 
+static void sysvmsg_open(struct peer *peer) { sysvmsg_open_as(peer, 1); }
+
 static void sysvmsg_sent(struct peer *peer) { read_frame(peer, 7); }
 
 static size_t sysvmsg_took(struct peer *peer) {
     read_frame(peer, 15 + BODY);
     return 15;
+}
+
+/* Writes the request to receive: from the second one on it spends the message that is held. */
+static void hold_ask(struct peer *peer) {
+    size_t from = peer->holds ? 0 : DONE;
+    ask(peer, peer->take + from, peer->take_count - from);
+}
+
+static void hold_open(struct peer *peer) {
+    sysvmsg_open_as(peer, 3);
+    char id[4], *at;
+    memcpy(id, peer->send + 6, 4);
+    peer->send[4] = 3;
+    at = begin(peer->take, 9, 0);
+    at = number(number(number((char *)mempcpy(begin(at, 8, 24), id, 4), BODY, 4), 0, 8), 0, 8);
+    peer->take[4] = peer->take[DONE + 4] = 3;
+    peer->take_count = (size_t)(at - peer->take);
+}
+
+static size_t hold_took(struct peer *peer) {
+    size_t done = peer->holds ? 7 : 0;
+    read_frame(peer, done + 15 + BODY);
+    if (peer->reply[done + 6] != 0) fail("the server's reply to a hold is an error");
+    peer->holds = 1;
+    return done + 15;
 }
 
 /* Prepares requests that are text: what is before the body, and CR and LF behind it. */
@@ -196,9 +231,10 @@ static size_t beanstalkd_took(struct peer *peer) {
 }
 
 static const struct way WAYS[] = {
-    {"sysvmsg", sysvmsg_open, sysvmsg_sent, sysvmsg_took, 0},
-    {"redis", redis_open, redis_sent, redis_took, 0},
-    {"beanstalkd", beanstalkd_open, beanstalkd_sent, beanstalkd_took, 1},
+    {"sysvmsg", sysvmsg_open, sysvmsg_sent, sysvmsg_took, 0, NULL},
+    {"hold", hold_open, sysvmsg_sent, hold_took, 0, hold_ask},
+    {"redis", redis_open, redis_sent, redis_took, 0, NULL},
+    {"beanstalkd", beanstalkd_open, beanstalkd_sent, beanstalkd_took, 1, NULL},
 };
 
 static void open_peer(const struct way *way, struct peer *peer, const char *path) {
@@ -220,7 +256,10 @@ static void send_job(const struct way *way, struct peer *peer, const struct job 
 
 /* Receives a message, and returns the time of its receipt. */
 static int64_t receive_job(const struct way *way, struct peer *peer, struct job *job) {
-    ask(peer, peer->take, peer->take_count);
+    if (way->asks)
+        way->asks(peer);
+    else
+        ask(peer, peer->take, peer->take_count);
     memcpy(job, peer->reply + way->took(peer), BODY);
     int64_t at = now();
     if (way->deletes) {
@@ -262,6 +301,10 @@ static void receive_all(const struct way *way, struct peer *peer, uint32_t me) {
         if (count == most) fail("a receiver got more messages than it can note");
         receipts[count++] = (struct receipt){sender, job.number, at - job.sent};
         shared->last[me] = at;
+    }
+    if (peer->holds) {
+        ask(peer, peer->take, DONE);
+        read_frame(peer, 7);
     }
     shared->received[me] = count;
 }

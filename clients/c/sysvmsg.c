@@ -55,6 +55,15 @@ EXPORTED struct sysvmsg *sysvmsg_open(const char *path, int milliseconds)
     return opened(server, path, milliseconds);
 }
 
+EXPORTED struct sysvmsg *sysvmsg_open_holding(const char *path, int milliseconds)
+{
+    struct sysvmsg *server = calloc(1, sizeof *server);
+    if (!server)
+        return NULL;
+    server->peer = (struct peer){.ends_by_signals = true, .can_hold = true};
+    return opened(server, path, milliseconds);
+}
+
 EXPORTED struct sysvmsg *sysvmsg_open_as(
     const char *path, uid_t user, gid_t group, int milliseconds)
 {
@@ -131,6 +140,33 @@ EXPORTED ssize_t sysvmsg_rcv(struct sysvmsg *server, int queue, void *message, s
     int error = request_rcv(server->connection, queue, message, size < TEXT_MAX ? size : TEXT_MAX,
         type, flags, milliseconds, &got);
     return error ? outcome(error) : (ssize_t)got;
+}
+
+EXPORTED ssize_t sysvmsg_hold(struct sysvmsg *server, int queue, void *message, size_t size,
+    int64_t type, int flags, int milliseconds)
+{
+    size_t got;
+    if (!server || !is_readable(message))
+        return outcome(EFAULT);
+    /* (the server refuses SYSVMSG_NOERROR) */
+    flags = (flags & (SYSVMSG_NOERROR | SYSVMSG_EXCEPT)) | wait_flag(milliseconds);
+    int error = request_hold(server->connection, queue, message, size < TEXT_MAX ? size : TEXT_MAX,
+        type, flags, milliseconds, &got);
+    return error ? outcome(error) : (ssize_t)got;
+}
+
+EXPORTED int sysvmsg_done(struct sysvmsg *server)
+{
+    if (!server)
+        return outcome(EFAULT);
+    if (server->peer.can_hold && !connection_is_holding(server->connection))
+        return outcome(EINVAL);
+    return outcome(request_done(server->connection));
+}
+
+EXPORTED int sysvmsg_back(struct sysvmsg *server)
+{
+    return outcome(server ? connection_back(server->connection) : EFAULT);
 }
 
 EXPORTED int sysvmsg_stat(struct sysvmsg *server, int queue, struct sysvmsg_stat *stat)

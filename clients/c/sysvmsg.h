@@ -66,7 +66,11 @@ struct sysvmsg *sysvmsg_open(const char *path, int milliseconds);
 /* The same, as another user and group. The server does not check them. */
 struct sysvmsg *sysvmsg_open_as(const char *path, uid_t user, gid_t group, int milliseconds);
 
-/* Ends the session. No thread may be in a call. */
+/* As sysvmsg_open, for a connection that can hold messages. EPROTONOSUPPORT: the server lets
+ * clients hold no messages, which it does with --hold. */
+struct sysvmsg *sysvmsg_open_holding(const char *path, int milliseconds);
+
+/* Ends the session. No thread may be in a call. A message that is held comes back. */
 void sysvmsg_close(struct sysvmsg *server);
 
 /* The number of queues that the server can have. */
@@ -82,8 +86,8 @@ int sysvmsg_unknown(const struct sysvmsg *server);
 
 /* Ends the session, and begins another one. If no server listens, it waits for one, at most that
  * many milliseconds. Fails with the errors of sysvmsg_open, and with EBUSY if another thread is in
- * a call. If the server was restarted, its queues have to be found again: their identifiers may be
- * those of other queues. */
+ * a call. A message that is held comes back. If the server was restarted, its queues have to be
+ * found again: their identifiers may be those of other queues. */
 int sysvmsg_retry(struct sysvmsg *server, int milliseconds);
 
 /* Returns the identifier of the queue of a key. */
@@ -101,6 +105,22 @@ int sysvmsg_snd(
  * ETIMEDOUT and EINTR are as above: a call that fails with one of them took nothing. */
 ssize_t sysvmsg_rcv(struct sysvmsg *server, int queue, void *message, size_t size, int64_t type,
     int flags, int milliseconds);
+
+/* Receives a message as sysvmsg_rcv does, and holds it: the server sends it again if the session
+ * ends before sysvmsg_done. The flag is SYSVMSG_EXCEPT. It fails with EINVAL if a message is held,
+ * with EAGAIN if the server has no place for one more message that is held, with EBUSY if another
+ * thread is in a call, and with EPROTONOSUPPORT if sysvmsg_open_holding has not opened the
+ * connection. The session also ends if the process changes its effective user or group. */
+ssize_t sysvmsg_hold(struct sysvmsg *server, int queue, void *message, size_t size, int64_t type,
+    int flags, int milliseconds);
+
+/* The message that is held is done with, and gone. It fails with EINVAL if none is held. After EIO
+ * it may have come back. */
+int sysvmsg_done(struct sysvmsg *server);
+
+/* Gives back the message that is held: the server sends it again, as the last one of its queue. It
+ * ends the session, and the next call begins another one. It fails with EINVAL if none is held. */
+int sysvmsg_back(struct sysvmsg *server);
 
 int sysvmsg_stat(struct sysvmsg *server, int queue, struct sysvmsg_stat *stat);
 int sysvmsg_set(struct sysvmsg *server, int queue, const struct sysvmsg_set *set);

@@ -1,8 +1,8 @@
-# Completes the command lines of sysvmsg(1), sysvmsg-run(1) and sysvmsg-serve(8) in bash. Other words, as PATH, complete to
-# file names.
+# Completes the command lines of sysvmsg(1), sysvmsg-run(1), sysvmsg-work(1) and sysvmsg-serve(8) in bash. Other words, as
+# PATH, complete to file names.
 
 # The options of a server with which sysvmsg-serve can be called too.
-_sysvmsg_server="--mode --replace --blocks --workers --at-once --sessions --idle --stall --drain --stats"
+_sysvmsg_server="--mode --replace --blocks --workers --at-once --sessions --idle --stall --drain --hold --stats"
 
 _sysvmsg_commands="serve snd rcv ipcs ipcrm ipcmk stats script"
 
@@ -66,6 +66,21 @@ _sysvmsg_serve() {
     fi
 }
 
+# The word after -- is a program.
+_sysvmsg_work() {
+    local word=${COMP_WORDS[COMP_CWORD]} dashes
+    local options="--jobs --type --upto --pause --failed --until-empty --create --retry"
+    COMPREPLY=()
+    dashes=$(_sysvmsg_dashes)
+    if [ -n "$dashes" ]; then
+        [ "$COMP_CWORD" -ne $((dashes + 1)) ] || mapfile -t COMPREPLY < <(compgen -c -- "$word")
+    elif [[ $word == -* ]]; then
+        [ "$COMP_CWORD" -ne 1 ] || options="$options --help --version"
+        mapfile -t COMPREPLY < <(compgen -W "$options" -- "$word")
+    fi
+}
+
 complete -o default -F _sysvmsg sysvmsg
 complete -o default -F _sysvmsg_run sysvmsg-run
 complete -o default -F _sysvmsg_serve sysvmsg-serve
+complete -o default -F _sysvmsg_work sysvmsg-work

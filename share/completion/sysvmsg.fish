@@ -1,5 +1,5 @@
-# Completes the command lines of sysvmsg(1), sysvmsg-run(1) and sysvmsg-serve(8) in fish. Other words, as PATH, complete to
-# file names.
+# Completes the command lines of sysvmsg(1), sysvmsg-run(1), sysvmsg-work(1) and sysvmsg-serve(8) in fish. Other words, as
+# PATH, complete to file names.
 
 # Whether the command is one of these words.
 function __sysvmsg_is
@@ -57,6 +57,7 @@ function __sysvmsg_complete_server
     complete $argv -l idle -x -d 'End a session that sends no request for this time'
     complete $argv -l stall -x -d 'End a session whose request or reply takes longer'
     complete $argv -l drain -x -d 'End the sessions left this long after the last accept'
+    complete $argv -l hold -d 'Let clients hold messages that come back if they are not done'
     complete $argv -l stats -r -d 'Show the state on a second socket'
 end
 
@@ -118,3 +119,17 @@ complete -c sysvmsg-serve -n '__sysvmsg_has_words 1' -l with -d 'Run a command o
 complete -c sysvmsg-serve -n '__sysvmsg_has_words 1' -s h -l help -d 'Print help'
 complete -c sysvmsg-serve -n '__sysvmsg_has_words 1' -s V -l version -d 'Print version'
 complete -c sysvmsg-serve -n __sysvmsg_is_in_command -f -a '(__fish_complete_command)'
+
+complete -c sysvmsg-work -e
+complete -c sysvmsg-work -n '__sysvmsg_has_words 1' -s h -l help -d 'Print help'
+complete -c sysvmsg-work -n '__sysvmsg_has_words 1' -s V -l version -d 'Print version'
+set -l worker -c sysvmsg-work -n 'not __sysvmsg_is_in_command'
+complete $worker -l jobs -x -d 'The number of commands that run at once, 1 to 256'
+complete $worker -l type -x -d 'Take the first message of this type'
+complete $worker -l upto -x -d 'Take the first of the lowest type up to this'
+complete $worker -l pause -x -d 'Keep a message that failed this long'
+complete $worker -l failed -x -d 'Send a message that failed to the queue of this key'
+complete $worker -l until-empty -d 'End once there is no message'
+complete $worker -l create -d 'Create the queues if there are none'
+complete $worker -l retry -x -d 'Wait this long for a server'
+complete -c sysvmsg-work -n __sysvmsg_is_in_command -f -a '(__fish_complete_command)'

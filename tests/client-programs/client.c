@@ -411,7 +411,109 @@ static void try_no_connection(void)
     CHECK(sysvmsg_unknown(NULL) == -1 && errno == EFAULT);
     errno = 0;
     CHECK(sysvmsg_retry(NULL, 0) == -1 && errno == EFAULT);
+    errno = 0;
+    CHECK(sysvmsg_hold(NULL, 0, &message, 1, 0, 0, 0) == -1 && errno == EFAULT);
+    errno = 0;
+    CHECK(sysvmsg_done(NULL) == -1 && errno == EFAULT);
+    errno = 0;
+    CHECK(sysvmsg_back(NULL) == -1 && errno == EFAULT);
     sysvmsg_close(NULL);
+}
+
+/* Holds a message that is to have this text and type. */
+static bool holds(struct sysvmsg *server, int queue, int64_t type, const char *text)
+{
+    struct sysvmsg_message message;
+    ssize_t size = sysvmsg_hold(server, queue, &message, sizeof message.body, 0, 0, 10000);
+    return size == (ssize_t)strlen(text) && memcmp(message.body, text, (size_t)size) == 0
+           && message.type == type;
+}
+
+/* A message that is done is gone, and another one comes back. */
+static void try_hold(void)
+{
+    struct sysvmsg *server = open_server(), *holder = sysvmsg_open_holding(path, 10000);
+    struct sysvmsg_message message;
+    struct sysvmsg_stat stat;
+    CHECK(holder && sysvmsg_slots(holder) == sysvmsg_slots(server));
+    int queue = sysvmsg_get(holder, KEY, SYSVMSG_CREAT | 0600);
+    CHECK(sysvmsg_hold(holder, queue, &message, 99, 0, 0, SYSVMSG_NOWAIT) == -1 && errno == ENOMSG);
+    CHECK(sysvmsg_hold(holder, queue, &message, 99, 0, 0, 100) == -1 && errno == ETIMEDOUT);
+    CHECK(sysvmsg_done(holder) == -1 && errno == EINVAL);
+    CHECK(sysvmsg_back(holder) == -1 && errno == EINVAL);
+    CHECK(send_text(server, queue, 5, "once", 10000) == 0 && holds(holder, queue, 5, "once"));
+    CHECK(sysvmsg_hold(holder, queue, &message, 99, 0, 0, 10000) == -1 && errno == EINVAL);
+    CHECK(sysvmsg_done(holder) == 0 && sysvmsg_done(holder) == -1 && errno == EINVAL);
+    CHECK(send_text(server, queue, 6, "again", 10000) == 0 && holds(holder, queue, 6, "again"));
+    CHECK(sysvmsg_back(holder) == 0 && sysvmsg_back(holder) == -1 && errno == EINVAL);
+    CHECK(holds(holder, queue, 6, "again"));
+    CHECK(sysvmsg_retry(holder, 10000) == 0 && holds(holder, queue, 6, "again"));
+    sysvmsg_close(holder);
+    CHECK(receives(server, queue, 0, "again"));
+    CHECK(sysvmsg_stat(server, queue, &stat) == 0 && stat.qnum == 0);
+    sysvmsg_close(server);
+}
+
+/* A call that waits and whose time is over ends no session that holds a message, and a hold keeps
+ * to the bounds of a receive. */
+static void try_hold_apart(void)
+{
+    struct sysvmsg *server = open_server(), *holder = sysvmsg_open_holding(path, 10000);
+    struct sysvmsg_message message;
+    struct sysvmsg_stat stat;
+    int queue = sysvmsg_get(server, KEY, SYSVMSG_CREAT | 0600);
+    int other = sysvmsg_get(server, KEY + 1, SYSVMSG_CREAT | 0600);
+    CHECK(holder && send_text(server, queue, 5, "four", 10000) == 0);
+    CHECK(sysvmsg_hold(holder, queue, &message, 3, 0, 0, 0) == -1 && errno == E2BIG);
+    CHECK(sysvmsg_hold(holder, queue, &message, 3, 0, SYSVMSG_NOERROR, 0) == -1 && errno == EINVAL);
+    CHECK(sysvmsg_hold(holder, queue, &message, 9, 5, SYSVMSG_EXCEPT, 0) == -1 && errno == ENOMSG);
+    CHECK(sysvmsg_hold(holder, queue, NULL, 9, 0, 0, 0) == -1 && errno == EFAULT);
+    CHECK(sysvmsg_hold(holder, queue, &message, 9, -7, 0, 0) == 4);
+    CHECK(sysvmsg_rcv(holder, other, &message, 9, 0, 0, 100) == -1 && errno == ETIMEDOUT);
+    CHECK(send_text(holder, other, 1, "found", 10000) == 0 && receives(holder, other, 0, "found"));
+    CHECK(sysvmsg_stat(server, queue, &stat) == 0 && stat.qnum == 0);
+    CHECK(sysvmsg_done(holder) == 0);
+    sysvmsg_close(holder);
+    sleep_micros(200000);
+    CHECK(sysvmsg_stat(server, queue, &stat) == 0 && stat.qnum == 0);
+    sysvmsg_close(server);
+}
+
+/* The messages of a process that is killed come back, and a child of fork does not end its parent's
+ * session. */
+static void try_hold_killed(void)
+{
+    struct sysvmsg *server = open_server();
+    int queue = sysvmsg_get(server, KEY, SYSVMSG_CREAT | 0600), status;
+    CHECK(send_text(server, queue, 5, "kept", 10000) == 0);
+    pid_t child = fork();
+    if (child == 0) {
+        struct sysvmsg *holder = sysvmsg_open_holding(path, 10000);
+        CHECK(holder && holds(holder, queue, 5, "kept"));
+        pid_t forked = fork();
+        if (forked == 0)
+            _exit(sysvmsg_done(holder) == -1 && errno == EINVAL ? 0 : 1);
+        CHECK(waitpid(forked, &status, 0) == forked && status == 0);
+        struct sysvmsg_stat stat;
+        CHECK(sysvmsg_stat(server, queue, &stat) == 0 && stat.qnum == 0);
+        kill(getpid(), SIGKILL);
+    }
+    CHECK(waitpid(child, &status, 0) == child && WIFSIGNALED(status));
+    CHECK(WTERMSIG(status) == SIGKILL && receives(server, queue, 0, "kept"));
+    sysvmsg_close(server);
+}
+
+/* A server that reads no version 3 is reported, and so is a connection that does not speak it. */
+static void try_hold_refused(void)
+{
+    struct sysvmsg *server = open_server();
+    struct sysvmsg_message message;
+    int queue = sysvmsg_get(server, KEY, SYSVMSG_CREAT | 0600);
+    CHECK(!sysvmsg_open_holding(path, 10000) && errno == EPROTONOSUPPORT);
+    CHECK(sysvmsg_hold(server, queue, &message, 9, 0, 0, 0) == -1 && errno == EPROTONOSUPPORT);
+    CHECK(sysvmsg_done(server) == -1 && errno == EPROTONOSUPPORT);
+    CHECK(send_text(server, queue, 5, "kept", 10000) == 0 && receives(server, queue, 0, "kept"));
+    sysvmsg_close(server);
 }
 
 /* A connection that is closed leaves room for another one, and too many are refused. */
@@ -434,7 +536,9 @@ int main(int count, char **words)
     } parts[] = {{"limits", try_limits}, {"races", try_races}, {"threads", try_threads},
         {"fork", try_fork}, {"signal", try_signal}, {"cancel", try_cancel},
         {"no-place", try_no_place}, {"no-server", try_no_server}, {"faults", try_faults},
-        {"no-connection", try_no_connection}, {"many", try_many}, {"restart", try_restart}};
+        {"no-connection", try_no_connection}, {"many", try_many}, {"restart", try_restart},
+        {"hold", try_hold}, {"hold-apart", try_hold_apart}, {"hold-killed", try_hold_killed},
+        {"hold-refused", try_hold_refused}};
     if (count < 3)
         return 2;
     path = words[2];

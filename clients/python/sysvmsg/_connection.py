@@ -9,10 +9,11 @@ import time
 from types import TracebackType
 from typing import Iterator, List, Optional, Tuple, Type, TypeVar, Union, cast
 
-from ._errors import NOT_MADE, ConnectionLost, Invalid, Removed, TimedOut
+from ._errors import NOT_MADE, CannotHold, ConnectionLost, Invalid, QueueError, Removed, TimedOut
 from ._session import LONGEST, Pauses, Pending, Place, Session, deadline_in, time_left
 from ._wire import (
-    BODY_MAX, NOWAIT, Message, Request, Row, Stat, get_request, rcv_request, set_request, wait_flag,
+    BODY_MAX, HOLD, HOLDING, NOWAIT, Message, Request, Row, Stat, get_request, hold_request, rcv_request, set_request,
+    wait_flag,
 )  # fmt: skip
 
 T = TypeVar("T")
@@ -48,6 +49,8 @@ class Connection:
         self._hello = hello
         self._retry = retry
         self._is_closed = False
+        #: Sessions that can hold a message and hold none.
+        self._holders: List[Session] = []
         self._place = Place(self.path)
         self._session = self._await_server(wait, deadline_in(retry))
 
@@ -62,6 +65,8 @@ class Connection:
         """Ends the session. In a child of fork it only closes the child's copy of the socket."""
         self._is_closed = True
         self._session.close()
+        while self._holders:
+            self._holders.pop().close()
 
     def get(self, key: int, *, create: bool = False, exclusive: bool = False, mode: int = 0o600) -> int:
         """The identifier of the queue of a key. With `create` it is made if there is none, with this mode; with
@@ -104,6 +109,30 @@ class Connection:
                 return
             is_first = False
             yield message
+
+    def hold(self, queue: int, type: int = 0, *, size: int = BODY_MAX, wait: Optional[float] = None,
+             all_but: bool = False) -> Held:
+        """Receives a message as `rcv` does, and holds it: it comes back to the queue unless it is done with.
+
+            with server.hold(queue) as message:
+                work(message.body)
+
+        The end of the `with` block reports that the message is done with; an exception gives it back. If the process
+        dies first, the message comes back too. Each message that is held has a session of its own. A server without
+        --hold raises `CannotHold`. The server raises `NoRoom` if it has no place for one more message that is held.
+        """
+        request = hold_request(queue, type, size, wait_flag(wait), all_but)
+        deadline = deadline_in(wait if wait is not None and wait > 0 else None)
+        self._place.check_process()
+        session = self._holder(deadline)
+        try:
+            return Held(self, session, self._make(session, request, deadline))
+        except QueueError:
+            self._keep(session)
+            raise
+        except BaseException:
+            session.close()
+            raise
 
     def stat(self, queue: int) -> Stat:
         """The attributes of a queue."""
@@ -154,22 +183,56 @@ class Connection:
                 pause = pauses.after(error)
             time.sleep(pause)
 
-    def _open(self, deadline: Optional[float]) -> Session:
+    def _holder(self, deadline: Optional[float]) -> Session:
+        """A session that can hold a message: one that is kept, or a new one."""
+        if self._is_closed or (self._retry is None and self._session.is_over and not self._session.was_left):
+            raise ConnectionLost(outcome=NOT_MADE).of("hold", self.path, None, None)
+        while self._holders:
+            session = self._holders.pop()
+            # (the server may have ended it)
+            session.act(0)
+            if not session.is_over:
+                return session
+        try:
+            return self._open_holder(deadline)
+        except (FileNotFoundError, ConnectionRefusedError) as error:
+            self._place.is_lost = True
+            raise ConnectionLost("there is no server", NOT_MADE).of("hold", self.path, None, None) from error
+
+    def _open_holder(self, deadline: Optional[float]) -> Session:
+        was_lost = self._place.is_lost
+        try:
+            return self._open(deadline, HOLDING)
+        except ConnectionLost as lost:
+            # A server that does not read the version closes the connection, and so does one that ends.
+            self._place.is_lost = was_lost
+            self._open(deadline).close()
+            raise CannotHold().of("hold", self.path, None, None) from lost
+
+    def _keep(self, session: Session) -> None:
+        """Keeps a session that holds no message any more."""
+        if self._is_closed:
+            session.close()
+        else:
+            self._holders.append(session)
+
+    def _open(self, deadline: Optional[float], version: Optional[int] = None) -> Session:
+        version = self.version if version is None else version
         peer = socket.socket(socket.AF_UNIX, socket.SOCK_STREAM)
         try:
             if deadline is not None:
                 # (a connect that does not block fails at once if the server's queue of connections is full)
                 peer.setsockopt(socket.SOL_SOCKET, socket.SO_SNDTIMEO, send_limit(time_left(deadline)))
             self._connect(peer)
-            if self._retry is not None:
-                self._place.begin(peer)
-            session = Session(peer, self.version, self._place)
+            self._place.begin(peer)
+            session = Session(peer, version, self._place)
             hello = session.start(self._hello)
             while not hello.done:
                 # (no call was made yet, so nothing can be lost)
                 if not session.step(deadline):
                     raise session.place.explain(TimedOut("the server did not serve this client in time"), self._hello)
-            self.slots = self._place.check_slots(hello._outcome(), self.version)
+            slots = self._place.check_slots(hello._outcome(), version)
+            self.slots = slots if version == self.version else self.slots
         except BaseException:
             peer.close()
             raise
@@ -239,9 +302,53 @@ class Connection:
             # An exception of a signal handler: the call is given up, and its result is kept if it took effect.
             if error is not pending._error:
                 session.run(session.leave())
-                if pending.done and pending._error is None:
+                # (a message that is held comes back)
+                if pending.done and pending._error is None and request.operation != HOLD:
                     self.unclaimed = pending._value
             raise
+
+
+class Held:
+    """A message that is held. `Connection.hold` makes one. It is for one thread."""
+
+    def __init__(self, connection: Connection, session: Session, message: Message) -> None:
+        self.message = message
+        self._connection = connection
+        self._session: Optional[Session] = session
+
+    def __enter__(self) -> Message:
+        return self.message
+
+    def __exit__(self, kind: Optional[Type[BaseException]], error: Optional[BaseException],
+                 trace: Optional[TracebackType]) -> None:
+        if self._session is None:
+            return
+        if kind is None:
+            self.done()
+        else:
+            self.back()
+
+    def done(self) -> None:
+        """The message is done with, and gone. If this raises `ConnectionLost`, it may have come back. A message that is
+        not held any more raises `Invalid`."""
+        session = self._taken("done")
+        try:
+            self._connection._make(session, Request.done(), None)
+        except BaseException:
+            session.close()
+            raise
+        self._connection._keep(session)
+
+    def back(self) -> None:
+        """Gives the message back: the server sends it again, as the last one of its queue."""
+        self._taken("back").close()
+
+    def _taken(self, call: str) -> Session:
+        """The session, which does not hold the message after this."""
+        session, self._session = self._session, None
+        if session is None:
+            raise Invalid("the message is not held any more").of(call, self._connection.path, None, None)
+        return session
 
 
 class Pipeline:

@@ -178,6 +178,14 @@ class ConnectionLost(Error, ConnectionError):
         return (*super().__reduce__(), {"outcome": self.outcome})
 
 
+class CannotHold(Error):
+    """EPROTONOSUPPORT: the server lets clients hold no messages."""
+
+    name = "EPROTONOSUPPORT"
+    outcome = NOT_MADE
+    sentence = "the server lets clients hold no messages: it needs --hold"
+
+
 class ProtocolError(Error, ConnectionError):
     """The server sent something that is no reply to the request. The session is over."""
 

@@ -13,8 +13,9 @@ T = TypeVar("T")
 PRIVATE = 0  # the key of a queue that no other call finds
 BODY_MAX = 8192  # the longest message
 
-HELLO, GET, SND, RCV, STAT, SET, RM, ROW = range(8)
-CALLS = ("hello", "get", "snd", "rcv", "stat", "set", "rm", "row")
+HELLO, GET, SND, RCV, STAT, SET, RM, ROW, HOLD, DONE = range(10)
+CALLS = ("hello", "get", "snd", "rcv", "stat", "set", "rm", "row", "hold", "done")
+HOLDING = 3  # the version of sessions that can hold a message
 CREAT, EXCL, NOWAIT, NOERROR, EXCEPT = 0o1000, 0o2000, 0o4000, 0o10000, 0o20000
 
 SND_FIELDS = 16  # the bytes of a send before its body
@@ -149,6 +150,16 @@ class Request(Generic[T]):
         return Request(RCV, _pack("iIqI", id, size, type, flags), _message, queue=id)
 
     @staticmethod
+    def hold(id: int, size: int, type: int, flags: int) -> Request[Message]:
+        """Version 3 has it. The message is held without a limit of time."""
+        return Request(HOLD, _pack("iIqII", id, size, type, flags, 0), _message, queue=id)
+
+    @staticmethod
+    def done() -> Request[None]:
+        """Version 3 has it."""
+        return Request(DONE, b"", _nothing)
+
+    @staticmethod
     def stat(id: int) -> Request[Stat]:
         return Request(STAT, _pack("i", id), _stat, queue=id)
 
@@ -201,6 +212,10 @@ def get_request(key: int, create: bool, exclusive: bool, mode: int) -> Request[i
 
 def rcv_request(queue: int, type: int, size: int, flags: int, truncate: bool, all_but: bool) -> Request[Message]:
     return Request.rcv(queue, size, type, flags | (NOERROR if truncate else 0) | (EXCEPT if all_but else 0))
+
+
+def hold_request(queue: int, type: int, size: int, flags: int, all_but: bool) -> Request[Message]:
+    return Request.hold(queue, size, type, flags | (EXCEPT if all_but else 0))
 
 
 def set_request(queue: int, uid: Optional[int], gid: Optional[int], mode: Optional[int], qbytes: Optional[int],

@@ -21,12 +21,14 @@ import asyncio
 import os
 import socket
 from types import TracebackType
-from typing import AsyncIterator, Coroutine, Generator, Optional, Type, TypeVar, cast
+from typing import AsyncIterator, Coroutine, Generator, List, Optional, Type, TypeVar, cast
 
 from ._connection import Path, identity
-from ._errors import NOT_MADE, ConnectionLost, Invalid, Removed, TimedOut
+from ._errors import NOT_MADE, CannotHold, ConnectionLost, Invalid, QueueError, Removed, TimedOut
 from ._session import Pauses, Place, Session, Steps, deadline_in, time_left
-from ._wire import BODY_MAX, Message, Request, Row, Stat, get_request, rcv_request, set_request, wait_flag
+from ._wire import (
+    BODY_MAX, HOLD, HOLDING, Message, Request, Row, Stat, get_request, hold_request, rcv_request, set_request, wait_flag,
+)  # fmt: skip
 
 T = TypeVar("T")
 
@@ -92,6 +94,8 @@ class Connection:
         self._is_closed = False
         self._place = Place(self.path)
         self._session: Optional[Session] = None
+        #: Sessions that can hold a message and hold none.
+        self._holders: List[Session] = []
         self._is_used = False
 
     async def __aenter__(self) -> Connection:
@@ -106,6 +110,8 @@ class Connection:
         self._is_closed = True
         if self._session is not None:
             self._session.close()
+        while self._holders:
+            self._holders.pop().close()
 
     async def get(self, key: int, *, create: bool = False, exclusive: bool = False, mode: int = 0o600) -> int:
         """`sysvmsg.Connection.get`."""
@@ -135,6 +141,11 @@ class Connection:
                 return
             is_first = False
             yield message
+
+    def hold(self, queue: int, type: int = 0, *, size: int = BODY_MAX, wait: Optional[float] = None,
+             all_but: bool = False) -> Holding:
+        """`sysvmsg.Connection.hold`. Its result is awaited, or used in `async with`."""
+        return Holding(self, hold_request(queue, type, size, wait_flag(wait), all_but), wait)
 
     async def stat(self, queue: int) -> Stat:
         """`sysvmsg.Connection.stat`."""
@@ -168,6 +179,54 @@ class Connection:
                 yield row
             slot += 1
 
+    async def _hold(self, request: Request[Message], wait: Optional[float]) -> Held:
+        deadline = deadline_in(wait if wait is not None and wait > 0 else None)
+        self._place.check_process()
+        session = await self._holder(deadline)
+        try:
+            return Held(self, session, await self._make(session, request, deadline))
+        except QueueError:
+            self._keep(session)
+            raise
+        except BaseException:
+            session.close()
+            raise
+
+    async def _holder(self, deadline: Optional[float]) -> Session:
+        """A session that can hold a message: one that is kept, or a new one."""
+        kept = self._session
+        is_lost = kept is not None and kept.is_over and not kept.was_left
+        if self._is_closed or (self._retry is None and is_lost):
+            raise ConnectionLost(outcome=NOT_MADE).of("hold", self.path, None, None)
+        while self._holders:
+            session = self._holders.pop()
+            # (the server may have ended it)
+            session.act(0)
+            if not session.is_over:
+                return session
+        try:
+            return await self._open_holder(deadline)
+        except (FileNotFoundError, ConnectionRefusedError) as error:
+            self._place.is_lost = True
+            raise ConnectionLost("there is no server", NOT_MADE).of("hold", self.path, None, None) from error
+
+    async def _open_holder(self, deadline: Optional[float]) -> Session:
+        was_lost = self._place.is_lost
+        try:
+            return await self._open(deadline, HOLDING)
+        except ConnectionLost as lost:
+            # A server that does not read the version closes the connection, and so does one that ends.
+            self._place.is_lost = was_lost
+            (await self._open(deadline)).close()
+            raise CannotHold().of("hold", self.path, None, None) from lost
+
+    def _keep(self, session: Session) -> None:
+        """Keeps a session that holds no message any more."""
+        if self._is_closed:
+            session.close()
+        else:
+            self._holders.append(session)
+
     async def _begin(self, wait: Optional[float]) -> Connection:
         self._session = await self._await_server(wait, deadline_in(self._retry))
         return self
@@ -182,19 +241,20 @@ class Connection:
                 pause = pauses.after(error)
             await asyncio.sleep(pause)
 
-    async def _open(self, deadline: Optional[float]) -> Session:
+    async def _open(self, deadline: Optional[float], version: Optional[int] = None) -> Session:
+        version = self.version if version is None else version
         peer = socket.socket(socket.AF_UNIX, socket.SOCK_STREAM)
         try:
-            session = Session(peer, self.version, self._place)
+            session = Session(peer, version, self._place)
             await self._connect(peer, deadline)
-            if self._retry is not None:
-                self._place.begin(peer)
+            self._place.begin(peer)
             hello = session.start(self._hello)
             while not hello.done:
                 # (no call was made yet, so nothing can be lost)
                 if not await _until(session, deadline):
                     raise self._late("the server did not serve this client in time")
-            self.slots = self._place.check_slots(hello._outcome(), self.version)
+            slots = self._place.check_slots(hello._outcome(), version)
+            self.slots = slots if version == self.version else self.slots
         except BaseException:
             peer.close()
             raise
@@ -273,9 +333,65 @@ class Connection:
             # The task was cancelled: the call is given up, and its result is kept if it took effect.
             if error is not pending._error:
                 await _whole(_run(session, session.leave()))
-                if pending.done and pending._error is None:
+                # (a message that is held comes back)
+                if pending.done and pending._error is None and request.operation != HOLD:
                     self.unclaimed = pending._value
             raise
+
+
+class Held:
+    """`sysvmsg.Held`."""
+
+    def __init__(self, connection: Connection, session: Session, message: Message) -> None:
+        self.message = message
+        self._connection = connection
+        self._session: Optional[Session] = session
+
+    async def done(self) -> None:
+        """`sysvmsg.Held.done`."""
+        session = self._taken("done")
+        try:
+            await self._connection._make(session, Request.done(), None)
+        except BaseException:
+            session.close()
+            raise
+        self._connection._keep(session)
+
+    def back(self) -> None:
+        """`sysvmsg.Held.back`."""
+        self._taken("back").close()
+
+    def _taken(self, call: str) -> Session:
+        """The session, which does not hold the message after this."""
+        session, self._session = self._session, None
+        if session is None:
+            raise Invalid("the message is not held any more").of(call, self._connection.path, None, None)
+        return session
+
+
+class Holding:
+    """What `Connection.hold` returns: `await` it, or use it in `async with`."""
+
+    def __init__(self, connection: Connection, request: Request[Message], wait: Optional[float]) -> None:
+        self._connection = connection
+        self._request = request
+        self._wait = wait
+        self._held: Optional[Held] = None
+
+    def __await__(self) -> Generator[object, None, Held]:
+        return self._connection._hold(self._request, self._wait).__await__()
+
+    async def __aenter__(self) -> Message:
+        self._held = await self
+        return self._held.message
+
+    async def __aexit__(self, kind: Optional[Type[BaseException]], error: Optional[BaseException],
+                        trace: Optional[TracebackType]) -> None:
+        held = cast(Held, self._held)
+        if kind is None:
+            await held.done()
+        else:
+            held.back()
 
 
 class Connecting:

@@ -19,12 +19,17 @@ use Rattle.sysv_service.specs.contracts.service.Service as service
 use Rattle.sysv_seats.specs.contracts.client.Client as client
 use Rattle.sysv_seats.specs.contracts.client.Client.TheInside as client_inside
 use Rattle.sysv_seats.specs.contracts.handler.ServiceHandler as handler
+use Rattle.sysv_seats.specs.contracts.holding.HeldMessage as held
+use Rattle.sysv_seats.specs.contracts.holding.HeldMessage.TheInside as held_inside
+use Rattle.sysv_seats.specs.contracts.keeper.Keeper as keeper
 use Rattle.sysv_seats.specs.contracts.tools.Tools as tools
 use Rattle.sysv_seats.specs.contracts.zero.Zero as zero
 use Rattle.sysv_seats.specs.contracts.zero.ZeroClock.TheImpl as clock
 use Rattle.sysv_seats.specs.declared.non_blocking.NonBlocking.{Ghosts}
 use Rattle.sysv_parking.proofs.Crossing.{agenda_send}
 use Rattle.sysv_seats.proofs.parked.Parked.TheSendSync.{the_send as parked_send}
+use Rattle.sysv_steps.proofs.send.SendWait.TheSendSync.{the_send as wait_send}
+use Rattle.sysv_wire.proofs.frame.Version.TheSendSync.{the_send as version_send}
 use Rattle.sysv_session.proofs.session.Session.TheSendSync.{the_send as session_send}
 use Rattle.sysv_seats.proofs.zero.Zero.TheSendSync.{the_sync as zero_sync}
 use Rattle.sysv_engine.specs.contracts.server_state.ServerState as server
@@ -38,6 +43,7 @@ use Rattle.sysv_engine.specs.contracts.times.Times as times
 use Rattle.sysv_engine.specs.contracts.watch.Ready as ready
 use Rattle.sysv_engine.specs.contracts.worker.Worker as worker
 use Rattle.sysv_engine.proofs.alarm.Rest.TheSendSync as rests
+use Rattle.sysv_engine.proofs.fates.Fates.TheSendSync as fates
 use Rattle.sysv_engine.proofs.server_state.ServerState.TheSendSync as servers
 use Rattle.sysv_engine.proofs.sums.Sums.TheSendSync as sums
 
@@ -54,6 +60,19 @@ handler_send l R sr =
           (pass_send, tt),
         ),
       ),
+    )
+
+held_send : IsSend held.the_row
+held_send = view_send held_inside.the_row _ _ _ _ (declared_send held_inside.the_type (
+  search crossing depth 30,
+  (search crossing depth 10, (search crossing depth 10, (search crossing depth 30, tt))),
+))
+
+keeper_send : (l : NamedLft) (R : RattleType) → IsSync R → IsSend (keeper.the_row l zero.the_row R clock.ghosts)
+keeper_send l R sr =
+    declared_send (keeper.the_type l zero.the_row R clock.ghosts) (
+      handler_send l R sr,
+      (options.the_send _ held_send, (options.the_send _ heaps.the_send, tt)),
     )
 
 body_send : IsSend body.the_row
@@ -119,16 +138,37 @@ place_send : (l : NamedLft) (R T B : RattleType) (ghosts : Ghosts T.Denot B.Deno
     IsSend (place.the_row l R T B ghosts)
 place_send l R T B ghosts r t b = view_send (place_inside.the_row l R T B ghosts) _ _ _ _
     (declared_send (place_inside.the_type l R T B ghosts) (
-      handler_send l R r,
+      keeper_send l R r,
       (
         options.the_send _ (client_send T B ghosts t),
         (
-          sums.the_send,
+          options.the_send _ wait_send,
           (
-            search crossing depth 10,
+            sums.the_send,
             (
-              as_row_send (row_field B) b,
-              (times_send, (search crossing depth 10, (search crossing depth 10, tt))),
+              search crossing depth 10,
+              (
+                fates.the_send,
+                (
+                  as_row_send (row_field B) b,
+                  (
+                    times_send,
+                    (
+                      search crossing depth 10,
+                      (
+                        search crossing depth 10,
+                        (
+                          version_send,
+                          (
+                            options.the_send _ heaps.the_send,
+                            (search crossing depth 10, (search crossing depth 10, tt)),
+                          ),
+                        ),
+                      ),
+                    ),
+                  ),
+                ),
+              ),
             ),
           ),
         ),

@@ -1,6 +1,7 @@
 pub mod SessionMakesCalls
 pub mod SessionsPerConnection
 pub mod SumsOfSessions
+pub mod FatesOfSessions
 mod LostAtAnEnd
 pub mod LifetimeIsOneRun
 pub mod GatesHaveLived
@@ -10,9 +11,11 @@ pub mod Adopting
 pub mod PlacesRun
 pub mod PlaceLemmas
 pub mod PlaceLists
+pub mod FatesAdded
 pub mod Kept
 pub mod SharedOut
 pub mod Reversed
+pub mod Endings
 pub mod Staffed
 pub mod Behind
 pub mod Looking

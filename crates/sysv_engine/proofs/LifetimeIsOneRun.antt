@@ -8,6 +8,8 @@ use Rattle.sysv_bank.specs.Banks.{Each2, Each3}
 use Rattle.sysv_thread_laws.specs.AtRest.{Rests}
 use Rattle.sysv_thread_laws.specs.Order.{Called}
 use Rattle.sysv_session.specs.declared.served.Served.{Served}
+use Rattle.sysv_wire.specs.declared.frame.Version.{Version}
+use Rattle.sysv_seats.specs.Holding.{Holder, empty_handed}
 use Rattle.sysv_thread_laws.specs.Hiring.{all_of, first_pass, Hires, IsRemoval, EveryHiringObeys, EveryStopRemoves}
 use Rattle.sysv_thread_laws.specs.PoolWhole.{EveryHiringLeavesThePoolWhole, NoHiringLeavesAGateHeld}
 use Rattle.sysv_thread_laws.specs.AfterStop.{EveryStopEmpties}
@@ -15,7 +17,7 @@ use Rattle.sysv_thread_laws.specs.ParkedOnThreads.{EveryOrderParksRightly}
 use Rattle.sysv_service.specs.Ran.{Pass}
 use Rattle.sysv_thread_laws.specs.Working as working
 use Rattle.sysv_thread_laws.specs.Working.{Works}
-use Rattle.sysv_engine.specs.Made.{log, EachSessionMakesCalls}
+use Rattle.sysv_engine.specs.Made.{log, held_in, EachReturnMakesACall, EachSessionMakesCalls, GivesBackIn}
 use Rattle.sysv_engine.specs.Handled.{Shift, first_passes, last_passes, AreMadeBy}
 use Rattle.sysv_thread_laws.specs.Team.{IsServed}
 use Rattle.sysv_engine.specs.Looking as looking
@@ -43,52 +45,84 @@ works_without before after looking.begins = working.begins
 works_without before after (looking.reads slot result new looked told) =
     working.asks_row slot result new (works_without before _ looked) told
 
-module _ (law : EachSessionMakesCalls zero_moment ⊤) where
+module _ (law : EachSessionMakesCalls zero_moment ⊤) (returning : EachReturnMakesACall) where
   -- The calls that were made in a session with this report.
-  record InSession (start old : Pass) (told : Option Served) (left rest taken more : Option (List ℕ)) (new : Pass)
-      (made : List Called) : Type 0 where
+  record InSession (newest : Version) (start old : Pass) (told : Option Served) (left rest taken more : Option (List ℕ))
+      (new : Holder Pass) (made : List Called) : Type 0 where
     calls : List Called
     rests : AllByRecursion Resting calls
-    works : Works start (made ++ calls) new
-    dialogues : ConversesAsIn (log old made) told left rest taken more (log new (made ++ calls))
+    works : Works start (made ++ calls) new.at
+    dialogues : ConversesAsIn newest (log old made) told left rest taken more (held_in (made ++ calls) new)
 
-  in_session : (start old : Pass) (told : Option Served) (left rest taken more : Option (List ℕ)) (new : Pass)
-      (made : List Called) → Works start made old → ConversesAs old told left rest taken more new →
-      InSession start old told left rest taken more new made
-  in_session start old None left rest taken more new made works dialogues = record {
+  in_session : (newest : Version) (start old : Pass) (told : Option Served) (left rest taken more : Option (List ℕ))
+      (new : Holder Pass) (made : List Called) → Works start made old →
+      ConversesAs newest old told left rest taken more new →
+      InSession newest start old told left rest taken more new made
+  in_session newest start old None left rest taken more new made works dialogues = record {
     calls = [];
     rests = tt;
-    works = subst (Works start (made ++ [])) (sym dialogues.0)
+    works = subst (Works start (made ++ [])) (sym (ap (λ (h : Holder Pass). h.at) dialogues.0))
         (subst (λ calls. Works start calls old) (sym (append-nil made)) works);
     dialogues = (
-      ap (λ (p : Pass). log p (made ++ [])) dialogues.0 ∙ ap (log old) (append-nil made),
+      ap (λ (h : Holder Pass). held_in (made ++ []) h) dialogues.0
+          ∙ ap (λ (calls : List Called). empty_handed (log old calls)) (append-nil made),
       dialogues.1,
       dialogues.2,
     );
   }
-  in_session start old (Some served) left rest taken more new made works dialogues =
-      let one = law start old new made served left rest taken more works dialogues in
+  in_session newest start old (Some served) left rest taken more new made works dialogues =
+      let one = law newest start old new made served left rest taken more works dialogues in
       record { calls = one.0; rests = one.3; works = one.1; dialogues = one.2 }
 
-  -- The calls that were made in further sessions.
-  record InSessions (start old : Pass) (dialogues : List Dialogue) (new : Pass) (made : List Called) : Type 0 where
+  -- The calls that were made in a session, and that which gave back what it held.
+  record InDialogue (newest : Version) (start old : Pass) (dialogue : Dialogue) (new : Pass) (made : List Called) :
+      Type 0 where
     calls : List Called
     rests : AllByRecursion Resting calls
     works : Works start (made ++ calls) new
-    folds : FoldsTo ConversesIn (log old made) dialogues (log new (made ++ calls))
+    dialogues : ConversesIn newest (log old made) dialogue (log new (made ++ calls))
 
-  in_sessions : (start old : Pass) (dialogues : List Dialogue) (new : Pass) (made : List Called) →
-      Works start made old → FoldsTo Converses old dialogues new → InSessions start old dialogues new made
-  in_sessions start old [] new made works is = record {
+  in_dialogue : (newest : Version) (start old : Pass) (dialogue : Dialogue) (new : Pass) (made : List Called) →
+      Works start made old → Converses newest old dialogue new →
+      InDialogue newest start old dialogue new made
+  in_dialogue newest start old dialogue new made works converses =
+      let mid = converses.0 in
+      let one = in_session newest start old dialogue.told dialogue.left dialogue.rest dialogue.taken dialogue.more mid
+      made works converses.1 in
+      let back = returning start mid (made ++ one.calls) dialogue.back new one.works converses.2 in
+      let all = append_assoc made one.calls back.0 in
+      record {
+        calls = one.calls ++ back.0;
+        rests = both one.calls back.0 one.rests back.3;
+        works = subst (λ calls. Works start calls new) all back.1;
+        dialogues = (
+          held_in (made ++ one.calls) mid,
+          one.dialogues,
+          subst (λ calls. GivesBackIn zero_moment (held_in (made ++ one.calls) mid) dialogue.back (log new calls)) all
+              back.2,
+        );
+      }
+
+  -- The calls that were made in further sessions.
+  record InSessions (newest : Version) (start old : Pass) (dialogues : List Dialogue) (new : Pass)
+      (made : List Called) : Type 0 where
+    calls : List Called
+    rests : AllByRecursion Resting calls
+    works : Works start (made ++ calls) new
+    folds : FoldsTo (ConversesIn newest) (log old made) dialogues (log new (made ++ calls))
+
+  in_sessions : (newest : Version) (start old : Pass) (dialogues : List Dialogue) (new : Pass) (made : List Called) →
+      Works start made old → FoldsTo (Converses newest) old dialogues new →
+      InSessions newest start old dialogues new made
+  in_sessions newest start old [] new made works is = record {
     calls = [];
     rests = tt;
     works = subst (Works start (made ++ [])) is (subst (λ calls. Works start calls old) (sym (append-nil made)) works);
     folds = ap (log old) (sym (append-nil made)) ∙ ap (λ (p : Pass). log p (made ++ [])) is;
   }
-  in_sessions start old (dialogue ∷ dialogues) new made works folds =
-      let one = in_session start old dialogue.told dialogue.left dialogue.rest dialogue.taken dialogue.more folds.0 made
-      works folds.1 in
-      let more = in_sessions start folds.0 dialogues new (made ++ one.calls) one.works folds.2 in
+  in_sessions newest start old (dialogue ∷ dialogues) new made works folds =
+      let one = in_dialogue newest start old dialogue folds.0 made works folds.1 in
+      let more = in_sessions newest start folds.0 dialogues new (made ++ one.calls) one.works folds.2 in
       record {
         calls = one.calls ++ more.calls;
         rests = both one.calls more.calls one.rests more.rests;
@@ -96,7 +130,7 @@ module _ (law : EachSessionMakesCalls zero_moment ⊤) where
         folds = (
           log folds.0 (made ++ one.calls),
           one.dialogues,
-          subst (λ calls. FoldsTo ConversesIn (log folds.0 (made ++ one.calls)) dialogues (log new calls))
+          subst (λ calls. FoldsTo (ConversesIn newest) (log folds.0 (made ++ one.calls)) dialogues (log new calls))
               (append_assoc made one.calls more.calls) more.folds,
         );
       }
@@ -111,7 +145,8 @@ module _ (law : EachSessionMakesCalls zero_moment ⊤) where
   in_shifts : (shifts : List Shift) → InShifts shifts
   in_shifts [] = record { each = []; rests = tt; works = tt; made = tt }
   in_shifts (shift ∷ shifts) =
-      let one = in_sessions shift.before shift.before shift.dialogues shift.after [] working.begins shift.worked in
+      let one = in_sessions shift.newest shift.before shift.before shift.dialogues shift.after [] working.begins
+      shift.worked in
       let rest = in_shifts shifts in
       record {
         each = one.calls ∷ rest.each;

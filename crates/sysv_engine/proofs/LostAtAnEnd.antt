@@ -7,7 +7,8 @@ use Rattle.std.specs.List.{AllByRecursion, FoldsTo, sum_by}
 use Rattle.std.proofs.lemmas.List.Sums.{sum_by-cons}
 use Rattle.sysv_keys.specs.declared.identifier.TheConstants.{SLOTS}
 use Rattle.sysv_queue.specs.Tally.{Tallied}
-use Rattle.sysv_seats.specs.Asked.{asks_with}
+use Rattle.sysv_seats.specs.Held.{holds_with}
+use Rattle.sysv_seats.specs.Holding.{Holder, empty_handed}
 use Rattle.sysv_seats.specs.Sits.{zero_moment}
 use Rattle.sysv_session.specs.declared.served.End.{End}
 use Rattle.sysv_session.specs.declared.served.End.TheVariants.{Ended, NoMemory, NoHello, Fault, Write, Bound, Left}
@@ -22,7 +23,6 @@ use Rattle.sysv_session.proofs.ListLemmas.{messages_more}
 use Rattle.sysv_session.proofs.TogetherLemmas.{all_within, replies_messages}
 use Rattle.sysv_service.specs.Ran.{Pass}
 use Rattle.sysv_wire.specs.declared.frame.Version.{Version}
-use Rattle.sysv_wire.specs.declared.frame.Version.TheVariants.{Two}
 use Rattle.sysv_engine.specs.declared.sums.Sums.{Sums}
 use Rattle.sysv_engine.specs.Added.{capped, one_session}
 use Rattle.sysv_engine.specs.Handled.{Shift, cut_off_of, may_lose, one_cut_off, reports_of, sums_of, told_in}
@@ -112,11 +112,12 @@ is_safe : (b : Bool) → ◌≡◌ {A = ℕ} (cond b 1 0) 0 → b ≡ false
 is_safe true one = absurd (omega arith)
 is_safe false one = refl
 
-dialogue_loses : (told : Option Served) (before after : Pass) (left rest taken more : Option (List ℕ)) →
-    ConversesAs before told left rest taken more after → LosesNone told
-dialogue_loses None before after left rest taken more dialogues none = refl
-dialogue_loses (Some served) before after left rest taken more dialogues none =
-    serves_all Two (asks_with zero_moment ⊤) SLOTS served before after left rest taken more dialogues
+dialogue_loses : (newest : Version) (told : Option Served) (before : Pass) (after : Holder Pass)
+    (left rest taken more : Option (List ℕ)) → ConversesAs newest before told left rest taken more after →
+    LosesNone told
+dialogue_loses newest None before after left rest taken more dialogues none = refl
+dialogue_loses newest (Some served) before after left rest taken more dialogues none =
+    serves_all newest (holds_with zero_moment ⊤) SLOTS served (empty_handed before) after left rest taken more dialogues
     (is_safe (may_lose served.«end») none)
 
 both : (xs ys : List (Option Served)) → AllByRecursion LosesNone xs → AllByRecursion LosesNone ys →
@@ -124,19 +125,20 @@ both : (xs ys : List (Option Served)) → AllByRecursion LosesNone xs → AllByR
 both [] ys one two = two
 both (x ∷ xs) ys one two = (one.0, both xs ys one.1 two)
 
-shift_loses : (before : Pass) (dialogues : List Dialogue) (after : Pass) → FoldsTo Converses before dialogues after →
-    AllByRecursion LosesNone (reports_of dialogues)
-shift_loses before [] after folds = tt
-shift_loses before (dialogue ∷ dialogues) after folds = (
-  dialogue_loses dialogue.told before folds.0 dialogue.left dialogue.rest dialogue.taken dialogue.more folds.1,
-  shift_loses folds.0 dialogues after folds.2,
+shift_loses : (newest : Version) (before : Pass) (dialogues : List Dialogue) (after : Pass) →
+    FoldsTo (Converses newest) before dialogues after → AllByRecursion LosesNone (reports_of dialogues)
+shift_loses newest before [] after folds = tt
+shift_loses newest before (dialogue ∷ dialogues) after folds = (
+  dialogue_loses newest dialogue.told before folds.1.0 dialogue.left dialogue.rest dialogue.taken dialogue.more
+      folds.1.1,
+  shift_loses newest folds.0 dialogues after folds.2,
 )
 
 shifts_lose : (shifts : List Shift) → AllByRecursion LosesNone (told_in shifts)
 shifts_lose [] = tt
 shifts_lose (shift ∷ shifts) =
     both (reports_of shift.dialogues) (told_in shifts)
-    (shift_loses shift.before shift.dialogues shift.after shift.worked) (shifts_lose shifts)
+    (shift_loses shift.newest shift.before shift.dialogues shift.after shift.worked) (shifts_lose shifts)
 
 first_none : (a b n : ℕ) → n ≡ a + b → n ≡ 0 → a ≡ 0
 first_none a b n is none = omega arith

@@ -1,14 +1,14 @@
 -- What the places of a worker have had, after one of them changed.
 use Rattle.std.proofs.Common.{◌≡◌, ◌∙◌, ℕ, List, [], ◌∷◌, ◌<◌, slice_set, slice_index_or, length, suc, zero, Option}
 use Rattle.std.proofs.Common.{subst}
-use Rattle.std.proofs.Common.{sym, refl, ap, arith, None, Some, true, not}
-use Rattle.std.specs.Prelude.{is_some}
+use Rattle.std.proofs.Common.{sym, refl, ap, arith, None, Some, Bool, true, false, not}
+use Rattle.std.specs.Prelude.{is_some, ◌||◌, ◌&&◌}
 use Rattle.std.specs.List.{All, list_all}
 use Rattle.std.proofs.lemmas.List.Sums.{AllPass-from_list_all}
 use Rattle.sysv_bank.specs.Banks.{Each2}
 use Rattle.sysv_seats.specs.Untold.{Closing}
 use Rattle.sysv_engine.specs.Places.{Adopts, AdoptsOne, KeepsAll, KeepsPlace, Seated, Standing, Stands, TakesIn}
-use Rattle.sysv_engine.specs.Places.{IsVacantAt, is_vacant, with_one}
+use Rattle.sysv_engine.specs.Places.{IsVacantAt, has_ended, is_vacant, with_one}
 
 module _ {A B : Type 0} (R : A → B → Type 0) where
   -- One of them changed, and keeps what it was.
@@ -47,23 +47,45 @@ module _ {V T P : Type 0} (R : Standing V T → P → Type 0) (connection : T) w
         (each.0, rest.2),
       )
 
-pub none_of : {A : Type 0} (held : Option A) → not (is_some held) ≡ true → held ≡ None
-none_of None none = refl
-none_of (Some held) none = absurd (cc none)
+pub of_not : (b : Bool) → not (not b) ≡ true → b ≡ true
+of_not true is = refl
+of_not false is = absurd (cc is)
 
--- The place of this number, which has no client.
+none_of : {A : Type 0} (held : Option A) (other : Bool) → not (is_some held || other) ≡ true → held ≡ None
+none_of None other none = refl
+none_of (Some held) other none = absurd (cc none)
+
+last_none : {A : Type 0} (first : Bool) (held : Option A) → not (first || is_some held) ≡ true → held ≡ None
+last_none first None none = refl
+last_none true (Some held) none = absurd (cc none)
+last_none false (Some held) none = absurd (cc none)
+
+-- A vacant place has no client, and gives back no message.
+pub is_free : {B T : Type 0} (place : Seated B T) → is_vacant place ≡ true →
+    (place.client ≡ None) × (place.message ≡ None)
+is_free place vacant =
+    (none_of place.client (is_some place.message) vacant, last_none (is_some place.client) place.message vacant)
+
+no_client : {A : Type 0} (held : Option A) (other : Bool) → not (is_some held) && other ≡ true → held ≡ None
+no_client None other ended = refl
+no_client (Some held) other ended = absurd (cc ended)
+
+-- A place at which nothing is left to do has no client.
+pub is_left : {B T : Type 0} (place : Seated B T) → has_ended place ≡ true → place.client ≡ None
+is_left place ended = no_client place.client (not (is_some place.message) || is_some place.returning) ended
+
+-- The place of this number, which is vacant.
 pub vacant_there : {B T : Type 0} (places : List (Seated B T)) (at : ℕ) (there : Seated B T) → at < length places →
-    there ≡ slice_index_or places at there → there.client ≡ None → IsVacantAt at places
+    there ≡ slice_index_or places at there → is_vacant there ≡ true → IsVacantAt at places
 vacant_there [] at there low is none = absurd (omega (arith, low))
-vacant_there (p ∷ places) zero there low is none = (low, λ other. ap (λ q. q.client) (sym is) ∙ none)
+vacant_there (p ∷ places) zero there low is none = (low, λ other. ap is_vacant (sym is) ∙ none)
 vacant_there (p ∷ places) (suc at) there low is none =
     (low, (vacant_there places at there (omega (arith, low)) is none).1)
 
--- There is no client in any of the places.
-pub all_vacant : {B T : Type 0} (places : List (Seated B T)) → list_all is_vacant places ≡ true →
-    All (λ (p : Seated B T). p.client ≡ None) places
-all_vacant {B} {T} places none = λ k d low.
-    none_of (slice_index_or places k d).client (AllPass-from_list_all is_vacant places none k d low)
+-- Nothing is left to do at any of the places.
+pub all_ended : {B T : Type 0} (places : List (Seated B T)) → list_all has_ended places ≡ true →
+    All (λ (p : Seated B T). has_ended p ≡ true) places
+all_ended {B} {T} places ended = λ k d low. AllPass-from_list_all has_ended places ended k d low
 
 module _ {T B : Type 0} (incoming outgoing : T → Option (List ℕ)) (closes : Closing T B) where
   -- One of the places changed, and keeps what it was.

@@ -214,23 +214,24 @@ module _ {W P V T : Type 0} (places : W → List P) (view : P → V) (Stands : S
       ∙ (sym (length-map all.now (λ (s : Standing V T). s.start))
       ∙ (ap length all.starts ∙ (length-map (before_in parts) view ∙ ap length first))))
 
-  -- ---- once all places are vacant
+  -- ---- once nothing is left to do at any place
 
-  module _ (RunsView : V → T → V → Type 0) where
-    -- The place is vacant: what it has had is over.
+  -- What the places are then is not what they began as: `begins` and `ends` say what of a place is compared.
+  module _ {V' : Type 0} (begins : V → V') (ends : P → V') (RunsView : V' → T → V' → Type 0) where
+    -- Nothing is left to do at the place: what it has had is over.
     abbrev pub IsOver : Standing V T → P → Type 0
-    IsOver s place = FoldsTo RunsView s.start s.had (view place)
+    IsOver s place = FoldsTo RunsView (begins s.start) s.had (ends place)
 
-    -- Once the places are vacant, all that they have had is over.
+    -- Once nothing is left to do at the places, all that they have had is over.
     abbrev pub Vacates : List P → List P → Type 0
     Vacates old new = (ss : List (Standing V T)) → Each2 Stands ss old → Each2 IsOver ss new
 
     record Parted (now : List (Standing V T)) (ps : List P) : Type 0 where
-      parts : List (Part V T)
-      began : map (λ (p : Part V T). p.before) parts ≡ map (λ (s : Standing V T). s.start) now
-      left : map (λ (p : Part V T). p.after) parts ≡ map view ps
-      ran : All (λ (p : Part V T). FoldsTo RunsView p.before p.items p.after) parts
-      items : flat_map (λ (p : Part V T). p.items) parts ≡ all_had now
+      parts : List (Part V' T)
+      began : map (λ (p : Part V' T). p.before) parts ≡ map begins (map (λ (s : Standing V T). s.start) now)
+      left : map (λ (p : Part V' T). p.after) parts ≡ map ends ps
+      ran : All (λ (p : Part V' T). FoldsTo RunsView p.before p.items p.after) parts
+      items : flat_map (λ (p : Part V' T). p.items) parts ≡ all_had now
       ordered : (given : List T) → All (λ (s : Standing V T). IsSubsequenceOf s.had given) now → AreInOrder given parts
 
     parted : (now : List (Standing V T)) (ps : List P) → Each2 IsOver now ps → Parted now ps
@@ -246,15 +247,15 @@ module _ {W P V T : Type 0} (places : W → List P) (view : P → V) (Stands : S
     parted (s ∷ now) [] each = absurd each
     parted (s ∷ now) (p ∷ ps) each =
         let rest = parted now ps each.1 in
-        let one : Part V T = record { before = s.start; items = s.had; after = view p } in
+        let one : Part V' T = record { before = begins s.start; items = s.had; after = ends p } in
         record {
           parts = one ∷ rest.parts;
-          began = ap (λ l. s.start ∷ l) rest.began;
-          left = ap (λ l. view p ∷ l) rest.left;
-          ran = All-cons (λ (p : Part V T). FoldsTo RunsView p.before p.items p.after) one rest.parts each.0 rest.ran;
+          began = ap (λ l. begins s.start ∷ l) rest.began;
+          left = ap (λ l. ends p ∷ l) rest.left;
+          ran = All-cons (λ (p : Part V' T). FoldsTo RunsView p.before p.items p.after) one rest.parts each.0 rest.ran;
           items = ap (λ l. s.had ++ l) rest.items;
           ordered = λ given all.
-              All-cons (λ (p : Part V T). IsSubsequenceOf p.items given) one rest.parts
+              All-cons (λ (p : Part V' T). IsSubsequenceOf p.items given) one rest.parts
               (All-head (λ (s : Standing V T). IsSubsequenceOf s.had given) s now all)
               (rest.ordered given (All-tail (λ (s : Standing V T). IsSubsequenceOf s.had given) s now all));
         }
@@ -262,17 +263,21 @@ module _ {W P V T : Type 0} (places : W → List P) (view : P → V) (Stands : S
     abbrev pub all_places : List W → List P
     all_places ws = flat_map places ws
 
-    -- What the places of workers with these parts have had, once they are vacant.
-    pub record Vacant (before after : List V) (parts : List (Part W T)) : Type 0 where
-      pub each : List (Part V T)
+    -- The places, as they are compared before a run.
+    abbrev pub at_first : List P → List V'
+    at_first ps = map begins (map view ps)
+
+    -- What the places of workers with these parts have had, once nothing is left to do at them.
+    pub record Vacant (before after : List V') (parts : List (Part W T)) : Type 0 where
+      pub each : List (Part V' T)
       pub leads : Leads RunsView before each after
-      pub once : IsPermutation (flat_map (λ (p : Part V T). p.items) each) (items_of parts)
+      pub once : IsPermutation (flat_map (λ (p : Part V' T). p.items) each) (items_of parts)
       pub ordered : (given : List T) → AreInOrder given parts → AreInOrder given each
-      pub lone : length before ≡ 1 → flat_map (λ (p : Part V T). p.items) each ≡ items_of parts
+      pub lone : length before ≡ 1 → flat_map (λ (p : Part V' T). p.items) each ≡ items_of parts
       pub least : length parts ≤ length before
 
     pub vacant : (ws ws' : List W) (parts : List (Part W T)) (ps : List P) → Leads Runs ws parts ws' → All IsFresh ws →
-        Vacates (all_places ws') ps → Vacant (map view (all_places ws)) (map view ps) parts
+        Vacates (all_places ws') ps → Vacant (at_first (all_places ws)) (map ends ps) parts
     vacant ws ws' parts ps leads fresh vacated =
         let all = placed parts leads.ran (all_unmap parts (subst (All IsFresh) (sym leads.began) fresh)) in
         let first : before_in parts ≡ all_places ws =
@@ -280,13 +285,14 @@ module _ {W P V T : Type 0} (places : W → List P) (view : P → V) (Stands : S
         let last : after_in parts ≡ all_places ws' =
         sym (flat_of_map (λ (p : Part W T). p.after) places parts) ∙ ap all_places leads.left in
         let done = parted all.now ps (subst (λ l. Vacates l ps) (sym last) vacated all.now all.stands) in
-        let size : length (map view (all_places ws)) ≡ length all.now =
-        ap (λ l. length (map view l)) (sym first)
-        ∙ (ap length (sym all.starts) ∙ length-map all.now (λ (s : Standing V T). s.start)) in
+        let size : length (at_first (all_places ws)) ≡ length all.now =
+        length-map (map view (all_places ws)) begins
+        ∙ (ap (λ l. length (map view l)) (sym first)
+        ∙ (ap length (sym all.starts) ∙ length-map all.now (λ (s : Standing V T). s.start))) in
         record {
           each = done.parts;
           leads = record {
-            began = done.began ∙ (all.starts ∙ ap (map view) first);
+            began = done.began ∙ ap (map begins) (all.starts ∙ ap (map view) first);
             left = done.left;
             ran = done.ran;
           };
@@ -296,7 +302,7 @@ module _ {W P V T : Type 0} (places : W → List P) (view : P → V) (Stands : S
           least = let some = all.least in omega arith;
         }
 
-    one_worker : (ws : List W) → length (map view (all_places ws)) ≡ 1 → length ws ≤ 1 → length ws ≡ 1
+    one_worker : (ws : List W) → length (at_first (all_places ws)) ≡ 1 → length ws ≤ 1 → length ws ≡ 1
     one_worker [] one few = absurd (omega arith)
     one_worker (w ∷ []) one few = refl
     one_worker (w ∷ v ∷ ws) one few = absurd (omega arith)
@@ -304,7 +310,7 @@ module _ {W P V T : Type 0} (places : W → List P) (view : P → V) (Stands : S
     pub all_run : {S : Type 0} (gives : S → Option T → S → Type 0) (ws ws' : List W) (source source' : S)
         (ps : List P) → RunsAll Runs gives ws source ws' source' → All IsFresh ws →
         Vacates (all_places ws') ps →
-        RunsAll RunsView gives (map view (all_places ws)) source (map view ps) source'
+        RunsAll RunsView gives (at_first (all_places ws)) source (map ends ps) source'
     all_run gives ws ws' source source' ps ran fresh vacated =
         let all = vacant ws ws' ran.parts ps ran.leads fresh vacated in
         let count : length ran.parts ≡ length ws =
@@ -314,7 +320,7 @@ module _ {W P V T : Type 0} (places : W → List P) (view : P → V) (Stands : S
           given = ran.given;
           leads = all.leads;
           gave = ran.gave;
-          dealt = IsPermutation-trans (flat_map (λ (p : Part V T). p.items) all.each) (items_of ran.parts) ran.given
+          dealt = IsPermutation-trans (flat_map (λ (p : Part V' T). p.items) all.each) (items_of ran.parts) ran.given
               all.once ran.dealt;
           ordered = all.ordered ran.given ran.ordered;
           alone = λ one. all.lone one ∙ ran.alone (one_worker ws one (let few = all.least in omega arith));
@@ -322,13 +328,13 @@ module _ {W P V T : Type 0} (places : W → List P) (view : P → V) (Stands : S
 
     -- ---- a refused run
 
-    unmoved : (ps qs : List P) → Each2 IsOver (begun ps) qs → map view qs ≡ map view ps
+    unmoved : (ps qs : List P) → Each2 IsOver (begun ps) qs → map ends qs ≡ at_first ps
     unmoved [] [] each = refl
     unmoved [] (q ∷ qs) each = absurd each
     unmoved (p ∷ ps) [] each = absurd each
     unmoved (p ∷ ps) (q ∷ qs) each =
-        let same : view p ≡ view q = each.0 in
-        ap (λ v. v ∷ map view qs) (sym same) ∙ ap (λ l. view p ∷ l) (unmoved ps qs each.1)
+        let same : begins (view p) ≡ ends q = each.0 in
+        ap (λ v. v ∷ map ends qs) (sym same) ∙ ap (λ l. begins (view p) ∷ l) (unmoved ps qs each.1)
 
     each_begun : (ws : List W) → All IsFresh ws → Each2 Stands (begun (all_places ws)) (all_places ws)
     each_begun [] fresh = tt
@@ -339,20 +345,20 @@ module _ {W P V T : Type 0} (places : W → List P) (view : P → V) (Stands : S
         (All-head IsFresh w ws fresh).1 (each_begun ws (All-tail IsFresh w ws fresh)))
 
     same_again : (ws ws' : List W) (ps : List P) → ws' ≡ ws → All IsFresh ws → Vacates (all_places ws') ps →
-        map view ps ≡ map view (all_places ws)
+        map ends ps ≡ at_first (all_places ws)
     same_again ws ws' ps is fresh vacated =
         unmoved (all_places ws) ps
         (subst (λ l. Vacates (all_places l) ps) is vacated (begun (all_places ws)) (each_begun ws fresh))
 
     led_on : (ws ws' : List W) (ps : List P) → All IsFresh ws → Vacates (all_places ws') ps →
         (parts : List (Part W T)) × Leads Runs ws parts ws' →
-        (parts : List (Part V T)) × Leads RunsView (map view (all_places ws)) parts (map view ps)
+        (parts : List (Part V' T)) × Leads RunsView (at_first (all_places ws)) parts (map ends ps)
     led_on ws ws' ps fresh vacated led =
         let all = vacant ws ws' led.0 ps led.1 fresh vacated in
         (all.each, all.leads)
 
     pub given_back : (why : WorkersFault) (ws ws' : List W) (ps : List P) → GivesBack Runs ws why ws' → All IsFresh ws →
-        Vacates (all_places ws') ps → GivesBack RunsView (map view (all_places ws)) why (map view ps)
+        Vacates (all_places ws') ps → GivesBack RunsView (at_first (all_places ws)) why (map ends ps)
     given_back BadCount ws ws' ps back fresh vacated = same_again ws ws' ps back fresh vacated
     given_back NoMemory ws ws' ps back fresh vacated = same_again ws ws' ps back fresh vacated
     given_back Thread ws ws' ps back fresh vacated = same_again ws ws' ps back fresh vacated

@@ -7,9 +7,11 @@ use Rattle.std.proofs.lemmas.List.{reverse-append}
 use Rattle.sysv_service.specs.Ran.{Pass}
 use Rattle.sysv_service.specs.Seats.{Gates}
 use Rattle.sysv_thread_laws.specs.Hiring.{Gives, TakesIn}
+use Rattle.sysv_wire.specs.declared.frame.Version.{Version}
 use Rattle.sysv_seats.specs.Untold.{Closing}
 use Rattle.sysv_engine.specs.declared.fault.ServeFault.{ServeFault}
 use Rattle.sysv_engine.specs.declared.fault.ServeFault.TheVariants.{NoMemory, Thread, Worn, Missed}
+use Rattle.sysv_engine.specs.declared.fates.Fates.{Fates}
 use Rattle.sysv_engine.specs.declared.sums.Sums.{Sums}
 use Rattle.sysv_engine.specs.Handled.{Shift, last_passes}
 use Rattle.sysv_engine.specs.Looking.{HiresBy, Looked, LookedBy, SplitsOff, TakesBack}
@@ -54,7 +56,7 @@ module _ {T B : Type 0} (incoming outgoing : T → Option (List ℕ)) (closes : 
   abbrev Behind : D → Option T → D → Type 0
   Behind = behind.Behind of Keeps stays on gives
 
-  module _ (gates : Gates) (old new : D) (books books' : List B) (kept back : Pass) where
+  module _ (newest : Version) (gates : Gates) (old new : D) (books books' : List B) (kept back : Pass) where
     abbrev Left : ServeFault → Type 0
     Left why = LeavesConnections incoming outgoing closes Behind (HiredFrom false gates kept back) old books why new
         books'
@@ -67,15 +69,15 @@ module _ {T B : Type 0} (incoming outgoing : T → Option (List ℕ)) (closes : 
 
     module _ {A : Type 0} where
       -- What it kept of its source.
-      pub ran_kept : (result : Result A ServeFault) (sums : A → Sums) (refused : A → ℕ)
-          → IfOk result (λ told. WorkedFrom incoming outgoing closes Behind false gates kept old books (sums told)
-          (refused told) back new books')
+      pub ran_kept : (result : Result A ServeFault) (sums : A → Sums) (refused : A → ℕ) (fates : A → Fates)
+          → IfOk result (λ told. WorkedFrom incoming outgoing closes Behind false newest gates kept old books
+          (sums told) (refused told) (fates told) back new books')
           → IfErr result (λ why. LeavesConnections incoming outgoing closes Behind (HiredFrom false gates kept back)
           old books why new books')
           → Keeps old new
-      ran_kept (Ok told) sums refused worked left =
+      ran_kept (Ok told) sums refused fates worked left =
           behind.all_kept of Keeps stays on gives worked.given old new worked.gave
-      ran_kept (Err why) sums refused worked left = left_kept why left
+      ran_kept (Err why) sums refused fates worked left = left_kept why left
 
     module _ (reads : Bool) (own home : Pass) (before after : Option Pass) (first : SplitsOff reads own before kept)
         (looked : LookedBy before after) (last : TakesBack after back home) where
@@ -90,12 +92,12 @@ module _ {T B : Type 0} (incoming outgoing : T → Option (List ℕ)) (closes : 
 
       module _ {A : Type 0} where
         -- What it did.
-        pub ran_behind : (result : Result A ServeFault) (sums : A → Sums) (refused : A → ℕ)
-            → IfOk result (λ told. WorkedFrom incoming outgoing closes Behind false gates kept old books (sums told)
-            (refused told) back new books')
-            → IfOk result (λ told. WorkedFrom incoming outgoing closes gives reads gates own (of old) books (sums told)
-            (refused told) home (of new) books')
-        ran_behind (Ok told) sums refused worked = record {
+        pub ran_behind : (result : Result A ServeFault) (sums : A → Sums) (refused : A → ℕ) (fates : A → Fates)
+            → IfOk result (λ told. WorkedFrom incoming outgoing closes Behind false newest gates kept old books
+            (sums told) (refused told) (fates told) back new books')
+            → IfOk result (λ told. WorkedFrom incoming outgoing closes gives reads newest gates own (of old) books
+            (sums told) (refused told) (fates told) home (of new) books')
+        ran_behind (Ok told) sums refused fates worked = record {
           given = worked.given;
           gave = behind.all_behind of Keeps stays on gives worked.given old new worked.gave;
           desks = worked.desks;
@@ -106,9 +108,11 @@ module _ {T B : Type 0} (incoming outgoing : T → Option (List ℕ)) (closes : 
           in_team = worked.in_team;
           adds = worked.adds;
           counts = worked.counts;
+          versions = worked.versions;
+          held = worked.held;
           hires = hires_by reads own kept back home before after worked.shifts first looked last worked.hires;
         }
-        ran_behind (Err why) sums refused worked = tt
+        ran_behind (Err why) sums refused fates worked = tt
 
         -- What it left.
         pub all_left_behind : (result : Result A ServeFault)

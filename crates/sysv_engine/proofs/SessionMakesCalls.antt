@@ -1,5 +1,6 @@
 -- A session served with a pass makes calls of the service.
-use Rattle.std.proofs.Common.{◌≡◌, ◌∙◌, ℕ, List, [], ◌∷◌, ◌++◌, ap, sym, subst, refl, inl, inr}
+use Rattle.std.proofs.Common.{◌≡◌, ◌∙◌, ℕ, List, [], ◌∷◌, ◌++◌, None, Some, ap, sym, subst, refl, inl, inr}
+use Rattle.std.specs.Prelude.{⊤}
 use Rattle.std.proofs.lemmas.List.{append-nil, append_assoc}
 use Rattle.sysv_model.specs.declared.cred.Cred.{Cred}
 use Rattle.sysv_model.specs.Turn.{Op}
@@ -20,8 +21,14 @@ use Rattle.sysv_steps.specs.Stepping.{no_moment}
 use Rattle.sysv_service.specs.Ran.{Pass, Ran}
 use Rattle.sysv_thread_laws.specs.Working as working
 use Rattle.sysv_thread_laws.specs.Working.{Works}
-use Rattle.sysv_seats.specs.Asked.{Asks, asks_with}
-use Rattle.sysv_engine.specs.Made.{log, MakesCall, ReadsBeside, ShowsBeside, makes_with, EachSessionMakesCalls}
+use Rattle.sysv_seats.specs.Asked.{Asks}
+use Rattle.sysv_seats.specs.Held.{HoldAsks, holds_with}
+use Rattle.sysv_seats.specs.Holding as holding
+use Rattle.sysv_seats.specs.Holding.{Holder, empty_handed, no_flags}
+use Rattle.sysv_seats.specs.Sits.{zero_moment}
+use Rattle.sysv_wire.specs.declared.frame.Version.TheVariants.{Three}
+use Rattle.sysv_engine.specs.Made.{log, held_in, MakesCall, ReadsBeside, ShowsBeside, makes_with}
+use Rattle.sysv_engine.specs.Made.{EachSessionMakesCalls, EachReturnMakesACall}
 use Rattle.sysv_seats.specs.Requests as requests
 
 -- The call is over or was left at a wait.
@@ -186,48 +193,112 @@ module _ (may : ℕ → Type 0) (may_leave : Type 0) (any : EachRunIsAtAnyMoment
     asks = λ made. ((same_log old new made asked.0.0, asked.0.1), asked.1);
   }
 
+-- A holder, with the calls that were made with its pass.
+same_held : (old new : Holder Pass) (made : List Called) → new ≡ old → held_in (made ++ []) new ≡ held_in made old
+same_held old new made is =
+    ap (λ (h : Holder Pass). held_in (made ++ []) h) is
+    ∙ ap (λ (calls : List Called). held_in calls old) (append-nil made)
+
+module _ (may : ℕ → Type 0) (may_leave : Type 0) (any : EachRunIsAtAnyMoment may)
+    (unstamped : EachRunIsAtAnyMoment no_moment) (version : Version) (cred : Cred) where
+  -- The calls that a request of a session makes that may hold a message, whatever calls were made before.
+  record HoldMakes (ask : Ask) (text : List ℕ) (old : Holder Pass) (outcome : RequestOutcome) (given : List ℕ)
+      (new : Holder Pass) : Type 0 where
+    calls : List Called
+    rests : AllByRecursion Resting calls
+    works : (start : Pass) (made : List Called) → Works start made old.at → Works start (made ++ calls) new.at
+    asks : (made : List Called) →
+        holding.HoldAsks MakesCall ReadsBeside ShowsBeside may may_leave version cred ask text (held_in made old)
+        outcome given (held_in (made ++ calls) new)
+
+  -- The calls of any other request.
+  beside : (ask : Ask) (text : List ℕ) (old : Holder Pass) (outcome : RequestOutcome) (given : List ℕ)
+      (new : Holder Pass) → Asks may may_leave version cred ask text old.at outcome given new.at →
+      Makes may may_leave any unstamped version cred ask text old.at outcome given new.at
+  beside ask text old outcome given new asked =
+      makes may may_leave any unstamped version cred ask text old.at outcome given new.at asked
+
+  hold_makes : (ask : Ask) (text : List ℕ) (old : Holder Pass) (outcome : RequestOutcome) (given : List ℕ)
+      (new : Holder Pass) → HoldAsks may may_leave version cred ask text old outcome given new →
+      HoldMakes ask text old outcome given new
+  hold_makes (Hold id size mtype flags seconds) text old outcome given new (inl refused) = record {
+    calls = [];
+    rests = tt;
+    works = λ start made works. still start old.at new.at made (ap (λ (h : Holder Pass). h.at) refused.0) works;
+    asks = λ made. inl (same_held old new made refused.0, refused.1, refused.2);
+  }
+  hold_makes (Hold id size mtype flags seconds) text old outcome given new (inr (can, came, receives, is, held)) =
+      let one = beside (Rcv id size mtype flags) text old came given new receives in
+      record {
+        calls = one.calls;
+        rests = one.rests;
+        works = one.works;
+        asks = λ made. inr (can, came, one.asks made, is, held);
+      }
+  hold_makes Done text old outcome given new asked = record {
+    calls = [];
+    rests = tt;
+    works = λ start made works. still start old.at new.at made (ap (λ (h : Holder Pass). h.at) asked.0) works;
+    asks = λ made. (same_held (empty_handed old.at) new made asked.0, asked.1, asked.2);
+  }
+  hold_makes Back text old outcome given new asked = record {
+    calls = [];
+    rests = tt;
+    works = λ start made works. still start old.at new.at made (ap (λ (h : Holder Pass). h.at) asked.0) works;
+    asks = λ made. (same_held old new made asked.0, asked.1, asked.2);
+  }
+  hold_makes ask text old outcome given new asked =
+      let one = beside ask text old outcome given new asked.0 in
+      record {
+        calls = one.calls;
+        rests = one.rests;
+        works = one.works;
+        asks = λ made. (one.asks made, asked.1);
+      }
+
 module _ (may : ℕ → Type 0) (may_leave : Type 0) (any : EachRunIsAtAnyMoment may)
     (unstamped : EachRunIsAtAnyMoment no_moment) where
   -- The calls that the requests of a session make.
-  record Led (cred : Cred) (old : Pass) (calls : List Call) (new : Pass) : Type 0 where
+  record Led (cred : Cred) (old : Holder Pass) (calls : List Call) (new : Holder Pass) : Type 0 where
     calls_made : List Called
     rests : AllByRecursion Resting calls_made
-    works : (start : Pass) (made : List Called) → Works start made old → Works start (made ++ calls_made) new
+    works : (start : Pass) (made : List Called) → Works start made old.at → Works start (made ++ calls_made) new.at
     leads : (made : List Called) →
-        Leads (makes_with may may_leave) cred (log old made) calls (log new (made ++ calls_made))
+        Leads (makes_with may may_leave) cred (held_in made old) calls (held_in (made ++ calls_made) new)
 
-  led : (cred : Cred) (old : Pass) (calls : List Call) (new : Pass) →
-      Leads (asks_with may may_leave) cred old calls new → Led cred old calls new
+  led : (cred : Cred) (old : Holder Pass) (calls : List Call) (new : Holder Pass) →
+      Leads (holds_with may may_leave) cred old calls new → Led cred old calls new
   led cred old [] new is = record {
     calls_made = [];
     rests = tt;
-    works = λ start made works. still start old new made is works;
-    leads = λ made. same_log old new made is;
+    works = λ start made works. still start old.at new.at made (ap (λ (h : Holder Pass). h.at) is) works;
+    leads = λ made. same_held old new made is;
   }
   led cred old (call ∷ calls) new leads =
-      let one = makes may may_leave any unstamped call.request.version cred call.request.ask call.text old call.outcome
-      call.given leads.0 leads.1 in
+      let one = hold_makes may may_leave any unstamped call.request.version cred call.request.ask call.text old
+      call.outcome call.given leads.0 leads.1 in
       let more = led cred leads.0 calls new leads.2 in
       record {
         calls_made = one.calls ++ more.calls_made;
         rests = both one.calls more.calls_made one.rests more.rests;
         works = λ start made works.
-            subst (λ calls. Works start calls new) (append_assoc made one.calls more.calls_made)
+            subst (λ calls. Works start calls new.at) (append_assoc made one.calls more.calls_made)
             (more.works start (made ++ one.calls) (one.works start made works));
         leads = λ made. (
-          log leads.0 (made ++ one.calls),
+          held_in (made ++ one.calls) leads.0,
           one.asks made,
-          subst (λ all. Leads (makes_with may may_leave) cred (log leads.0 (made ++ one.calls)) calls (log new all))
+          subst (λ all. Leads (makes_with may may_leave) cred (held_in (made ++ one.calls) leads.0) calls
+              (held_in all new))
               (append_assoc made one.calls more.calls_made) (more.leads (made ++ one.calls)),
         );
       }
 
   pub each_session : EachSessionMakesCalls may may_leave
-  each_session start old new made served left rest taken more works (inl stays) = (
+  each_session newest start old new made served left rest taken more works (inl stays) = (
     [],
-    still start old new made stays.handler works,
+    still start old new.at made (ap (λ (h : Holder Pass). h.at) stays.handler) works,
     inl (record {
-      handler = same_log old new made stays.handler;
+      handler = same_held (empty_handed old) new made stays.handler;
       ends = stays.ends;
       writes = stays.writes;
       tallies = stays.tallies;
@@ -235,8 +306,8 @@ module _ (may : ℕ → Type 0) (may_leave : Type 0) (any : EachRunIsAtAnyMoment
     }),
     tt,
   )
-  each_session start old new made served left rest taken more works (inr dialogues) =
-      let done = led dialogues.cred old dialogues.calls new dialogues.leads in (
+  each_session newest start old new made served left rest taken more works (inr dialogues) =
+      let done = led dialogues.cred (empty_handed old) dialogues.calls new dialogues.leads in (
         done.calls_made,
         done.works start made works,
         inr (record {
@@ -263,3 +334,16 @@ module _ (may : ℕ → Type 0) (may_leave : Type 0) (any : EachRunIsAtAnyMoment
         }),
         done.rests,
       )
+
+-- What gives a message back makes one call.
+pub each_return : EachRunIsAtAnyMoment zero_moment → EachRunIsAtAnyMoment no_moment → EachReturnMakesACall
+each_return any unstamped start old made None new works gives = (
+  [],
+  still start old.at new made gives.1 works,
+  (gives.0, same_log old.at new made gives.1),
+  tt,
+)
+each_return any unstamped start old made (Some outcome) new works (message, is, returns) =
+    let one = makes zero_moment ⊤ any unstamped Three message.cred (Snd message.id message.mtype no_flags) message.text
+    old.at outcome [] new (returns, refl) in
+    (one.calls, one.works start made works, (message, is, (one.asks made).0), one.rests)

@@ -1,7 +1,8 @@
 -- The shifts and the desks of workers, from what a run of the workers leads to.
 use Rattle.std.proofs.Common.{◌≡◌, ◌∙◌, ℕ, ◌+◌, ◌<◌, ◌≤◌, List, [], ◌∷◌, ◌++◌, map, reverse, length, Option, ap, refl}
 use Rattle.std.proofs.Common.{sym, subst, arith, append_assoc, length-append}
-use Rattle.std.specs.Prelude.{false}
+use Rattle.std.specs.Prelude.{Bool, IfSome, false}
+use Rattle.std.specs.Option.{option_to_list}
 use Rattle.std.specs.List.{All, AllByRecursion, FoldsTo, flat_map, slice_index_or, sum_by}
 use Rattle.std.specs.List.Sorted.{IsPermutation}
 use Rattle.std.proofs.lemmas.List.{append-nil, get_or_append_left, length-map, length-reverse, reverse-append}
@@ -11,22 +12,29 @@ use Rattle.sysv_bank.specs.Banks.{Each2}
 use Rattle.sysv_service.specs.Seats.{Gates, AreOf}
 use Rattle.sysv_thread_laws.specs.Hiring.{Gives, TakesIn}
 use Rattle.sysv_service.specs.Ran.{Pass}
+use Rattle.sysv_session.specs.declared.handler.RequestOutcome.{RequestOutcome}
 use Rattle.sysv_session.specs.declared.served.Served.{Served}
+use Rattle.sysv_session.specs.Answers.{IsReplied}
+use Rattle.sysv_wire.specs.declared.frame.Version.{Version}
+use Rattle.sysv_seats.specs.GivingBack as giving
+use Rattle.sysv_seats.specs.Holding.{Holder}
 use Rattle.sysv_workers.specs.Parts.{Part, Leads, AreInOrder, IsSubsequenceOf}
 use Rattle.sysv_workers.specs.Running.{GivesBack, LeavesSource, RunsAll}
 use Rattle.sysv_workers.specs.declared.workers.TheConstants.{MAX_WORKERS}
 use Rattle.sysv_workers.specs.declared.refusals.WorkersFault.{WorkersFault}
 use Rattle.sysv_engine.specs.declared.fault.ServeFault.{ServeFault}
+use Rattle.sysv_engine.specs.declared.fates.Fates.{Fates}
 use Rattle.sysv_engine.specs.declared.sums.Sums.{Sums}
 use Rattle.sysv_engine.specs.Added.{added, all_added, capped, one_session}
 use Rattle.sysv_engine.specs.Desks.{Desk, InTeam, Sat, AreServedInOrder, all_connections}
-use Rattle.sysv_engine.specs.Handled.{Handles, Shift, first_passes, last_passes, one_refused, refused_of, reports_of}
-use Rattle.sysv_engine.specs.Handled.{sums_of}
-use Rattle.sysv_engine.specs.Handled.{told_in}
+use Rattle.sysv_engine.specs.Fated.{all_fates, none_fated}
+use Rattle.sysv_engine.specs.Handled.{AreReturned, Leaves, Shift, backs_in, fates_of, first_passes, last_passes}
+use Rattle.sysv_engine.specs.Handled.{one_refused, refused_of, reports_of, sums_of, told_in}
 use Rattle.sysv_engine.specs.Serving.{FaultOf, HiredFrom, IsNew, LeavesBooks, LeavesConnections, LeavesUnused}
 use Rattle.sysv_engine.specs.Serving.{WorkedFrom}
-use Rattle.sysv_engine.specs.Converses.{Closes, IsOn, Dialogue, Converses, tally_of}
+use Rattle.sysv_engine.specs.Converses.{Closes, IsOn, IsReturned, Dialogue, Converses, tally_of}
 use Rattle.sysv_seats.specs.Untold.{Closing}
+use Rattle.sysv_engine.proofs.FatesOfSessions.{backs_of, fated_at_end, fated_last, fates_first}
 use Rattle.sysv_engine.proofs.SumsOfSessions.{emptied, refused_first, refused_last, sum_by_map, told_first, told_last}
 use Rattle.sysv_engine.proofs.FaultLeaves.{left}
 use Rattle.sysv_engine.proofs.SessionsPerConnection.{sat_each}
@@ -72,48 +80,89 @@ pub reverse_last : {X : Type 0} (xs : List X) (x : X) → reverse (xs ++ x ∷ [
 reverse_last xs x = reverse-append xs (x ∷ [])
 
 module _ {W T B : Type 0} (incoming outgoing : T → Option (List ℕ)) (closes : Closing T B) (pass : W → Pass)
-    (sums : W → Sums) (refused : W → ℕ) (book : W → B) where
-  abbrev pub Runs : W → T → W → Type 0
-  Runs old item new = Handles incoming outgoing closes item (pass old) (sums old) (refused old) (book old) (pass new)
-      (sums new) (refused new) (book new)
+    (sums : W → Sums) (refused : W → ℕ) (book : W → B) (newest : W → Version) (fates : W → Fates)
+    (ended : W → Bool) where
+  -- A worker that had not ended had one more session, on this connection, and what the session held was given
+  -- back. If that still waits, the worker has ended.
+  pub record Ran (old : W) (item : T) (new : W) : Type 0 where
+    pub going : ended old ≡ false
+    pub same : newest new ≡ newest old
+    pub back : Option RequestOutcome
+    pub mid : Holder Pass
+    pub leaves : Leaves incoming outgoing closes (newest old) item (pass old) (sums old) (refused old) (book old) back
+        mid (sums new) (refused new) (book new)
+    pub gives : giving.GivesBack mid back (pass new)
+    pub fated : fates new ≡ fated_at_end (fates old) back
+    pub returned : ended new ≡ false → IfSome back IsReplied
 
-  -- The sessions of one worker, after others with these reports.
-  record Tells (xs : List (Option Served)) (w w' : W) (items : List T) : Type 0 where
+  abbrev pub Runs : W → T → W → Type 0
+  Runs = Ran
+
+  -- The sessions of one worker, after others with these reports and these returns.
+  record Tells (xs : List (Option Served)) (bs : List RequestOutcome) (w w' : W) (items : List T) : Type 0 where
     dialogues : List Dialogue
-    folds : FoldsTo Converses (pass w) dialogues (pass w')
+    folds : FoldsTo (Converses (newest w)) (pass w) dialogues (pass w')
     on : Each2 (IsOn incoming outgoing closes) items dialogues
     closed : FoldsTo (Closes closes) (book w) dialogues (book w')
     adds : sums w' ≡ sums_of (xs ++ reports_of dialogues)
     counts : refused w' ≡ refused_of (xs ++ reports_of dialogues)
+    fated : fates w' ≡ fates_of (bs ++ backs_of dialogues)
+    follows : (d : Dialogue) → (ended w ≡ false → IsReturned d) → AreReturned (d ∷ dialogues)
+    returned : AreReturned dialogues
 
-  tells : (items : List T) (w w' : W) (xs : List (Option Served)) → FoldsTo Runs w items w' → sums w ≡ sums_of xs →
-      refused w ≡ refused_of xs → Tells xs w w' items
-  tells [] w w' xs h same counted = record {
+  tells : (items : List T) (w w' : W) (xs : List (Option Served)) (bs : List RequestOutcome) →
+      FoldsTo Runs w items w' → sums w ≡ sums_of xs → refused w ≡ refused_of xs → fates w ≡ fates_of bs →
+      Tells xs bs w w' items
+  tells [] w w' xs bs h same counted back = record {
     dialogues = [];
     folds = ap pass h;
     on = tt;
     closed = ap book h;
     adds = sym (ap sums h) ∙ (same ∙ ap sums_of (sym (append-nil xs)));
     counts = sym (ap refused h) ∙ (counted ∙ ap refused_of (sym (append-nil xs)));
+    fated = sym (ap fates h) ∙ (back ∙ ap fates_of (sym (append-nil bs)));
+    follows = λ d is. tt;
+    returned = tt;
   }
-  tells (x ∷ items) w w' xs h same counted =
+  tells (x ∷ items) w w' xs bs h same counted back =
       let run = h.1 in
-      let dialogue : Dialogue = run.holds.dialogue in
-      let is : run.told ≡ dialogue.told = sym run.holds.reports in
+      let told = run.leaves.told in
+      let holds = run.leaves.holds in
+      let dialogue : Dialogue = holds.dialogue in
+      let is : told ≡ dialogue.told = sym holds.reports in
       let next : sums h.0 ≡ sums_of (xs ++ dialogue.told ∷ []) =
       subst (λ t. sums h.0 ≡ sums_of (xs ++ t ∷ [])) is
-      (run.adds ∙ (ap (λ s. added s (one_session (tally_of run.told))) same ∙ told_last xs run.told)) in
+      (run.leaves.adds ∙ (ap (λ s. added s (one_session (tally_of told))) same ∙ told_last xs told)) in
       let more_refused : refused h.0 ≡ refused_of (xs ++ dialogue.told ∷ []) =
       subst (λ t. refused h.0 ≡ refused_of (xs ++ t ∷ [])) is
-      (run.counts ∙ (ap (λ n. capped (n + one_refused run.told)) counted ∙ refused_last xs run.told)) in
-      let more = tells items h.0 w' (xs ++ dialogue.told ∷ []) h.2 next more_refused in
+      (run.leaves.counts ∙ (ap (λ n. capped (n + one_refused told)) counted ∙ refused_last xs told)) in
+      let more_back : fates h.0 ≡ fates_of (bs ++ option_to_list dialogue.back) =
+      subst (λ b. fates h.0 ≡ fates_of (bs ++ option_to_list b)) (sym holds.returns)
+      (run.fated ∙ (ap (λ f. fated_at_end f run.back) back ∙ fated_last bs run.back)) in
+      let more = tells items h.0 w' (xs ++ dialogue.told ∷ []) (bs ++ option_to_list dialogue.back) h.2 next
+      more_refused more_back in
+      let whole : Converses (newest w) (pass w) dialogue (pass h.0) = (
+        run.mid,
+        holds.dialogues,
+        subst (λ b. giving.GivesBack run.mid b (pass h.0)) (sym holds.returns) run.gives,
+      ) in
+      let is_returned : ended h.0 ≡ false → IsReturned dialogue =
+      λ going. subst (λ b. IfSome b IsReplied) (sym holds.returns) (run.returned going) in
       record {
         dialogues = dialogue ∷ more.dialogues;
-        folds = (pass h.0, run.holds.dialogues, more.folds);
-        on = (run.holds.on, more.on);
-        closed = (book h.0, run.holds.closed, more.closed);
+        folds = (
+          pass h.0,
+          whole,
+          subst (λ v. FoldsTo (Converses v) (pass h.0) more.dialogues (pass w')) run.same more.folds,
+        );
+        on = (holds.on, more.on);
+        closed = (book h.0, holds.closed, more.closed);
         adds = more.adds ∙ ap sums_of (append_assoc xs (dialogue.told ∷ []) (reports_of more.dialogues));
         counts = more.counts ∙ ap refused_of (append_assoc xs (dialogue.told ∷ []) (reports_of more.dialogues));
+        fated = more.fated
+            ∙ ap fates_of (append_assoc bs (option_to_list dialogue.back) (backs_of more.dialogues));
+        follows = λ d is. (is run.going, more.follows dialogue is_returned);
+        returned = more.follows dialogue is_returned;
       }
 
   -- The shifts and the desks of all workers.
@@ -126,13 +175,16 @@ module _ {W T B : Type 0} (incoming outgoing : T → Option (List ℕ)) (closes 
     ordered : (given : List T) → AreInOrder given parts → AreServedInOrder given desks
     adds : all_added (map (λ (p : Part W T). sums p.after) parts) ≡ sums_of (told_in shifts)
     counts : capped (sum_by (λ (p : Part W T). refused p.after) parts) ≡ refused_of (told_in shifts)
+    fated : all_fates (map (λ (p : Part W T). fates p.after) parts) ≡ fates_of (backs_in shifts)
+    versions : (v : Version) → All (λ (p : Part W T). newest p.before ≡ v) parts →
+        AllByRecursion (λ (shift : Shift). shift.newest ≡ v) shifts
     begun : first_passes shifts ≡ map (λ (p : Part W T). pass p.before) parts
     left : last_passes shifts ≡ map (λ (p : Part W T). pass p.after) parts
     firsts : map (λ (desk : Desk T B). desk.first) desks ≡ map (λ (p : Part W T). book p.before) parts
     lasts : map (λ (desk : Desk T B). desk.last) desks ≡ map (λ (p : Part W T). book p.after) parts
 
   abbrev New : Gates → W → Type 0
-  New gates w = IsNew gates (pass w) (sums w) (refused w)
+  New gates w = IsNew gates (pass w) (sums w) (refused w) × (fates w ≡ none_fated)
 
   shifted : (gates : Gates) (parts : List (Part W T)) →
       All (λ (p : Part W T). FoldsTo Runs p.before p.items p.after) parts →
@@ -146,20 +198,29 @@ module _ {W T B : Type 0} (incoming outgoing : T → Option (List ℕ)) (closes 
     ordered = λ given all. tt;
     adds = refl;
     counts = refl;
+    fated = refl;
+    versions = λ v all. tt;
     begun = refl;
     left = refl;
     firsts = refl;
     lasts = refl;
   }
   shifted gates (p ∷ parts) ran new =
-      let first = All-head (λ (p : Part W T). New gates p.before) p parts new in
-      let one = tells p.items p.before p.after []
-      (All-head (λ (p : Part W T). FoldsTo Runs p.before p.items p.after) p parts ran) first.2 first.3 in
+      let fresh = All-head (λ (p : Part W T). New gates p.before) p parts new in
+      let first = fresh.0 in
+      let one = tells p.items p.before p.after [] []
+      (All-head (λ (p : Part W T). FoldsTo Runs p.before p.items p.after) p parts ran) first.2 first.3 fresh.1 in
       let rest = shifted gates parts (All-tail (λ (p : Part W T). FoldsTo Runs p.before p.items p.after) p parts ran)
       (All-tail (λ (p : Part W T). New gates p.before) p parts new) in
       record {
-        shifts =
-            record { before = pass p.before; dialogues = one.dialogues; after = pass p.after; worked = one.folds }
+        shifts = record {
+          newest = newest p.before;
+          before = pass p.before;
+          dialogues = one.dialogues;
+          after = pass p.after;
+          worked = one.folds;
+          returned = one.returned;
+        }
             ∷ rest.shifts;
         desks = record { connections = p.items; first = book p.before; last = book p.after } ∷ rest.desks;
         passes = ((first.0, first.1), rest.passes);
@@ -173,6 +234,12 @@ module _ {W T B : Type 0} (incoming outgoing : T → Option (List ℕ)) (closes 
         counts = ap capped (sum_by-cons (λ (p : Part W T). refused p.after) p parts)
             ∙ refused_first (reports_of one.dialogues) (told_in rest.shifts) (refused p.after)
             (sum_by (λ (p : Part W T). refused p.after) parts) one.counts rest.counts;
+        fated = fates_first (backs_of one.dialogues) (backs_in rest.shifts) (fates p.after)
+            (map (λ (p : Part W T). fates p.after) parts) one.fated rest.fated;
+        versions = λ v all. (
+          All-head (λ (p : Part W T). newest p.before ≡ v) p parts all,
+          rest.versions v (All-tail (λ (p : Part W T). newest p.before ≡ v) p parts all),
+        );
         begun = ap (λ passes. pass p.before ∷ passes) rest.begun;
         left = ap (λ passes. pass p.after ∷ passes) rest.left;
         firsts = ap (λ books. book p.before ∷ books) rest.firsts;
@@ -189,6 +256,9 @@ module _ {W T B : Type 0} (incoming outgoing : T → Option (List ℕ)) (closes 
     pub ordered : (given : List T) → AreInOrder given parts → AreServedInOrder given desks
     pub adds : all_added (map sums after) ≡ sums_of (told_in shifts)
     pub counts : capped (sum_by refused after) ≡ refused_of (told_in shifts)
+    pub fated : all_fates (map fates after) ≡ fates_of (backs_in shifts)
+    pub versions : (v : Version) → All (λ w. newest w ≡ v) states →
+        AllByRecursion (λ (shift : Shift). shift.newest ≡ v) shifts
     pub begun : first_passes shifts ≡ map pass states
     pub left : last_passes shifts ≡ map pass after
 
@@ -217,20 +287,29 @@ module _ {W T B : Type 0} (incoming outgoing : T → Option (List ℕ)) (closes 
             ∙ (ap all_added (map_map sums (λ (p : Part W T). p.after) parts) ∙ done.adds);
         counts = ap (λ l. capped (sum_by refused l)) (sym leads.left)
             ∙ (ap capped (sum_by_map refused (λ (p : Part W T). p.after) parts) ∙ done.counts);
+        fated = ap (λ l. all_fates (map fates l)) (sym leads.left)
+            ∙ (ap all_fates (map_map fates (λ (p : Part W T). p.after) parts) ∙ done.fated);
+        versions = λ v all.
+            done.versions v (All_unmap (λ (p : Part W T). p.before) (λ w. newest w ≡ v) parts
+            (subst (λ l. All (λ w. newest w ≡ v) l) (sym leads.began) all));
         begun = done.begun ∙ (sym (map_map pass (λ (p : Part W T). p.before) parts) ∙ ap (map pass) leads.began);
         left = done.left ∙ (sym (map_map pass (λ (p : Part W T). p.after) parts) ∙ ap (map pass) leads.left);
       }
 
   -- What a run of workers does, if their passes were split off before it and joined back after it.
   pub all_shifted : {S : Type 0} (gives : S → Option T → S → Type 0) (gates : Gates) (states after : List W)
-      (source source' : S) (books books' : List B) (total : Sums) (missed : ℕ) (old kept new : Pass)
+      (source source' : S) (books books' : List B) (total : Sums) (missed : ℕ) (given_back : Fates)
+      (old kept new : Pass)
       → RunsAll Runs gives states source after source' → All (λ w. New gates w) states
       → books ≡ reverse (map book states) → books' ≡ reverse (map book after) → total ≡ all_added (map sums after)
-      → missed ≡ capped (sum_by refused after) → FoldsTo Gives old (map pass states) kept
+      → missed ≡ capped (sum_by refused after) → given_back ≡ all_fates (map fates after)
+      → FoldsTo Gives old (map pass states) kept
       → FoldsTo TakesIn kept (reverse (map pass after)) new
-      → WorkedFrom incoming outgoing closes gives false gates old source books total missed new source' books'
-  all_shifted gives gates states after source source' books books' total missed old kept new ran new_ones books_are
-      books_are' adds counts given taken =
+      → (version : Version) → All (λ w. newest w ≡ version) states
+      → WorkedFrom incoming outgoing closes gives false version gates old source books total missed given_back new
+      source' books'
+  all_shifted gives gates states after source source' books books' total missed given_back old kept new ran new_ones
+      books_are books_are' adds counts fated given taken version versions =
       let done = manned gates states ran.parts after ran.leads new_ones in
       let workers : length books ≡ length states =
       ap length books_are ∙ (length-reverse (map book states) ∙ length-map states book) in
@@ -247,6 +326,8 @@ module _ {W T B : Type 0} (incoming outgoing : T → Option (List ℕ)) (closes 
             (sym books_are') done.in_team);
         adds = adds ∙ done.adds;
         counts = counts ∙ done.counts;
+        versions = done.versions version versions;
+        held = fated ∙ done.fated;
         hires = record {
           kept = kept;
           gives = subst (λ passes. FoldsTo Gives old passes kept) (sym done.begun) given;

@@ -1,7 +1,7 @@
 -- What a server did whose workers shared out its places, from what their run led to.
 use Rattle.std.proofs.Common.{◌≡◌, ◌∙◌, ℕ, ◌≤◌, List, [], ◌∷◌, ◌++◌, map, reverse, length, Option, None, ap, refl}
 use Rattle.std.proofs.Common.{sym, subst, arith}
-use Rattle.std.specs.Prelude.{false}
+use Rattle.std.specs.Prelude.{false, true}
 use Rattle.std.specs.List.{All, FoldsTo, flat_map, sum_by}
 use Rattle.std.proofs.lemmas.List.{reverse-append, reverse-reverse}
 use Rattle.std.proofs.lemmas.List.Elements.{All-head, All-tail, All-cons}
@@ -14,14 +14,19 @@ use Rattle.sysv_workers.specs.Running.{GivesBack, LeavesSource, RunsAll}
 use Rattle.sysv_workers.specs.declared.workers.TheConstants.{MAX_WORKERS}
 use Rattle.sysv_workers.specs.declared.refusals.WorkersFault.{WorkersFault}
 use Rattle.sysv_workers.specs.declared.refusals.WorkersFault.TheVariants.{BadCount, NoMemory, Thread, Worn, Missed}
+use Rattle.sysv_wire.specs.declared.frame.Version.{Version}
+use Rattle.sysv_seats.specs.GivingBack.{EachReturnCanBeLeft}
 use Rattle.sysv_seats.specs.Untold.{Closing}
 use Rattle.sysv_engine.specs.declared.fault.ServeFault.{ServeFault}
 use Rattle.sysv_engine.specs.declared.sums.Sums.{Sums}
 use Rattle.sysv_engine.specs.Added.{all_added, capped}
-use Rattle.sysv_engine.specs.Places.{Handled, IsOpened, IsPlace, IsStaffed, KeepsAll, Seated, Standing, Stands, View}
-use Rattle.sysv_engine.specs.Places.{SitsOn, view_of}
+use Rattle.sysv_engine.specs.declared.fates.Fates.{Fates}
+use Rattle.sysv_engine.specs.Fated.{all_fates, none_fated}
+use Rattle.sysv_engine.specs.Places.{IsOpened, IsPlace, IsStaffed, KeepsAll, Seated, Standing, Stands, View}
+use Rattle.sysv_engine.specs.Places.{SitsOn, fates_at_end, has_ended, view_of}
 use Rattle.sysv_engine.specs.Serving.{FaultOf, HiredFrom, IsNew, LeavesConnections, WorkedFrom}
 use Rattle.sysv_engine.proofs.Behind as behind
+use Rattle.sysv_engine.proofs.Endings.{Ending, Ran, all_over, begins, ends}
 use Rattle.sysv_engine.proofs.PlacesRun as run
 use Rattle.sysv_engine.proofs.Reversed.{all_reverse, back_reverse, map_reverse, runs_reverse}
 use Rattle.sysv_engine.proofs.Shifts as shifts
@@ -61,50 +66,59 @@ module _ {X : Type 0} (P : X → Type 0) where
   later_all [] ys all = all
   later_all (x ∷ xs) ys all = later_all xs ys (All-tail P x (xs ++ ys) all)
 
-module _ {T B : Type 0} (incoming outgoing : T → Option (List ℕ)) (closes : Closing T B) (gates : Gates) where
+module _ {T B : Type 0} (incoming outgoing : T → Option (List ℕ)) (closes : Closing T B) (gates : Gates)
+    (newest : Version) where
   abbrev St : Standing (View B) T → Seated B T → Type 0
   St = Stands incoming outgoing closes gates
 
+  -- A place had one more session.
+  abbrev Had : Ending B → T → Ending B → Type 0
+  Had = Ran incoming outgoing closes
+
+  -- A place, as a server begins with it.
+  abbrev begun_as : Seated B T → Ending B
+  begun_as p = begins (view_of p)
+
   -- What the place has had is over.
   abbrev Over : Standing (View B) T → Seated B T → Type 0
-  Over s p = FoldsTo (Handled incoming outgoing closes) s.start s.had (view_of p)
+  Over s p = FoldsTo Had (begins s.start) s.had (ends p)
 
   -- The places, as a server begins with them.
   abbrev begun : List (Seated B T) → List (Standing (View B) T)
   begun ps = map (λ (p : Seated B T). record { start = view_of p; had = [] }) ps
 
-  opened_stands : (p : Seated B T) → IsOpened gates p → St (record { start = view_of p; had = [] }) p
-  opened_stands p is = (
-    is.0,
-    subst (λ c.
-        IsPlace incoming outgoing closes (SitsOn incoming outgoing closes) (record { start = view_of p; had = [] })
-        (view_of p)
-        c) (sym is.2)
-        refl,
-  )
+  opened_stands : (p : Seated B T) → IsOpened gates newest p → St (record { start = view_of p; had = [] }) p
+  opened_stands p is =
+      let s : Standing (View B) T = record { start = view_of p; had = [] } in
+      let Is = IsPlace incoming outgoing closes (SitsOn incoming outgoing closes) s (view_of p) in (
+        is.0,
+        subst (λ c. Is c p.message p.returning) (sym is.4)
+            (subst (λ m. Is None m p.returning) (sym is.5) (refl, is.6)),
+      )
 
-  begun_stand : (ps : List (Seated B T)) → All (IsOpened gates) ps → Each2 St (begun ps) ps
+  begun_stand : (ps : List (Seated B T)) → All (IsOpened gates newest) ps → Each2 St (begun ps) ps
   begun_stand [] all = tt
   begun_stand (p ∷ ps) all =
-      (opened_stands p (All-head (IsOpened gates) p ps all), begun_stand ps (All-tail (IsOpened gates) p ps all))
+      let first = opened_stands p (All-head (IsOpened gates newest) p ps all) in
+      (first, begun_stand ps (All-tail (IsOpened gates newest) p ps all))
 
-  new_views : (ps : List (Seated B T)) → All (IsOpened gates) ps →
-      All (λ (v : View B). IsNew gates v.pass v.sums v.refused) (map view_of ps)
-  new_views [] all = λ k d low. absurd (omega arith)
-  new_views (p ∷ ps) all =
-      All-cons (λ (v : View B). IsNew gates v.pass v.sums v.refused) (view_of p) (map view_of ps)
-      (All-head (IsOpened gates) p ps all).1 (new_views ps (All-tail (IsOpened gates) p ps all))
+  -- The place was not used yet.
+  abbrev New : Ending B → Type 0
+  New e = IsNew gates e.view.pass e.view.sums e.view.refused × (e.view.fates ≡ none_fated)
 
-  vacant_over : (ss : List (Standing (View B) T)) (ps : List (Seated B T)) → Each2 St ss ps →
-      All (λ (p : Seated B T). p.client ≡ None) ps → Each2 Over ss ps
-  vacant_over [] [] each all = tt
-  vacant_over [] (p ∷ ps) each all = absurd each
-  vacant_over (s ∷ ss) [] each all = absurd each
-  vacant_over (s ∷ ss) (p ∷ ps) each all = (
-    subst (λ c. IsPlace incoming outgoing closes (SitsOn incoming outgoing closes) s (view_of p) c)
-        (All-head (λ (p : Seated B T). p.client ≡ None) p ps all) each.0.1,
-    vacant_over ss ps each.1 (All-tail (λ (p : Seated B T). p.client ≡ None) p ps all),
-  )
+  new_ones_of : (ps : List (Seated B T)) → All (IsOpened gates newest) ps → All New (map begun_as ps)
+  new_ones_of [] all = λ k d low. absurd (omega arith)
+  new_ones_of (p ∷ ps) all =
+      let first = All-head (IsOpened gates newest) p ps all in
+      All-cons New (begun_as p) (map begun_as ps) (first.2, first.3)
+      (new_ones_of ps (All-tail (IsOpened gates newest) p ps all))
+
+  versions_of : (ps : List (Seated B T)) → All (IsOpened gates newest) ps →
+      All (λ (e : Ending B). e.view.newest ≡ newest) (map begun_as ps)
+  versions_of [] all = λ k d low. absurd (omega arith)
+  versions_of (p ∷ ps) all =
+      All-cons (λ (e : Ending B). e.view.newest ≡ newest) (begun_as p) (map begun_as ps)
+      (All-head (IsOpened gates newest) p ps all).1 (versions_of ps (All-tail (IsOpened gates newest) p ps all))
 
   pub same_gates : (ss : List (Standing (View B) T)) (ps : List (Seated B T)) → Each2 St ss ps →
       All (λ (p : Seated B T). p.gates ≡ gates) ps
@@ -118,19 +132,19 @@ module _ {T B : Type 0} (incoming outgoing : T → Option (List ℕ)) (closes : 
     abbrev all_of : List W → List (Seated B T)
     all_of ws = flat_map places ws
 
-    fresh : (ws : List W) → All (IsOpened gates) (all_of ws) → All (λ w. 1 ≤ length (places w)) ws →
+    fresh : (ws : List W) → All (IsOpened gates newest) (all_of ws) → All (λ w. 1 ≤ length (places w)) ws →
         All (run.IsFresh places view_of St) ws
     fresh [] opened some = λ k d low. absurd (omega arith)
     fresh (w ∷ ws) opened some =
         All-cons (run.IsFresh places view_of St) w ws (
           All-head (λ w. 1 ≤ length (places w)) w ws some,
-          begun_stand (places w) (first_all (IsOpened gates) (places w) (all_of ws) opened),
+          begun_stand (places w) (first_all (IsOpened gates newest) (places w) (all_of ws) opened),
         )
-        (fresh ws (later_all (IsOpened gates) (places w) (all_of ws) opened)
+        (fresh ws (later_all (IsOpened gates newest) (places w) (all_of ws) opened)
         (All-tail (λ w. 1 ≤ length (places w)) w ws some))
 
     -- Each worker has places that stand.
-    pub staffed : (ws : List W) → All (IsOpened gates) (all_of ws) → All (λ w. 1 ≤ length (places w)) ws →
+    pub staffed : (ws : List W) → All (IsOpened gates newest) (all_of ws) → All (λ w. 1 ≤ length (places w)) ws →
         All (λ w. IsStaffed incoming outgoing closes gates (places w)) ws
     staffed [] opened some = λ k d low. absurd (omega arith)
     staffed (w ∷ ws) opened some =
@@ -138,10 +152,10 @@ module _ {T B : Type 0} (incoming outgoing : T → Option (List ℕ)) (closes : 
           All-head (λ w. 1 ≤ length (places w)) w ws some,
           (
             begun (places w),
-            begun_stand (places w) (first_all (IsOpened gates) (places w) (all_of ws) opened),
+            begun_stand (places w) (first_all (IsOpened gates newest) (places w) (all_of ws) opened),
           ),
         )
-        (staffed ws (later_all (IsOpened gates) (places w) (all_of ws) opened)
+        (staffed ws (later_all (IsOpened gates newest) (places w) (all_of ws) opened)
         (All-tail (λ w. 1 ≤ length (places w)) w ws some))
 
     all_stand : (ws : List W) → All (λ w. IsStaffed incoming outgoing closes gates (places w)) ws →
@@ -161,13 +175,14 @@ module _ {T B : Type 0} (incoming outgoing : T → Option (List ℕ)) (closes : 
         same_gates (reverse stand.0) ps
         (keeps gates (reverse stand.0) (each_reverse St stand.0 (all_of ws') stand.1))
 
-    vacated : (ws' : List W) (ps : List (Seated B T)) → KeepsAll incoming outgoing closes (reverse (all_of ws')) ps →
-        All (λ (p : Seated B T). p.client ≡ None) ps →
-        run.Vacates places view_of St (Handled incoming outgoing closes) (all_of ws') (reverse ps)
-    vacated ws' ps keeps vacant ss each =
+    vacated : EachReturnCanBeLeft → (ws' : List W) (ps : List (Seated B T)) →
+        KeepsAll incoming outgoing closes (reverse (all_of ws')) ps →
+        All (λ (p : Seated B T). has_ended p ≡ true) ps →
+        run.Vacates places view_of St begins ends Had (all_of ws') (reverse ps)
+    vacated law ws' ps keeps ended ss each =
         let kept = keeps gates (reverse ss) (each_reverse St ss (all_of ws') each) in
         subst (λ l. Each2 Over l (reverse ps)) (reverse-reverse ss)
-        (each_reverse Over (reverse ss) ps (vacant_over (reverse ss) ps kept vacant))
+        (each_reverse Over (reverse ss) ps (all_over incoming outgoing closes law gates (reverse ss) ps kept ended))
 
     abbrev pub Runs : W → T → W → Type 0
     Runs = run.Runs places view_of St
@@ -175,7 +190,7 @@ module _ {T B : Type 0} (incoming outgoing : T → Option (List ℕ)) (closes : 
     -- ---- the number of places
 
     module _ {S : Type 0} (gives : S → Option T → S → Type 0) (source source' : S) (ws ws' : List W)
-        (opened : All (IsOpened gates) (all_of ws)) (some : All (λ w. 1 ≤ length (places w)) ws) where
+        (opened : All (IsOpened gates newest) (all_of ws)) (some : All (λ w. 1 ≤ length (places w)) ws) where
       led_as_many : (parts : List (Part W T)) → Leads Runs ws parts ws' → length (all_of ws') ≡ length (all_of ws)
       led_as_many parts leads = run.as_many places view_of St ws ws' parts leads (fresh ws opened some)
 
@@ -196,11 +211,11 @@ module _ {T B : Type 0} (incoming outgoing : T → Option (List ℕ)) (closes : 
 
     -- ---- what the server did
 
-    module _ {S : Type 0} (gives : S → Option T → S → Type 0) (source source' : S) (ws ws' : List W)
-        (ps : List (Seated B T)) (opened : All (IsOpened gates) (all_of ws))
+    module _ (law : EachReturnCanBeLeft) {S : Type 0} (gives : S → Option T → S → Type 0) (source source' : S)
+        (ws ws' : List W) (ps : List (Seated B T)) (opened : All (IsOpened gates newest) (all_of ws))
         (some : All (λ w. 1 ≤ length (places w)) ws)
         (keeps : KeepsAll incoming outgoing closes (reverse (all_of ws')) ps)
-        (vacant : All (λ (p : Seated B T). p.client ≡ None) ps) where
+        (ended : All (λ (p : Seated B T). has_ended p ≡ true) ps) where
       all_fresh : All (run.IsFresh places view_of St) ws
       all_fresh = fresh ws opened some
 
@@ -208,79 +223,87 @@ module _ {T B : Type 0} (incoming outgoing : T → Option (List ℕ)) (closes : 
       abbrev in_order : List (Seated B T)
       in_order = reverse (all_of ws)
 
-      first_views : reverse (map view_of (all_of ws)) ≡ map view_of in_order
-      first_views = sym (map_reverse view_of (all_of ws))
+      first_ones : reverse (map begins (map view_of (all_of ws))) ≡ map begun_as in_order
+      first_ones = ap reverse (map_both begins view_of (all_of ws)) ∙ sym (map_reverse begun_as (all_of ws))
 
-      last_views : reverse (map view_of (reverse ps)) ≡ map view_of ps
-      last_views = ap reverse (map_reverse view_of ps) ∙ reverse-reverse (map view_of ps)
+      last_ones : reverse (map ends (reverse ps)) ≡ map ends ps
+      last_ones = ap reverse (map_reverse ends ps) ∙ reverse-reverse (map ends ps)
 
       -- The places had sessions over all connections of the source.
       places_ran : RunsAll Runs gives ws source ws' source' →
-          RunsAll (Handled incoming outgoing closes) gives (map view_of in_order) source (map view_of ps) source'
+          RunsAll Had gives (map begun_as in_order) source (map ends ps) source'
       places_ran ran =
-          subst (λ l. RunsAll (Handled incoming outgoing closes) gives l source (map view_of ps) source') first_views
-          (subst (λ l. RunsAll (Handled incoming outgoing closes) gives (reverse (map view_of (all_of ws))) source l
-          source') last_views
-          (runs_reverse (Handled incoming outgoing closes) gives (map view_of (all_of ws)) (map view_of (reverse ps))
-          source source'
-          (run.all_run places view_of St (Handled incoming outgoing closes) gives ws ws' source source' (reverse ps)
-          ran all_fresh (vacated ws' ps keeps vacant))))
+          subst (λ l. RunsAll Had gives l source (map ends ps) source') first_ones
+          (subst (λ l. RunsAll Had gives (reverse (map begins (map view_of (all_of ws)))) source l source') last_ones
+          (runs_reverse Had gives (map begins (map view_of (all_of ws))) (map ends (reverse ps)) source source'
+          (run.all_run places view_of St begins ends Had gives ws ws' source source' (reverse ps) ran all_fresh
+          (vacated law ws' ps keeps ended))))
 
       places_back : (why : WorkersFault) → GivesBack Runs ws why ws' →
-          GivesBack (Handled incoming outgoing closes) (map view_of in_order) why (map view_of ps)
+          GivesBack Had (map begun_as in_order) why (map ends ps)
       places_back why back =
-          subst (λ l. GivesBack (Handled incoming outgoing closes) l why (map view_of ps)) first_views
-          (subst (λ l. GivesBack (Handled incoming outgoing closes) (reverse (map view_of (all_of ws))) why l)
-          last_views
-          (back_reverse (Handled incoming outgoing closes) why (map view_of (all_of ws)) (map view_of (reverse ps))
-          (run.given_back places view_of St (Handled incoming outgoing closes) why ws ws' (reverse ps) back all_fresh
-          (vacated ws' ps keeps vacant))))
+          subst (λ l. GivesBack Had l why (map ends ps)) first_ones
+          (subst (λ l. GivesBack Had (reverse (map begins (map view_of (all_of ws)))) why l) last_ones
+          (back_reverse Had why (map begins (map view_of (all_of ws))) (map ends (reverse ps))
+          (run.given_back places view_of St begins ends Had why ws ws' (reverse ps) back all_fresh
+          (vacated law ws' ps keeps ended))))
 
       module _ (books books' : List B) (old kept new : Pass)
           (first_books : books ≡ map (λ (p : Seated B T). p.book) (all_of ws))
           (last_books : books' ≡ reverse (map (λ (p : Seated B T). p.book) ps))
           (given : FoldsTo Gives old (reverse (map (λ (p : Seated B T). p.pass) (all_of ws))) kept)
           (taken : FoldsTo TakesIn kept (reverse (map (λ (p : Seated B T). p.pass) ps)) new) where
-        new_ones : All (λ (v : View B). IsNew gates v.pass v.sums v.refused) (map view_of in_order)
-        new_ones = new_views in_order (all_reverse (IsOpened gates) (all_of ws) opened)
+        opened_in_order : All (IsOpened gates newest) in_order
+        opened_in_order = all_reverse (IsOpened gates newest) (all_of ws) opened
+
+        new_ones : All New (map begun_as in_order)
+        new_ones = new_ones_of in_order opened_in_order
 
         -- What the places had at first, in their order.
-        at_first : {X : Type 0} (of : View B → X) →
-            map of (map view_of in_order) ≡ reverse (map (λ (p : Seated B T). of (view_of p)) (all_of ws))
-        at_first of = map_both of view_of in_order ∙ map_reverse (λ (p : Seated B T). of (view_of p)) (all_of ws)
+        at_first : {X : Type 0} (of : Ending B → X) →
+            map of (map begun_as in_order) ≡ reverse (map (λ (p : Seated B T). of (begun_as p)) (all_of ws))
+        at_first of = map_both of begun_as in_order ∙ map_reverse (λ (p : Seated B T). of (begun_as p)) (all_of ws)
 
-        books_at_first : books ≡ reverse (map (λ (v : View B). v.book) (map view_of in_order))
+        books_at_first : books ≡ reverse (map (λ (e : Ending B). e.view.book) (map begun_as in_order))
         books_at_first = first_books
-            ∙ sym (ap reverse (at_first (λ (v : View B). v.book))
+            ∙ sym (ap reverse (at_first (λ (e : Ending B). e.view.book))
             ∙ reverse-reverse (map (λ (p : Seated B T). p.book) (all_of ws)))
 
-        pub all_worked : (total : Sums) (missed : ℕ) → total ≡ all_added (map (λ (p : Seated B T). p.sums) ps) →
-            missed ≡ capped (sum_by (λ (p : Seated B T). p.refused) ps) → RunsAll Runs gives ws source ws' source' →
-            WorkedFrom incoming outgoing closes gives false gates old source books total missed new source' books'
-        all_worked total missed adds counts ran =
-            shifts.all_shifted incoming outgoing closes (λ (v : View B). v.pass) (λ (v : View B). v.sums)
-            (λ (v : View B). v.refused) (λ (v : View B). v.book) gives gates (map view_of in_order) (map view_of ps)
-            source source' books books' total missed old kept new (places_ran ran) new_ones
-            books_at_first
-            (last_books ∙ ap reverse (sym (map_both (λ (v : View B). v.book) view_of ps)))
-            (adds ∙ ap all_added (sym (map_both (λ (v : View B). v.sums) view_of ps)))
-            (counts ∙ ap capped (sym (sum_by_map (λ (v : View B). v.refused) view_of ps)))
-            (subst (λ l. FoldsTo Gives old l kept) (sym (at_first (λ (v : View B). v.pass))) given)
-            (subst (λ l. FoldsTo TakesIn kept (reverse l) new) (sym (map_both (λ (v : View B). v.pass) view_of ps))
+        pub all_worked : (total : Sums) (missed : ℕ) (returned : Fates) →
+            total ≡ all_added (map (λ (p : Seated B T). p.sums) ps) →
+            missed ≡ capped (sum_by (λ (p : Seated B T). p.refused) ps) →
+            returned ≡ all_fates (map fates_at_end ps) → RunsAll Runs gives ws source ws' source' →
+            WorkedFrom incoming outgoing closes gives false newest gates old source books total missed returned new
+            source' books'
+        all_worked total missed returned adds counts fated ran =
+            shifts.all_shifted incoming outgoing closes (λ (e : Ending B). e.view.pass)
+            (λ (e : Ending B). e.view.sums) (λ (e : Ending B). e.view.refused) (λ (e : Ending B). e.view.book)
+            (λ (e : Ending B). e.view.newest) (λ (e : Ending B). e.view.fates) (λ (e : Ending B). e.is_left) gives gates
+            (map begun_as in_order) (map ends ps) source source' books books' total missed returned old kept new
+            (places_ran ran) new_ones books_at_first
+            (last_books ∙ ap reverse (sym (map_both (λ (e : Ending B). e.view.book) ends ps)))
+            (adds ∙ ap all_added (sym (map_both (λ (e : Ending B). e.view.sums) ends ps)))
+            (counts ∙ ap capped (sym (sum_by_map (λ (e : Ending B). e.view.refused) ends ps)))
+            (fated ∙ ap all_fates (sym (map_both (λ (e : Ending B). e.view.fates) ends ps)))
+            (subst (λ l. FoldsTo Gives old l kept) (sym (at_first (λ (e : Ending B). e.view.pass))) given)
+            (subst (λ l. FoldsTo TakesIn kept (reverse l) new)
+            (sym (map_both (λ (e : Ending B). e.view.pass) ends ps))
             taken)
+            newest (versions_of in_order opened_in_order)
 
         pub all_left : (workers : ℕ) → workers ≤ MAX_WORKERS → (why : WorkersFault) (told : ServeFault) →
             FaultOf why told → LeavesSource gives workers source why source' → GivesBack Runs ws why ws' →
             LeavesConnections incoming outgoing closes gives (HiredFrom false gates old new) source books told source'
             books'
         all_left workers few why told named leaves back =
-            shifts.all_left incoming outgoing closes (λ (v : View B). v.pass) (λ (v : View B). v.sums)
-            (λ (v : View B). v.refused) (λ (v : View B). v.book) gives gates (map view_of in_order) (map view_of ps)
-            source source' books books' old kept new new_ones
-            books_at_first
-            (last_books ∙ ap reverse (sym (map_both (λ (v : View B). v.book) view_of ps)))
-            (subst (λ l. FoldsTo Gives old l kept) (sym (at_first (λ (v : View B). v.pass))) given)
-            (subst (λ l. FoldsTo TakesIn kept (reverse l) new) (sym (map_both (λ (v : View B). v.pass) view_of ps))
+            shifts.all_left incoming outgoing closes (λ (e : Ending B). e.view.pass) (λ (e : Ending B). e.view.sums)
+            (λ (e : Ending B). e.view.refused) (λ (e : Ending B). e.view.book) (λ (e : Ending B). e.view.newest)
+            (λ (e : Ending B). e.view.fates) (λ (e : Ending B). e.is_left) gives gates (map begun_as in_order)
+            (map ends ps) source source' books books' old kept new new_ones books_at_first
+            (last_books ∙ ap reverse (sym (map_both (λ (e : Ending B). e.view.book) ends ps)))
+            (subst (λ l. FoldsTo Gives old l kept) (sym (at_first (λ (e : Ending B). e.view.pass))) given)
+            (subst (λ l. FoldsTo TakesIn kept (reverse l) new)
+            (sym (map_both (λ (e : Ending B). e.view.pass) ends ps))
             taken) workers few why told named leaves (places_back why back)
 
 -- ---- a source behind another

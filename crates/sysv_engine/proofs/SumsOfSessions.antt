@@ -19,10 +19,10 @@ sums_are a b p q r s =
     let k : ℕ → Sums = λ n. record { sessions = b.sessions; taken = b.taken; written = b.written; lost = n } in
     ap f p ∙ (ap g q ∙ (ap h r ∙ ap k s))
 
-cap_one : (x y : ℕ) → capped (capped x + y) ≡ capped (x + y)
+pub cap_one : (x y : ℕ) → capped (capped x + y) ≡ capped (x + y)
 cap_one x y = omega arith
 
-cap_both : (x y z : ℕ) → capped y ≡ capped z → capped (capped x + y) ≡ capped (x + z)
+pub cap_both : (x y z : ℕ) → capped y ≡ capped z → capped (capped x + y) ≡ capped (x + z)
 cap_both x y z h = omega arith
 
 cap_moves : (s x r : ℕ) → capped (capped (s + x) + capped r) ≡ capped (s + capped (r + x))

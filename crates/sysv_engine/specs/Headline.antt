@@ -12,13 +12,14 @@
 -- system does with them. What is kept of a connection when it is closed is in the book of the place
 -- that served it.
 use Rattle.std.specs.Prelude.{◌≡◌, ℕ, Bool, List, Option, length}
+use Rattle.std.specs.List.{AllByRecursion}
 use Rattle.std.specs.List.Sorted.{IsPermutation}
 use Rattle.sysv_service.specs.Opened.{AreOpen}
 use Rattle.sysv_service.specs.Seats.{Gates}
 use Rattle.sysv_workers.specs.Sources.{GivesAll}
 use Rattle.sysv_engine.specs.declared.terms.Ended.{Ended}
 use Rattle.sysv_engine.specs.Desks.{Desk, InTeam, AreServedInOrder, all_connections}
-use Rattle.sysv_engine.specs.Handled.{Shift, cut_off_of, sums_of, refused_of, told_in}
+use Rattle.sysv_engine.specs.Handled.{Shift, backs_in, cut_off_of, fates_of, newest_of, sums_of, refused_of, told_in}
 use Rattle.sysv_engine.specs.OneRun.{Lived}
 use Rattle.sysv_seats.specs.Untold.{Closing}
 
@@ -52,6 +53,13 @@ pub record ServesConnections {S T B : Type 0} (incoming outgoing : T → Option 
   -- No message was lost if no session ended because its connection failed or was reset, or because its
   -- memory was refused.
   pub lost : cut_off_of (told_in shifts) ≡ 0 → ended.sums.lost ≡ 0
+  -- Sessions read versions up to 3 if they might hold messages, and else up to 2.
+  pub versions : AllByRecursion (λ (shift : Shift). shift.newest ≡ newest_of ended.setting.holds) shifts
+  -- Each message that a hold gave was spent by a done, or the session held it at its end, and the next session of
+  -- its place began after a send had given it back that was accepted, found no queue any more, or was refused. Only
+  -- that of the last session of a place may still wait, and then the message is lost. So many met each of these
+  -- fates.
+  pub held : ended.fates ≡ fates_of (backs_in shifts)
   -- The calls of these very sessions and the removals of the stop are one run, which obeys, and the
   -- gates were closed after it.
   pub lived : Lived reads blocks gates shifts ended.removed

@@ -5,6 +5,7 @@ pub mod Looking
 pub mod Looks
 pub mod Made
 pub mod Added
+pub mod Fated
 pub mod Converses
 pub mod Handled
 pub mod Desks

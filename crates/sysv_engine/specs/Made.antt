@@ -1,6 +1,7 @@
 -- The calls of a service that a session makes: one for each request, except for a request for a
--- row and for one that would hold a message, which is refused. Each request is answered as its call
--- ended, or its call was left at a wait and has no reply (this project's profile).
+-- row, for a done, and for a hold or a back that is refused. Each request is answered as its call
+-- ended, or its call was left at a wait and has no reply. A session that held a message at its end is
+-- followed by one call more, which gives the message back (this project's profile).
 use Rattle.std.specs.Prelude.{◌≡◌, ℕ, List, [], ◌∷◌, ◌++◌, Option, Result}
 use Rattle.sysv_keys.specs.declared.identifier.TheConstants.{SLOTS}
 use Rattle.sysv_model.specs.declared.attributes.Row.{Row}
@@ -17,9 +18,14 @@ use Rattle.sysv_service.specs.Ran.{Pass, Ran}
 use Rattle.sysv_service.specs.Told.{TellsRow}
 use Rattle.sysv_thread_laws.specs.Working.{Works}
 use Rattle.sysv_steps.specs.Begin.{begin}
-use Rattle.sysv_wire.specs.declared.frame.Version.TheVariants.{Two}
-use Rattle.sysv_seats.specs.Asked.{ReadsReleased, ServesPassTogether}
-use Rattle.sysv_seats.specs.Requests as requests
+use Rattle.sysv_session.specs.declared.handler.RequestOutcome.{RequestOutcome}
+use Rattle.sysv_wire.specs.declared.frame.Version.{Version}
+use Rattle.sysv_seats.specs.Asked.{ReadsReleased}
+use Rattle.sysv_seats.specs.GivingBack.{GivesBack}
+use Rattle.sysv_seats.specs.Held.{ServesHolding}
+use Rattle.sysv_seats.specs.Holding as holding
+use Rattle.sysv_seats.specs.Holding.{Holder, empty_handed}
+use Rattle.sysv_seats.specs.Sits.{zero_moment}
 use Rattle.sysv_seats.specs.Requests.{Going}
 
 -- A pass, and the calls that were made with it so far.
@@ -30,6 +36,10 @@ pub record Log : Type 0 where
 -- This pass with these calls.
 abbrev pub log : Pass → List Called → Log
 log pass made = record { pass = pass; made = made }
+
+-- The same, of a session that holds this.
+abbrev pub held_in : List Called → Holder Pass → Holder Log
+held_in made holder = record { at = log holder.at made; message = holder.message }
 
 -- The call was made with the pass, and is added to the calls made with it.
 abbrev pub MakesCall : Going Log
@@ -46,24 +56,38 @@ abbrev pub ShowsBeside : ℕ → Log → Result (Option Row) Errno → Log → T
 ShowsBeside slot before answer after = TellsRow slot before.pass answer after.pass × (after.made ≡ before.made)
 
 -- Request by request: the outcome, and the call that was made.
-abbrev pub makes_with : (ℕ → Type 0) → Type 0 → Meaning Log
+abbrev pub makes_with : (ℕ → Type 0) → Type 0 → Meaning (Holder Log)
 makes_with may may_leave old cred request text outcome given new =
-    requests.Asks MakesCall ReadsBeside ShowsBeside may may_leave request.version cred request.ask text old outcome
+    holding.HoldAsks MakesCall ReadsBeside ShowsBeside may may_leave request.version cred request.ask text old outcome
     given new
 
--- What a session over a service did to its pass, and the calls that it made of the service.
-abbrev pub ServesLog : (ℕ → Type 0) → Type 0 → Served → (old new : Log) → (left rest taken more : Option (List ℕ)) →
-    Type 0
-ServesLog may may_leave served old new left rest taken more =
-    ServesTogether Two (makes_with may may_leave) SLOTS served old new left rest taken more
+-- What a session over a service did to its pass, the calls that it made of the service, and what it held at
+-- its end.
+abbrev pub ServesLog : Version → (ℕ → Type 0) → Type 0 → Served → (old : Log) → (new : Holder Log) →
+    (left rest taken more : Option (List ℕ)) → Type 0
+ServesLog newest may may_leave served old new left rest taken more =
+    ServesTogether newest (makes_with may may_leave) SLOTS served (empty_handed old) new left rest taken more
+
+-- The call that gave back what a session held at its end, if it held something.
+abbrev pub GivesBackIn : (ℕ → Type 0) → Holder Log → Option RequestOutcome → Log → Type 0
+GivesBackIn = holding.GivesBack MakesCall ReadsBeside ShowsBeside
 
 -- Each session over a service makes such calls, and no other call is made with its pass: together
 -- with the calls that were made from a start up to the session, they are all that the pass made
 -- from that start. Each of the calls is over or was left at a wait.
 abbrev pub EachSessionMakesCalls : (ℕ → Type 0) → Type 0 → Type 0
 EachSessionMakesCalls may may_leave =
-    (start old new : Pass) (made : List Called) (served : Served) (left rest taken more : Option (List ℕ)) →
-    Works start made old → ServesPassTogether may may_leave served old new left rest taken more →
+    (newest : Version) (start old : Pass) (new : Holder Pass) (made : List Called) (served : Served)
+    (left rest taken more : Option (List ℕ)) →
+    Works start made old → ServesHolding newest may may_leave served old new left rest taken more →
+    (calls : List Called) × Works start (made ++ calls) new.at
+    × ServesLog newest may may_leave served (log old made) (held_in (made ++ calls) new) left rest taken more ×
+    AllByRecursion (λ (call : Called). Rests call.state) calls
+
+-- So does what gives back the message that a session held at its end.
+abbrev pub EachReturnMakesACall : Type 0
+EachReturnMakesACall = (start : Pass) (old : Holder Pass) (made : List Called) (back : Option RequestOutcome)
+    (new : Pass) → Works start made old.at → GivesBack old back new →
     (calls : List Called) × Works start (made ++ calls) new
-    × ServesLog may may_leave served (log old made) (log new (made ++ calls)) left rest taken more ×
+    × GivesBackIn zero_moment (held_in made old) back (log new (made ++ calls)) ×
     AllByRecursion (λ (call : Called). Rests call.state) calls

@@ -1,15 +1,23 @@
 -- The places of a worker (this project's profile). A worker of a server has several places, each
 -- with a pass of its own. A place has one client after another.
 use Rattle.std.specs.Prelude.{◌≡◌, ℕ, List, [], ◌∷◌, ◌++◌, ◌<◌, ◌≤◌, length, Option, None, Some}
-use Rattle.std.specs.Prelude.{Bool, is_some, not, slice_index_or}
+use Rattle.std.specs.Prelude.{Bool, true, cond, is_some, not, ◌||◌, ◌&&◌, slice_index_or, IsSomeAnd}
 use Rattle.std.specs.List.{FoldsTo}
 use Rattle.sysv_bank.specs.Banks.{Each2}
 use Rattle.sysv_service.specs.Ran.{Pass}
 use Rattle.sysv_service.specs.Seats.{Gates}
+use Rattle.sysv_wire.specs.declared.frame.Version.{Version}
+use Rattle.sysv_steps.specs.declared.send.SendWait.{SendWait}
+use Rattle.sysv_seats.specs.declared.returning.Return.{Return}
+use Rattle.sysv_seats.specs.declared.returning.Return.TheVariants as come
+use Rattle.sysv_seats.specs.GivingBack.{WaitsBack}
+use Rattle.sysv_seats.specs.Holding.{Holder, Message}
 use Rattle.sysv_seats.specs.Sits.{Sits, Sitting}
 use Rattle.sysv_seats.specs.Untold.{Closing}
 use Rattle.sysv_engine.specs.declared.sums.Sums.{Sums}
-use Rattle.sysv_engine.specs.Handled.{Handles}
+use Rattle.sysv_engine.specs.Fated.{none_fated, one_fated, with_unsent}
+use Rattle.sysv_engine.specs.declared.fates.Fates.{Fates}
+use Rattle.sysv_engine.specs.Handled.{Handles, Leaves}
 use Rattle.sysv_engine.specs.Serving.{IsNew}
 
 -- A place as the server began with it, and the connections that were adopted in it since then, in
@@ -40,74 +48,156 @@ module _ {V T : Type 0} where
 
 -- ---- a place of a server
 
--- What the contracts see of a place without a client: its pass, the sums of its sessions, the number
--- of those whose memory was refused, and its book.
+-- What the contracts see of a place without a client: its pass, the newest version that its sessions read, the
+-- sums of its sessions, the number of those whose memory was refused, and its book.
 pub record View (B : Type 0) : Type 0 where
   pub pass : Pass
+  pub newest : Version
   pub sums : Sums
   pub refused : ℕ
+  pub fates : Fates
   pub book : B
 
 -- The same place with this pass.
 abbrev pub with_pass : {B : Type 0} → Pass → View B → View B
-with_pass pass view = record { pass = pass; sums = view.sums; refused = view.refused; book = view.book }
+with_pass pass view = record {
+  pass = pass;
+  newest = view.newest;
+  sums = view.sums;
+  refused = view.refused;
+  fates = view.fates;
+  book = view.book;
+}
 
 module _ {T B : Type 0} (incoming outgoing : T → Option (List ℕ)) (closes : Closing T B) where
-  -- The place had one more session, on this connection.
+  -- The place had one more session, on this connection, and what the session held was given back.
   abbrev pub Handled : View B → T → View B → Type 0
-  Handled old connection new = Handles incoming outgoing closes connection old.pass old.sums old.refused old.book
-      new.pass new.sums new.refused new.book
+  Handled old connection new = (new.newest ≡ old.newest)
+      × Handles incoming outgoing closes old.newest connection old.pass old.sums old.refused old.fates old.book
+      new.pass new.sums new.refused new.fates new.book
 
-  -- A place without a client has had a session on each of its connections. A place with a client has
-  -- had one on each connection but the last, and the client is on the last: its session began with
-  -- the pass that the place had then. `Sits` states how far it is.
-  abbrev pub IsPlace : {C : Type 0} → (Sits : Pass → T → C → Pass → Type 0) → Standing (View B) T → View B → Option C →
-      Type 0
-  IsPlace Sits place view None = FoldsTo Handled place.start place.had view
-  IsPlace Sits place view (Some client) = (done : List T) × (connection : T) × (pass : Pass)
+  -- The place had one more session, on this connection, which left the pass `after` and a message. What gives
+  -- the message back has not ended.
+  abbrev pub HasLeft : View B → T → Holder Pass → View B → Type 0
+  HasLeft old connection after new = (new.newest ≡ old.newest) × (new.fates ≡ old.fates)
+      × Leaves incoming outgoing closes old.newest connection old.pass old.sums old.refused old.book None after new.sums
+      new.refused new.book
+
+  -- What gives back the message was not begun; or it waits.
+  abbrev pub ComesBackAt : Holder Pass → Option SendWait → Holder Pass → Type 0
+  ComesBackAt left None now = now ≡ left
+  ComesBackAt left (Some wait) now = WaitsBack left.at now wait × (now.message ≡ left.message)
+
+  -- A place without a client and without a message has had a session on each of its connections. A place with a
+  -- client has had one on each connection but the last, and the client is on the last: its session began with the
+  -- pass that the place had then. `Sits` states how far it is. A place that has a message and no client has had one
+  -- on each connection, and gives back what the last one held.
+  abbrev pub IsPlace : {C : Type 0} → (Sits : Version → Pass → T → C → Holder Pass → Type 0) → Standing (View B) T →
+      View B → Option C → Option Message → Option SendWait → Type 0
+  IsPlace Sits place view (Some client) message returning = (done : List T) × (connection : T) × (pass : Pass)
       × (place.had ≡ done ++ connection ∷ []) × FoldsTo Handled place.start done (with_pass pass view)
-      × Sits pass connection client view.pass
+      × Sits view.newest pass connection client (record { at = view.pass; message = message }) × (returning ≡ None)
+  IsPlace Sits place view None None returning = FoldsTo Handled place.start place.had view × (returning ≡ None)
+  IsPlace Sits place view None (Some message) returning =
+      (done : List T) × (connection : T) × (mid : View B) × (left : Holder Pass)
+      × (place.had ≡ done ++ connection ∷ []) × FoldsTo Handled place.start done mid
+      × HasLeft mid connection left view
+      × ComesBackAt left returning (record { at = view.pass; message = Some message })
 
--- What the contracts see of a place: the gates of its service, its pass, the sums of its sessions,
--- the number of those whose memory was refused, its book, and its client, if it has one.
+-- What the contracts see of a place: the gates of its service, its pass, the newest version that its sessions
+-- read, the sums of its sessions, the number of those whose memory was refused, its book, its client, if it has
+-- one, the message that is held at it, and the wait of the
+-- send that gives it back, if that send waits.
 pub record Seated (B T : Type 0) : Type 0 where
   pub gates : Gates
   pub pass : Pass
+  pub newest : Version
   pub sums : Sums
   pub refused : ℕ
+  pub fates : Fates
   pub book : B
   pub client : Option (Sitting T)
+  pub message : Option Message
+  pub returning : Option SendWait
 
 abbrev pub view_of : {B T : Type 0} → Seated B T → View B
-view_of place = record { pass = place.pass; sums = place.sums; refused = place.refused; book = place.book }
+view_of place = record {
+  pass = place.pass;
+  newest = place.newest;
+  sums = place.sums;
+  refused = place.refused;
+  fates = place.fates;
+  book = place.book;
+}
+
+-- What became of the messages that the sessions of a place held, once the place is ended. A message that is still held
+-- is lost.
+abbrev pub fates_at_end : {B T : Type 0} → Seated B T → Fates
+fates_at_end place = cond (is_some place.message) (with_unsent place.fates) place.fates
 
 -- The client is idle: no call is parked, nothing that was read is still to be taken up, and its
 -- connection has taken all replies.
 abbrev pub IsIdle : {T : Type 0} → Sitting T → Type 0
 IsIdle client = (client.parked ≡ None) × (length client.input ≡ 0) × (length client.dialogue.unsent.bytes ≡ 0)
 
+-- There is a client, which is idle and holds no message.
+abbrev pub IsIdleAt : {B T : Type 0} → Seated B T → Type 0
+IsIdleAt place = IsSomeAnd place.client IsIdle × (place.message ≡ None)
+
 -- The place, taken by this client.
 abbrev pub taken_by : {B T : Type 0} → Sitting T → Seated B T → Seated B T
 taken_by client place = record {
   gates = place.gates;
   pass = place.pass;
+  newest = place.newest;
   sums = place.sums;
   refused = place.refused;
+  fates = place.fates;
   book = place.book;
   client = Some client;
+  message = place.message;
+  returning = place.returning;
+}
+
+-- The wait of a return that has come so far.
+abbrev pub wait_in : Return → Option SendWait
+wait_in (come.Waits wait) = Some wait
+wait_in come.Nothing = None
+wait_in (come.Over what) = None
+
+-- The numbers once a return has come so far.
+abbrev pub fates_by : Fates → Return → Fates
+fates_by fates (come.Waits wait) = fates
+fates_by fates come.Nothing = fates
+fates_by fates (come.Over what) = one_fated what fates
+
+-- The place, once the return of what is held at it has come so far.
+abbrev pub come_so_far : {B T : Type 0} → Return → Seated B T → Seated B T
+come_so_far came place = record {
+  gates = place.gates;
+  pass = place.pass;
+  newest = place.newest;
+  sums = place.sums;
+  refused = place.refused;
+  fates = fates_by place.fates came;
+  book = place.book;
+  client = place.client;
+  message = place.message;
+  returning = wait_in came;
 }
 
 module _ {T B : Type 0} (incoming outgoing : T → Option (List ℕ)) (closes : Closing T B) where
   -- The client's session began with the pass `start`, on the connection `origin`. What may break it
   -- off is what it was then.
-  abbrev pub SitsOn : Pass → T → Sitting T → Pass → Type 0
-  SitsOn start origin client now =
-      Sits incoming outgoing start origin client now × (closes.breaks client.connection ≡ closes.breaks origin)
+  abbrev pub SitsOn : Version → Pass → T → Sitting T → Holder Pass → Type 0
+  SitsOn newest start origin client now =
+      Sits incoming outgoing newest start origin client now × (closes.breaks client.connection ≡ closes.breaks origin)
 
   -- The place is one of a service with these gates, and is what it has to be after what it has had.
   abbrev pub Stands : Gates → Standing (View B) T → Seated B T → Type 0
   Stands gates standing place = (place.gates ≡ gates)
-      × IsPlace incoming outgoing closes SitsOn standing (view_of place) place.client
+      × IsPlace incoming outgoing closes SitsOn standing (view_of place) place.client place.message
+      place.returning
 
   -- Whatever the place has had, it has had the same now.
   abbrev pub KeepsPlace : (old new : Seated B T) → Type 0
@@ -138,15 +228,23 @@ module _ {T B : Type 0} (incoming outgoing : T → Option (List ℕ)) (closes : 
   abbrev pub AdoptsAt : Gates → T → (old new : List (Seated B T)) → Type 0
   AdoptsAt gates connection old new = Serves (Stands gates) old connection new
 
--- The place has no client.
+-- The place has no client, and gives back no message.
 abbrev pub is_vacant : {B T : Type 0} → Seated B T → Bool
-is_vacant place = not (is_some place.client)
+is_vacant place = not (is_some place.client || is_some place.message)
 
--- There is a place of this number, and it has no client.
+-- The place has no client. If it gives back a message, the send that does so waits.
+abbrev pub has_ended : {B T : Type 0} → Seated B T → Bool
+has_ended place = not (is_some place.client) && (not (is_some place.message) || is_some place.returning)
+
+-- There is a place of this number, and it is vacant.
 abbrev pub IsVacantAt : {B T : Type 0} → ℕ → List (Seated B T) → Type 0
 IsVacantAt {B} {T} at places =
-    (at < length places) × ((other : Seated B T) → (slice_index_or places at other).client ≡ None)
+    (at < length places) × ((other : Seated B T) → is_vacant (slice_index_or places at other) ≡ true)
 
--- The place is one of a service with these gates, and no client has had it yet.
-abbrev pub IsOpened : {B T : Type 0} → Gates → Seated B T → Type 0
-IsOpened gates place = (place.gates ≡ gates) × IsNew gates place.pass place.sums place.refused × (place.client ≡ None)
+-- The place is one of a service with these gates, its sessions read versions up to this one, and no client has had
+-- it yet.
+abbrev pub IsOpened : {B T : Type 0} → Gates → Version → Seated B T → Type 0
+IsOpened gates newest place = (place.gates ≡ gates) × (place.newest ≡ newest)
+    × IsNew gates place.pass place.sums place.refused × (place.fates ≡ none_fated) × (place.client ≡ None) ×
+    (place.message ≡ None)
+    × (place.returning ≡ None)

@@ -2,6 +2,7 @@
 -- places share one service, each place has a pass of its own, and there is one session for each
 -- connection.
 use Rattle.std.specs.Prelude.{◌≡◌, ◌≤◌, ◌+◌, ◌^◌, ℕ, Bool, List, [], Option, Result, length}
+use Rattle.std.specs.List.{AllByRecursion}
 use Rattle.std.specs.List.Sorted.{IsPermutation}
 use Rattle.sysv_service.specs.Opened.{AreOpen}
 use Rattle.sysv_service.specs.Seats.{Gates, AreOf}
@@ -13,21 +14,24 @@ use Rattle.sysv_workers.specs.Sources.{GivesAll, Gave, Returned}
 use Rattle.sysv_workers.specs.declared.workers.TheConstants.{MAX_WORKERS}
 use Rattle.sysv_engine.specs.declared.fault.ServeFault.{ServeFault}
 use Rattle.sysv_engine.specs.declared.fault.ServeFault.TheVariants.{NoMemory, Thread, Worn, Missed}
+use Rattle.sysv_engine.specs.declared.fates.Fates.{Fates}
 use Rattle.sysv_engine.specs.declared.sums.Sums.{Sums}
 use Rattle.sysv_engine.specs.declared.terms.Patience.{Patience}
 use Rattle.sysv_engine.specs.declared.terms.Setting.{Setting}
 use Rattle.sysv_engine.specs.Added.{nothing}
 use Rattle.sysv_engine.specs.Desks.{Desk, InTeam, AreServedInOrder, all_connections}
-use Rattle.sysv_engine.specs.Handled.{Shift, sums_of, refused_of, told_in}
+use Rattle.sysv_engine.specs.Handled.{Shift, backs_in, fates_of, sums_of, refused_of, told_in}
 use Rattle.sysv_engine.specs.Looking.{HiresBy}
 use Rattle.sysv_engine.specs.OneRun.{Lived}
 use Rattle.sysv_seats.specs.Untold.{Closing}
+use Rattle.sysv_wire.specs.declared.frame.Version.{Version}
 
--- A server ran with this number of workers, which let a client take this long, and with this number of seconds
--- after which its orderly end was to cut sessions off, 0 for never. That the seconds pass is not stated.
-abbrev pub RunsWith : (workers : ℕ) → Patience → (drain : ℕ) → Setting → Type 0
-RunsWith workers patience drain setting =
-    (setting.workers ≡ workers) × (setting.patience ≡ patience) × (setting.drain ≡ drain)
+-- A server ran with this number of workers, which let a client take this long, with this number of seconds
+-- after which its orderly end was to cut sessions off, 0 for never. Its sessions might hold messages if `holds` is
+-- true. That the seconds pass is not stated.
+abbrev pub RunsWith : (workers : ℕ) → Patience → (drain : ℕ) → (holds : Bool) → Setting → Type 0
+RunsWith workers patience drain holds setting = (setting.workers ≡ workers) × (setting.patience ≡ patience)
+    × (setting.drain ≡ drain) × (setting.holds ≡ holds)
 
 -- A client may take as long as it likes.
 abbrev pub unbounded : Patience
@@ -68,9 +72,8 @@ module _ {S T B : Type 0} (incoming outgoing : T → Option (List ℕ)) (closes 
     (gives : S → Option T → S → Type 0) where
   -- The places served the connections that the source returned. They began with passes that were
   -- split off from the pass `old`, and the passes that they left were joined back into it.
-  pub record WorkedFrom (reads : Bool) (gates : Gates) (old : Pass) (source : S) (books : List B) (sums : Sums)
-      (refused : ℕ)
-      (new : Pass) (source' : S) (books' : List B) : Type 0 where
+  pub record WorkedFrom (reads : Bool) (newest : Version) (gates : Gates) (old : Pass) (source : S) (books : List B)
+      (sums : Sums) (refused : ℕ) (fates : Fates) (new : Pass) (source' : S) (books' : List B) : Type 0 where
     pub given : List T
     pub gave : GivesAll gives source given source'
     pub desks : List (Desk T B)
@@ -81,6 +84,8 @@ module _ {S T B : Type 0} (incoming outgoing : T → Option (List ℕ)) (closes 
     pub in_team : InTeam incoming outgoing closes gates books desks shifts books'
     pub adds : sums ≡ sums_of (told_in shifts)
     pub counts : refused ≡ refused_of (told_in shifts)
+    pub versions : AllByRecursion (λ (shift : Shift). shift.newest ≡ newest) shifts
+    pub held : fates ≡ fates_of (backs_in shifts)
     pub hires : HiresBy reads old shifts new
 
   -- What a server leaves that ended by this fault, if `Ran` is so of its gates and its shifts.

@@ -4,11 +4,13 @@ ghost use Rattle.sysv_model.specs.declared.limits.TheConstants.{MIN_BLOCKS, MAX_
 ghost use Rattle.sysv_workers.specs.declared.workers.TheConstants.{MAX_WORKERS};
 ghost use Rattle.sysv_service.specs.Seats.{AreOf};
 ghost use Rattle.sysv_engine.specs.Added.{IsBalanced};
+ghost use Rattle.sysv_engine.specs.Handled.{newest_of};
 ghost use Rattle.sysv_engine.specs.Headline.{ServesConnections};
 ghost use Rattle.sysv_engine.specs.Serving.{FaultOf, HasLived, HiredFrom, LeavesConnections, RunsWith, WorkedFrom, unbounded};
 
 use crate::alarm::Rest;
 use crate::dealing::{Dealing, shares};
+use crate::fates::Fates;
 use crate::fault::ServeFault;
 use crate::laws::each_lifetime_is_one_run;
 use crate::rounds::Serving;
@@ -21,7 +23,7 @@ use crate::watch::{Rounds, Watch};
 use std::alloc::Global;
 use std::sync::Wait;
 use std::thread::Threads;
-use sysv_seats::NonBlocking;
+use sysv_seats::{NonBlocking, each_return_can_be_left};
 use sysv_service::{Pass, Service};
 use sysv_workers::{Source, WorkersFault, WorkersRefused, run_workers};
 
@@ -67,12 +69,12 @@ where
         false blocks source.old books.old.items ended source.new books.new.items) }
     ensures balance { IfOk result (λ ended. IsBalanced ended.sums) }
     ensures setting { IfOk result (λ ended.
-        RunsWith workers unbounded 0 ended.setting) }
+        RunsWith workers unbounded 0 false ended.setting) }
     ensures err { IfErr result (λ why. LeavesConnections T.incoming T.outgoing T.closes S.gives
         (HasLived false blocks) source.old books.old.items why source.new books.new.items) }
 {
     let (count, places) = (workers as usize, books.len());
-    let opened = ServerState::open(alloc, count, places, Patience::UNBOUNDED, 0);
+    let opened = ServerState::open(alloc, count, places, Patience::UNBOUNDED, 0, false);
     let Some((server, rests)) = opened else {
         return Err(ServeFault::NoMemory);
     };
@@ -120,7 +122,8 @@ where
         false blocks source.old books.old.items ended source.new books.new.items) }
     ensures balance { IfOk result (λ ended. IsBalanced ended.sums) }
     ensures setting { IfOk result (λ ended.
-        RunsWith (vec_len watches) server.now.patience server.now.drain ended.setting) }
+        RunsWith (vec_len watches) server.now.patience server.now.drain server.now.holds
+        ended.setting) }
     ensures err { IfErr result (λ why. LeavesConnections T.incoming T.outgoing T.closes S.gives
         (HasLived false blocks) source.old books.old.items why source.new books.new.items) }
 {
@@ -135,9 +138,10 @@ where
     let closed = service.close(pass);
     each_lifetime_is_one_run();
     match outcome {
-        Ok((sums, refused)) => Ok(Ended {
+        Ok((sums, refused, fates)) => Ok(Ended {
             sums,
             refused,
+            fates,
             removed,
             cut: server.cut_calls(),
             closed,
@@ -148,7 +152,8 @@ where
 }
 
 /// Serves the connections of a source on this service, and takes back the passes and the books of
-/// all places. Returns the sums of the sessions, and the number of those whose memory was refused.
+/// all places. Returns the sums of the sessions, the number of those whose memory was refused, and what
+/// became of the messages that they held.
 pub(crate) fn serve_with<
     T: NonBlocking + Drop + Send,
     S: Source<T>,
@@ -163,7 +168,7 @@ pub(crate) fn serve_with<
     books: &mut Vec<T::Book>,
     watches: Vec<(W, Rest)>,
     server: &ServerState,
-) -> Result<(Sums, u64), ServeFault>
+) -> Result<(Sums, u64, Fates), ServeFault>
 where
     T::Book: Send,
     requires pass { AreOf service.now pass.old.seats }
@@ -171,8 +176,8 @@ where
         × (vec_len watches ≤ MAX_WORKERS) }
     ensures pass { AreOf service.now pass.new.seats }
     ensures ok { IfOk result (λ told. WorkedFrom T.incoming T.outgoing T.closes S.gives false
-        service.now pass.old source.old books.old.items told.0 told.1 pass.new source.new
-        books.new.items) }
+        (newest_of server.now.holds) service.now pass.old source.old books.old.items told.0 told.1
+        told.2 pass.new source.new books.new.items) }
     ensures err { IfErr result (λ why. LeavesConnections T.incoming T.outgoing T.closes S.gives
         (HiredFrom false service.now pass.old pass.new) source.old books.old.items why source.new
         books.new.items) }
@@ -193,7 +198,8 @@ where
         discard(kits);
         return Err(ServeFault::NoMemory);
     };
-    staff(rt, alloc, service, pass, books, kits, &mut workers);
+    let newest = server.newest();
+    staff(rt, alloc, service, newest, pass, books, kits, &mut workers);
     let job = Serving {
         rt,
         alloc,
@@ -203,6 +209,7 @@ where
     let mut dealing = Dealing::new(source, server, shares);
     let outcome = run_workers(rt, alloc, workers, &mut dealing, &job);
     given_back(dealing.into_source());
+    each_return_can_be_left();
     match outcome {
         Ok(workers) => {
             gather(rt, workers, &mut places);

@@ -1,6 +1,6 @@
 //! Laws about the definitions.
 ghost use Rattle.std.specs.Prelude.{⊤};
-ghost use Rattle.sysv_engine.specs.Made.{EachSessionMakesCalls};
+ghost use Rattle.sysv_engine.specs.Made.{EachReturnMakesACall, EachSessionMakesCalls};
 ghost use Rattle.sysv_engine.specs.OneRun.{EachLifetimeEndsEmpty, EachLifetimeIsOneRun, EachLifetimeLeavesThePoolWhole, NoLifetimeLeavesAGateHeld};
 
 use sysv_seats::ZERO;
@@ -12,13 +12,21 @@ use sysv_thread_laws::{
 
 /// States which calls of a service a session makes.
 ///
-/// It makes one call for each request, except for a request for a row, which is no call. Each
-/// request is answered as its call ended, or its call was left and has no reply. The session makes
-/// no other call with its pass.
+/// It makes one call for each request, except for a request for a row, for a done, and for a hold
+/// or a back that is refused, which are no calls. Each request is answered as its call ended, or
+/// its call was left and has no reply. The session makes no other call with its pass.
 pub fn each_session_makes_calls<C: Clock>(clock: &C)
     ensures { EachSessionMakesCalls (C.may clock.now) ⊤ }
 {
     every_service_obeys(clock);
+}
+
+/// States that a message that a session held at its end is given back by one call of the service: a
+/// send of the same body with the same type to the same queue, with the session's credentials.
+pub fn each_return_makes_a_call()
+    ensures { EachReturnMakesACall }
+{
+    every_service_obeys(&ZERO);
 }
 
 /// States that the sessions of a server are one run of its service, if fewer than 2^62 turns were
@@ -41,4 +49,5 @@ pub fn each_lifetime_is_one_run()
     every_stop_empties();
     every_order_parks_rightly();
     each_session_makes_calls(&ZERO);
+    each_return_makes_a_call();
 }

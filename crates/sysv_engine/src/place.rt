@@ -1,12 +1,16 @@
 //! The places of a server: each serves one client after another.
-ghost use Rattle.std.specs.Prelude.{◌≡◌, ◌+◌, None, Some, IfSome, IsSomeAnd, is_some, true};
+ghost use Rattle.std.specs.Prelude.{◌≡◌, ◌+◌, None, Some, IfSome, cond, is_some, not, true};
 ghost use Rattle.sysv_service.specs.Seats.{AreOf};
 ghost use Rattle.sysv_seats.specs.Sits.{Keeps, is_finished};
 ghost use Rattle.sysv_engine.specs.Added.{added, capped, nothing, one_session};
+ghost use Rattle.sysv_engine.specs.Fated.{none_fated, with_unsent};
 ghost use Rattle.sysv_engine.specs.Handled.{one_refused};
-ghost use Rattle.sysv_engine.specs.Places.{IsIdle, KeepsPlace, TakesIn, taken_by};
+ghost use Rattle.sysv_engine.specs.Places.{IsIdle, IsIdleAt, KeepsPlace, TakesIn};
+ghost use Rattle.sysv_engine.specs.Places.{come_so_far, fates_at_end, fates_by, has_ended, is_vacant};
+ghost use Rattle.sysv_engine.specs.Places.{taken_by, wait_in};
 
 use crate::awaited::key_of;
+use crate::fates::Fates;
 use crate::moment::Moment;
 use crate::sums::Sums;
 use crate::terms::Patience;
@@ -16,25 +20,40 @@ use std::alloc::Global;
 use std::marker::Model;
 use std::sync::Wait;
 use sysv_parking::Key;
-use sysv_seats::{Client, Limit, NonBlocking, ServiceHandler, Tools, ZERO, Zero};
-use sysv_service::{Pass, Service};
+use sysv_seats::{
+    Client, Keeper, Limit, NonBlocking, Return, ServiceHandler, Tools, Waiting, ZERO, Zero,
+};
+use sysv_service::{Pass, SendWait, Service};
 use sysv_session::{End, Served};
+use sysv_wire::Version;
 
 /// A place of a server. Clients have it one after another.
 ///
 /// It has a handler with a pass of its own, the client that has it now, the sums of its sessions,
-/// the number of those whose memory was refused, and its book.
+/// the number of those whose memory was refused, and its book. A client that is closed while it holds
+/// a message leaves the message at the place, which gives it back before it has another client.
 pub(crate) struct Place<'a, R: Wait, T: NonBlocking> {
-    handler: ServiceHandler<'a, Zero, R>,
+    handler: Keeper<'a, Zero, R>,
     client: Option<Client<T>>,
+    /// The wait of the send that gives back the message that the last client held, if it waits.
+    returning: Option<SendWait>,
     sums: Sums,
     refused: u64,
+    fates: Fates,
     book: T::Book,
     times: Times,
     /// Whether the place is in the line of those that have more to do.
     in_turns: bool,
     /// Whether the watch reports when the connection may take bytes.
     awaits_room: bool,
+    /// The newest version that sessions read. From version 3 on, they may hold messages.
+    newest: Version,
+    /// Memory for messages, if sessions may hold any.
+    memory: Option<Global>,
+    /// Whether the place is counted as one that holds a message, or whose client waits for one.
+    holds: bool,
+    /// Whether a message that the last client held is given back.
+    returns: bool,
 }
 
 impl<'a, R: Wait, T: NonBlocking> Model for Place<'a, R, T> {
@@ -43,76 +62,113 @@ impl<'a, R: Wait, T: NonBlocking> Model for Place<'a, R, T> {
     ghost Value = { Seated T.Book T };
 
     ghost view = { λ p. record {
-      gates = p.handler.service.now;
-      pass = p.handler.pass;
+      gates = p.handler.handler.service.now;
+      pass = p.handler.handler.pass;
+      newest = p.newest;
       sums = p.sums;
       refused = p.refused;
+      fates = p.fates;
       book = p.book;
       client = p.client;
+      message = p.handler.message;
+      returning = p.returning;
     } };
 }
 
 impl<'a, R: Wait, T: NonBlocking> Place<'a, R, T> {
-    /// Creates a place that no client has had.
+    /// Creates a place that no client has had, whose sessions read versions up to `newest`.
     ///
     /// # Conditions
     ///
     /// - `pass` is a pass of `service`.
-    pub(crate) fn new(rt: &'a R, service: &'a Service, pass: Pass, book: T::Book) -> Place<'a, R, T>
+    pub(crate) fn new(
+        rt: &'a R,
+        alloc: Global,
+        service: &'a Service,
+        pass: Pass,
+        book: T::Book,
+        newest: Version,
+    ) -> Place<'a, R, T>
         requires { AreOf service.now pass.seats }
         ensures { result ≡ record {
           gates = service.now;
           pass = pass;
+          newest = newest;
           sums = nothing;
           refused = 0;
+          fates = none_fated;
           book = book;
           client = None;
+          message = None;
+          returning = None;
         } }
     {
+        let memory = match newest {
+            Version::One | Version::Two => None,
+            Version::Three => Some(alloc),
+        };
         Place {
-            handler: ServiceHandler::new(rt, service, &ZERO, pass),
+            handler: Keeper::new(ServiceHandler::new(rt, service, &ZERO, pass)),
             client: None,
+            returning: None,
             sums: Sums::open(),
             refused: 0,
+            fates: Fates::open(),
             book,
             times: Times::new(),
             in_turns: false,
             awaits_room: false,
+            newest,
+            memory,
+            holds: false,
+            returns: false,
         }
     }
 
-    /// Returns the pass of a vacant place, its sums, the number of its sessions whose memory was
-    /// refused, and its book.
-    pub(crate) fn into_parts(self) -> (Pass, Sums, u64, T::Book)
+    /// Returns the pass of a place without a client, its sums, the number of its sessions whose
+    /// memory was refused, what became of the messages that they held, and its book. A message that
+    /// still waits to be given back is discarded.
+    pub(crate) fn into_parts(self) -> (Pass, Sums, u64, Fates, T::Book)
         requires { self.client ≡ None }
         ensures parts { (result.0 ≡ self.entry.pass) × (result.1 ≡ self.entry.sums)
-            × (result.2 ≡ self.entry.refused) × (result.3 ≡ self.entry.book) }
+            × (result.2 ≡ self.entry.refused) × (result.3 ≡ fates_at_end self.entry)
+            × (result.4 ≡ self.entry.book) }
         ensures fits { AreOf self.entry.gates result.0.seats }
     {
         let Place {
             handler,
             client,
+            returning: _,
             sums,
             refused,
+            fates,
             book,
             times: _,
             in_turns: _,
             awaits_room: _,
+            newest: _,
+            memory: _,
+            holds: _,
+            returns: _,
         } = self;
         match client {
             Some(_) => unreachable!(),
-            None => (handler.into_pass(), sums, refused, book),
+            None => {
+                let fates = at_end(fates, handler.has_message());
+                (handler.into_pass(), sums, refused, fates, book)
+            }
         }
     }
 
     /// Gives a vacant place to the client of a connection.
     pub(crate) fn adopt(&mut self, alloc: Global, connection: T)
-        requires { self.old.client ≡ None }
+        requires { (self.old.client ≡ None) × (self.old.message ≡ None) }
         ensures { TakesIn T.incoming T.outgoing T.closes connection self.old self.new }
     {
         self.times = Times::new();
         self.awaits_room = false;
-        self.seat(Client::open(alloc, connection));
+        let client = Client::open(alloc, connection, self.newest);
+        self.seat(client);
     }
 
     /// Gives a vacant place to a client.
@@ -141,12 +197,102 @@ impl<'a, R: Wait, T: NonBlocking> Place<'a, R, T> {
     }
 
     /// Ends the client if there is a limit for an orderly end, and closes it if nothing else is left
-    /// to do.
-    pub(crate) fn end(&mut self)
+    /// to do. What gives back its message is begun then, or looked at once more.
+    pub(crate) fn end(&mut self, tools: &mut Tools)
         ensures keeps { KeepsPlace T.incoming T.outgoing T.closes self.old self.new }
     {
         self.cut(Limit::Drain);
         self.close();
+        self.give_back(tools);
+        self.go_on(tools);
+    }
+
+    /// Returns whether nothing is left to do at the end of the server: there is no client, and what
+    /// gives back a message waits, if one is given back.
+    pub(crate) fn is_ended(&self) -> bool
+        ensures { result ≡ has_ended self.now }
+    {
+        !self.has_client() && (!self.has_message() || self.returning.is_some())
+    }
+
+    /// Begins to give back the message that the last client held, if it held one. A hold of it that
+    /// waited is no longer counted.
+    pub(crate) fn give_back(&mut self, tools: &mut Tools)
+        ensures keeps { KeepsPlace T.incoming T.outgoing T.closes self.old self.new }
+    {
+        if self.client.is_none() && self.returning.is_none() {
+            self.begin_return(tools);
+            self.count_hold(tools);
+        }
+    }
+
+    /// Begins to give back the message that the last client held, if it held one.
+    fn begin_return(&mut self, tools: &mut Tools)
+        requires { (self.old.client ≡ None) × (self.old.returning ≡ None) }
+        ensures keeps { KeepsPlace T.incoming T.outgoing T.closes self.old self.new }
+    {
+        self.returns = self.handler.has_message();
+        let came = self.handler.give_back(tools);
+        self.note_return(came);
+    }
+
+    /// Has the send that gives back a message go on, if one waits and it may.
+    fn go_on_returning(&mut self, tools: &mut Tools)
+        requires { self.old.client ≡ None }
+        ensures keeps { KeepsPlace T.incoming T.outgoing T.closes self.old self.new }
+    {
+        let Some(wait) = self.returning else {
+            return;
+        };
+        let came = self.handler.give_back_on(wait, tools);
+        self.note_return(came);
+    }
+
+    /// Takes note of how far the return of the message has come.
+    fn note_return(&mut self, came: Return)
+        ensures { self.new ≡ come_so_far came self.old }
+    {
+        self.returning = wait_of(came);
+        self.fates = counted(self.fates, came);
+    }
+
+    /// Returns whether what the last client held was given back since this was last asked.
+    pub(crate) fn has_given_back(&mut self) -> bool
+        ensures { self.new ≡ self.old }
+    {
+        let has_given_back = self.returns && !self.handler.has_message();
+        self.returns = self.returns && self.handler.has_message();
+        has_given_back
+    }
+
+    /// Lets the session hold a message, unless too many places hold one.
+    fn allow_hold(&mut self, tools: &Tools)
+        ensures { self.new ≡ self.old }
+    {
+        if self.holds || tools.may_hold_more() {
+            self.handler.set_memory(self.memory);
+        } else {
+            self.handler.set_memory(None);
+        }
+    }
+
+    /// Takes note of whether the place holds a message, or its client waits for one.
+    fn count_hold(&mut self, tools: &mut Tools)
+        ensures { self.new ≡ self.old }
+    {
+        let holds = self.handler.has_message() || self.awaits_hold();
+        if holds != self.holds {
+            tools.count_hold(holds);
+            self.holds = holds;
+        }
+    }
+
+    /// Returns whether the client waits for a message to hold.
+    fn awaits_hold(&self) -> bool {
+        match &self.client {
+            Some(client) => client.awaits_hold(),
+            None => false,
+        }
     }
 
     /// Continues the parked call, and takes up and answers a share of what has arrived.
@@ -163,7 +309,9 @@ impl<'a, R: Wait, T: NonBlocking> Place<'a, R, T> {
         ensures refused { self.new.refused
             ≡ capped (self.old.refused + one_refused (Some served.now)) }
         ensures same { (self.new.gates ≡ self.old.gates) × (self.new.pass ≡ self.old.pass)
-            × (self.new.book ≡ self.old.book) × (self.new.client ≡ self.old.client) }
+            × (self.new.book ≡ self.old.book) × (self.new.client ≡ self.old.client)
+            × (self.new.newest ≡ self.old.newest) × (self.new.message ≡ self.old.message)
+            × (self.new.returning ≡ self.old.returning) × (self.new.fates ≡ self.old.fates) }
     {
         self.sums.add(Sums::of(&served.tally));
         self.refused = self.refused.saturating_add(refusals(served));
@@ -194,18 +342,37 @@ impl<'a, R: Wait, T: NonBlocking> Place<'a, R, T> {
     pub(crate) fn take_turn(&mut self, tools: &mut Tools)
         ensures keeps { KeepsPlace T.incoming T.outgoing T.closes self.old self.new }
     {
+        self.allow_hold(tools);
+        self.take_up(tools);
+        self.count_hold(tools);
+    }
+
+    /// Has the client take up and answer a share of the requests that have arrived.
+    fn take_up(&mut self, tools: &mut Tools)
+        ensures keeps { KeepsPlace T.incoming T.outgoing T.closes self.old self.new }
+    {
         if let Some(client) = &mut self.client {
             client.take_turn(&mut self.handler, tools);
             client.drain();
         }
     }
 
-    /// Continues the parked call, if it may go on.
+    /// Continues the parked call, or the send that gives back a message, if it may go on.
     pub(crate) fn go_on(&mut self, tools: &mut Tools)
         ensures keeps { KeepsPlace T.incoming T.outgoing T.closes self.old self.new }
     {
-        if let Some(client) = &mut self.client {
-            client.go_on(&mut self.handler, tools);
+        self.allow_hold(tools);
+        self.resume(tools);
+        self.count_hold(tools);
+    }
+
+    /// Has the parked call go on, or the send that gives back a message, if it may.
+    fn resume(&mut self, tools: &mut Tools)
+        ensures keeps { KeepsPlace T.incoming T.outgoing T.closes self.old self.new }
+    {
+        match &mut self.client {
+            Some(client) => client.go_on(&mut self.handler, tools),
+            None => self.go_on_returning(tools),
         }
     }
 
@@ -237,11 +404,13 @@ impl<'a, R: Wait, T: NonBlocking> Place<'a, R, T> {
         self.cut(limit);
     }
 
-    /// Returns what the parked call waits for, if there is one.
+    /// Returns what the parked call waits for, or the send that gives back a message, if one waits.
     pub(crate) fn key(&self) -> Option<Key> {
-        let client = self.client.as_ref()?;
-        let waiting = client.waiting()?;
-        Some(key_of(&waiting, client.parked_length()))
+        let (waiting, length) = match &self.client {
+            Some(client) => (client.waiting()?, client.parked_length()),
+            None => (Waiting::Send(self.returning?), self.handler.return_length()),
+        };
+        Some(key_of(&waiting, length))
     }
 
     /// Returns the number of blocks that calls at the place reserved and did not release, modulo
@@ -259,10 +428,25 @@ impl<'a, R: Wait, T: NonBlocking> Place<'a, R, T> {
     }
 
     /// Returns whether there is a client.
-    pub(crate) fn is_taken(&self) -> bool
+    pub(crate) fn has_client(&self) -> bool
         ensures { result ≡ is_some self.now.client }
     {
         self.client.is_some()
+    }
+
+    /// Returns whether a message is held at the place: by its client, or by the last one, whose
+    /// message is given back.
+    pub(crate) fn has_message(&self) -> bool
+        ensures { result ≡ is_some self.now.message }
+    {
+        self.handler.has_message()
+    }
+
+    /// Returns whether there is a client, or a message is given back.
+    pub(crate) fn is_taken(&self) -> bool
+        ensures { result ≡ not (is_vacant self.now) }
+    {
+        self.has_client() || self.has_message()
     }
 
     /// Returns whether nothing is left to do but to close the client.
@@ -276,22 +460,22 @@ impl<'a, R: Wait, T: NonBlocking> Place<'a, R, T> {
         }
     }
 
-    /// Ends the client if it is idle and there is a limit for an orderly end.
+    /// Ends the client if it is idle, holds no message, and there is a limit for an orderly end.
     pub(crate) fn cut_idle(&mut self)
         ensures keeps { KeepsPlace T.incoming T.outgoing T.closes self.old self.new }
-        ensures stays { (IsSomeAnd self.old.client IsIdle → ⊥) → self.new ≡ self.old }
+        ensures stays { (IsIdleAt self.old → ⊥) → self.new ≡ self.old }
     {
         if self.is_idle() {
             self.cut(Limit::Drain);
         }
     }
 
-    /// Returns whether there is a client that is idle.
+    /// Returns whether there is a client that is idle and holds no message.
     pub(crate) fn is_idle(&self) -> bool
-        ensures { result ≡ true → IsSomeAnd self.now.client IsIdle }
+        ensures { result ≡ true → IsIdleAt self.now }
     {
         match &self.client {
-            Some(client) => is_idle(client),
+            Some(client) => is_idle(client) && !self.has_message(),
             None => false,
         }
     }
@@ -375,4 +559,39 @@ fn refusals(served: &Served) -> u64
         End::NoMemory => 1,
         _ => 0,
     }
+}
+
+/// Returns the wait of a return that has come so far.
+fn wait_of(came: Return) -> Option<SendWait>
+    ensures { result ≡ wait_in came }
+{
+    match came {
+        Return::Waits(wait) => Some(wait),
+        Return::Nothing | Return::Over(_) => None,
+    }
+}
+
+/// Returns the numbers once a return has come so far.
+fn counted(fates: Fates, came: Return) -> Fates
+    ensures { result ≡ fates_by fates came }
+{
+    let mut fates = fates;
+    match came {
+        Return::Nothing | Return::Waits(_) => fates,
+        Return::Over(fate) => {
+            fates.count(fate);
+            fates
+        }
+    }
+}
+
+/// Returns the numbers at the end of the server, if a message is still held or not.
+fn at_end(fates: Fates, is_held: bool) -> Fates
+    ensures { result ≡ cond is_held (with_unsent fates) fates }
+{
+    let mut fates = fates;
+    if is_held {
+        fates.count_unsent();
+    }
+    fates
 }

@@ -95,7 +95,10 @@ impl<'a, 'c, R: Wait> Serving<'a, 'c, R> {
             worker.answered += 1;
             return true;
         }
-        worker.is_empty() && self.server.is_finished()
+        if !self.server.is_finished() {
+            return false;
+        }
+        worker.is_empty() || (worker.has_no_clients() && self.server.has_no_sessions())
     }
 
     /// Waits for events, and serves each client that has some. Closes idle clients first, if they are
@@ -213,7 +216,7 @@ impl<'a, 'c, R: Wait> Serving<'a, 'c, R> {
         ensures { KeepsAll T.incoming T.outgoing T.closes worker.old.places.items
             worker.new.places.items }
     {
-        if !worker.is_taken(place) {
+        if !worker.has_client(place) {
             return;
         }
         let before = worker.blocks_in_use(place);
@@ -256,10 +259,56 @@ impl<'a, 'c, R: Wait> Serving<'a, 'c, R> {
             ≡ record worker.old.agenda { parking = worker.new.agenda.parking } }
     {
         self.line_up(worker, place);
+        self.close_if_over(worker, place);
+        self.note_given_back(worker, place);
+        if worker.has_client(place) {
+            self.await_client(worker, place);
+        }
+    }
+
+    /// Closes a client if its session is over.
+    fn close_if_over<T: NonBlocking, W: Watch<T>>(
+        &self,
+        worker: &mut Worker<'a, R, T, W>,
+        place: usize,
+    )
+        ensures keeps { KeepsAll T.incoming T.outgoing T.closes worker.old.places.items
+            worker.new.places.items }
+        ensures moves { MovesOnly place worker.old.agenda.parking worker.new.agenda.parking }
+        ensures rest { worker.new.agenda
+            ≡ record worker.old.agenda { parking = worker.new.agenda.parking } }
+    {
         if worker.is_over(place) {
             self.close(worker, place);
-            return;
         }
+    }
+
+    /// Vacates the place if what its last client held was given back since this was last looked at.
+    fn note_given_back<T: NonBlocking, W: Watch<T>>(
+        &self,
+        worker: &mut Worker<'a, R, T, W>,
+        place: usize,
+    )
+        ensures keeps { KeepsAll T.incoming T.outgoing T.closes worker.old.places.items
+            worker.new.places.items }
+        ensures agenda { worker.new.agenda ≡ worker.old.agenda }
+    {
+        if worker.has_given_back(place) {
+            self.server.count_return(false);
+            self.vacate(worker, place);
+        }
+    }
+
+    /// Has the worker wait for what comes next for a client.
+    fn await_client<T: NonBlocking, W: Watch<T>>(
+        &self,
+        worker: &mut Worker<'a, R, T, W>,
+        place: usize,
+    )
+        ensures keeps { KeepsAll T.incoming T.outgoing T.closes worker.old.places.items
+            worker.new.places.items }
+        ensures agenda { worker.new.agenda ≡ worker.old.agenda }
+    {
         worker.await_more(place);
         worker.set_time(place, self.server.patience());
         worker.look_again(place);
@@ -358,10 +407,51 @@ impl<'a, 'c, R: Wait> Serving<'a, 'c, R> {
         if served.end == End::NoMemory {
             self.server.starve();
         }
+        self.server.end(worker.agenda.number(), &served.tally);
+        self.release(worker, place);
+    }
+
+    /// Begins to give back the message that a client held which was closed, or vacates its place if
+    /// it held none.
+    fn release<T: NonBlocking, W: Watch<T>>(&self, worker: &mut Worker<'a, R, T, W>, place: usize)
+        ensures keeps { KeepsAll T.incoming T.outgoing T.closes worker.old.places.items
+            worker.new.places.items }
+        ensures moves { MovesOnly place worker.old.agenda.parking worker.new.agenda.parking }
+        ensures rest { worker.new.agenda
+            ≡ record worker.old.agenda { parking = worker.new.agenda.parking } }
+    {
+        let returns = worker.has_message(place);
+        if returns {
+            self.server.count_return(true);
+        }
+        self.give_back(worker, place);
+        if !returns {
+            self.vacate(worker, place);
+        }
+    }
+
+    /// Begins to give back the message that a client held which was closed, if it held one.
+    fn give_back<T: NonBlocking, W: Watch<T>>(&self, worker: &mut Worker<'a, R, T, W>, place: usize)
+        ensures keeps { KeepsAll T.incoming T.outgoing T.closes worker.old.places.items
+            worker.new.places.items }
+        ensures moves { MovesOnly place worker.old.agenda.parking worker.new.agenda.parking }
+        ensures rest { worker.new.agenda
+            ≡ record worker.old.agenda { parking = worker.new.agenda.parking } }
+    {
+        let before = worker.blocks_in_use(place);
+        worker.give_back(place);
+        self.count_blocks(worker, place, before);
+        self.line_up(worker, place);
+    }
+
+    /// Takes note that a place is vacant.
+    fn vacate<T: NonBlocking, W: Watch<T>>(&self, worker: &mut Worker<'a, R, T, W>, place: usize)
+        ensures { (worker.new.places ≡ worker.old.places) × (worker.new.agenda ≡ worker.old.agenda) }
+    {
         if worker.free.len() < worker.free.capacity() {
             worker.free.push_reserved(place);
         }
-        self.server.close(worker.agenda.number(), &served.tally);
+        self.server.vacate(worker.agenda.number());
     }
 
     /// Heeds what has changed, here and in other workers, as far as the worker's share of looks
@@ -434,7 +524,7 @@ impl<'a, 'c, R: Wait> Serving<'a, 'c, R> {
         ensures { KeepsAll T.incoming T.outgoing T.closes worker.old.places.items
             worker.new.places.items }
     {
-        if !worker.is_taken(place) {
+        if !worker.has_client(place) {
             return;
         }
         if is_over(worker.due(place)) || worker.may_hold_more(place) {
@@ -485,10 +575,11 @@ impl<'a, 'c, R: Wait> Serving<'a, 'c, R> {
             worker.new.places.items }
     {
         for place in 0..worker.places.len() {
-            if worker.is_taken(place) {
+            if worker.has_client(place) {
                 self.cut_one(worker, place);
             }
         }
+        self.spread(worker);
     }
 
     /// Closes a client, since the time for an orderly end is over, and counts its call if one is
@@ -500,7 +591,7 @@ impl<'a, 'c, R: Wait> Serving<'a, 'c, R> {
         let waits = worker.key(place).is_some();
         worker.cut(place, Limit::Drain);
         self.settle(worker, place);
-        if waits && !worker.is_taken(place) {
+        if waits && !worker.has_client(place) {
             self.server.count_cut_call();
         }
     }

@@ -4,6 +4,7 @@ ghost use Rattle.sysv_model.specs.declared.limits.TheConstants.{MIN_BLOCKS, MAX_
 ghost use Rattle.sysv_workers.specs.declared.workers.TheConstants.{MAX_WORKERS};
 ghost use Rattle.sysv_service.specs.Seats.{AreOf};
 ghost use Rattle.sysv_engine.specs.Added.{IsBalanced};
+ghost use Rattle.sysv_engine.specs.Handled.{newest_of};
 ghost use Rattle.sysv_engine.specs.Headline.{ServesConnections};
 ghost use Rattle.sysv_engine.specs.Looks.{Looks};
 ghost use Rattle.sysv_engine.specs.Serving.{HasLived, HiredFrom, LeavesConnections, RunsWith, WorkedFrom};
@@ -11,6 +12,7 @@ ghost use Rattle.sysv_engine.specs.Serving.{HasLived, HiredFrom, LeavesConnectio
 use crate::alarm::Rest;
 use crate::arrivals::Arrivals;
 use crate::connections::{given_back, serve_with};
+use crate::fates::Fates;
 use crate::fault::ServeFault;
 use crate::laws::each_lifetime_is_one_run;
 use crate::rows::Rows;
@@ -51,7 +53,8 @@ where
         reads blocks source.old books.old.items ended source.new books.new.items) }
     ensures balance { IfOk result (λ ended. IsBalanced ended.sums) }
     ensures setting { IfOk result (λ ended.
-        RunsWith (vec_len watches) server.now.patience server.now.drain ended.setting) }
+        RunsWith (vec_len watches) server.now.patience server.now.drain server.now.holds
+        ended.setting) }
     ensures err { IfErr result (λ why. LeavesConnections T.incoming T.outgoing T.closes S.gives
         (HasLived reads blocks) source.old books.old.items why source.new books.new.items) }
 {
@@ -66,9 +69,10 @@ where
     let closed = service.close(pass);
     each_lifetime_is_one_run();
     match outcome {
-        Ok((sums, refused)) => Ok(Ended {
+        Ok((sums, refused, fates)) => Ok(Ended {
             sums,
             refused,
+            fates,
             removed,
             cut: server.cut_calls(),
             closed,
@@ -96,7 +100,7 @@ fn serve_seeing<
     watches: Vec<(W, Rest)>,
     server: &ServerState,
     reads: bool,
-) -> Result<(Sums, u64), ServeFault>
+) -> Result<(Sums, u64, Fates), ServeFault>
 where
     T::Book: Send,
     requires pass { AreOf service.now pass.old.seats }
@@ -104,8 +108,8 @@ where
         × (vec_len watches ≤ MAX_WORKERS) }
     ensures pass { AreOf service.now pass.new.seats }
     ensures ok { IfOk result (λ told. WorkedFrom T.incoming T.outgoing T.closes S.gives reads
-        service.now pass.old source.old books.old.items told.0 told.1 pass.new source.new
-        books.new.items) }
+        (newest_of server.now.holds) service.now pass.old source.old books.old.items told.0 told.1
+        told.2 pass.new source.new books.new.items) }
     ensures err { IfErr result (λ why. LeavesConnections T.incoming T.outgoing T.closes S.gives
         (HiredFrom reads service.now pass.old pass.new) source.old books.old.items why source.new
         books.new.items) }

@@ -3,6 +3,7 @@
 ghost use Rattle.std.specs.Prelude.{◌≡◌, ◌≤◌, IfSome, vec_len};
 ghost use Rattle.sysv_keys.specs.declared.identifier.TheConstants.{SLOTS as slot_count};
 ghost use Rattle.sysv_engine.specs.Counting.{IsCounted, IsNothing};
+ghost use Rattle.sysv_engine.specs.Handled.{newest_of};
 ghost use Rattle.sysv_engine.specs.Serving.{RunsWith};
 ghost use Rattle.sysv_engine.specs.declared.counter.Kind.TheVariants.{CutOff};
 
@@ -19,6 +20,7 @@ use sysv_keys::SLOTS;
 use sysv_parking::{Change, Envelope, WORDS};
 use sysv_queue::Tally;
 use sysv_system::{Doorbell, Watched};
+use sysv_wire::Version;
 
 /// The number of bits in a word, and so of workers that a word can name.
 const BITS: usize = 64;
@@ -67,8 +69,12 @@ pub struct ServerState {
     is_cut: AtomicBool,
     /// The number of parked calls of clients that were closed for that.
     cut_calls: Counter,
-    /// The number of sessions that are over.
+    /// The number of places that sessions have left: these are over, and hold no message.
     over: AtomicU64,
+    /// The number of places whose sessions are over, and that still give back a message.
+    returning: AtomicU64,
+    /// Whether sessions may hold messages.
+    holds: bool,
     /// Whether the memory of a session was refused.
     starved: AtomicBool,
     /// Whether the accepting thread waits for a session to be over.
@@ -83,13 +89,14 @@ impl ServerState {
     /// of them rests with. Returns `None` if memory or a descriptor is refused.
     ///
     /// At most `at_once` clients are served at once. After `drain` seconds an orderly end cuts
-    /// sessions off, or never for 0.
+    /// sessions off, or never for 0. If the server `holds`, its sessions may hold messages.
     pub fn open(
         alloc: Global,
         workers: usize,
         at_once: usize,
         patience: Patience,
         drain: u32,
+        holds: bool,
     ) -> Option<(ServerState, Vec<Rest>)>
         ensures workers { IfSome result (λ both. vec_len both.0.posts ≡ workers) }
         ensures rests { IfSome result (λ both. vec_len both.1 ≡ workers) }
@@ -97,6 +104,7 @@ impl ServerState {
         ensures cut { IfSome result (λ both. both.0.cut_calls.kind ≡ CutOff) }
         ensures patience { IfSome result (λ both. both.0.patience ≡ patience) }
         ensures drain { IfSome result (λ both. both.0.drain ≡ drain) }
+        ensures holds { IfSome result (λ both. both.0.holds ≡ holds) }
     {
         let turn = Doorbell::open()?;
         let (posts, rests) = open_posts(alloc, workers)?;
@@ -114,11 +122,24 @@ impl ServerState {
             is_cut: AtomicBool::new(false),
             cut_calls: Counter::new(Kind::CutOff),
             over: AtomicU64::new(0),
+            returning: AtomicU64::new(0),
+            holds,
             starved: AtomicBool::new(false),
             is_awaited: AtomicBool::new(false),
             turn,
         };
         Some((server, rests))
+    }
+
+    /// Returns the newest version that sessions read.
+    pub(crate) fn newest(&self) -> Version
+        ensures { result ≡ newest_of self.now.holds }
+    {
+        if self.holds {
+            Version::Three
+        } else {
+            Version::Two
+        }
     }
 
     /// Returns the number of workers.
@@ -137,12 +158,13 @@ impl ServerState {
 
     /// Returns what a server with this number of workers runs with.
     pub(crate) fn setting(&self, workers: usize) -> Setting
-        ensures { RunsWith workers self.now.patience self.now.drain result }
+        ensures { RunsWith workers self.now.patience self.now.drain self.now.holds result }
     {
         Setting {
             workers,
             patience: self.patience,
             drain: self.drain,
+            holds: self.holds,
         }
     }
 
@@ -377,15 +399,45 @@ impl ServerState {
     }
 
     /// Counts a session of a worker that is over.
-    pub(crate) fn close(&self, worker: usize, tally: &Tally) {
+    pub(crate) fn end(&self, worker: usize, tally: &Tally) {
         if let Some(post) = self.posts.get(worker) {
             post.counts.end(tally);
+        }
+    }
+
+    /// Counts a place of a worker that is vacant again.
+    pub(crate) fn vacate(&self, worker: usize) {
+        if let Some(post) = self.posts.get(worker) {
             post.closed.fetch_add(1, Ordering::SeqCst);
         }
         self.over.fetch_add(1, Ordering::SeqCst);
+        self.tell_end();
+    }
+
+    /// Counts one more place that gives back a message, or one less.
+    pub(crate) fn count_return(&self, begins: bool) {
+        if begins {
+            self.returning.fetch_add(1, Ordering::SeqCst);
+        } else {
+            self.returning.fetch_sub(1, Ordering::SeqCst);
+        }
+        self.tell_end();
+    }
+
+    /// Has those look that may wait for the last session to be over.
+    fn tell_end(&self) {
+        if self.finished.load(Ordering::SeqCst) && self.returning.load(Ordering::SeqCst) > 0 {
+            self.ring_all();
+        }
         if self.is_awaited.load(Ordering::SeqCst) {
             self.turn.ring();
         }
+    }
+
+    /// Returns whether the sessions of all connections that were returned to the workers are over.
+    /// Messages that they held may still be given back.
+    pub(crate) fn has_no_sessions(&self) -> bool {
+        self.is_empty(self.dealt.load(Ordering::SeqCst))
     }
 
     /// Says that the memory of a session was refused.
@@ -422,7 +474,8 @@ impl ServerState {
 
     /// Returns whether all sessions are over, of which this many were accepted.
     fn is_empty(&self, accepted: u64) -> bool {
-        self.over.load(Ordering::SeqCst) >= accepted
+        let returning = self.returning.load(Ordering::SeqCst);
+        self.over.load(Ordering::SeqCst).saturating_add(returning) >= accepted
     }
 
     /// Says whether the accepting thread waits from now on for a session to be over.

@@ -1,10 +1,10 @@
 //! The workers of a server: places are made for each of them, and taken back at the end.
-ghost use Rattle.std.specs.Prelude.{◌≡◌, ◌≤◌, ◌+◌, ◌++◌, map, reverse, vec_len, vec_capacity, [], None};
+ghost use Rattle.std.specs.Prelude.{◌≡◌, ◌≤◌, ◌+◌, ◌++◌, map, reverse, true, vec_len, vec_capacity, []};
 ghost use Rattle.std.specs.Prelude.{IfSome};
 ghost use Rattle.std.specs.List.{All, FoldsTo, flat_map, sum_by};
 ghost use Rattle.sysv_service.specs.Seats.{AreOf};
 ghost use Rattle.sysv_thread_laws.specs.Hiring.{Gives};
-ghost use Rattle.sysv_engine.specs.Places.{IsOpened, KeepsAll};
+ghost use Rattle.sysv_engine.specs.Places.{IsOpened, KeepsAll, has_ended};
 
 use crate::alarm::Rest;
 use crate::place::Place;
@@ -15,6 +15,7 @@ use std::alloc::Global;
 use std::sync::Wait;
 use sysv_seats::NonBlocking;
 use sysv_service::{Pass, Service};
+use sysv_wire::Version;
 
 /// Allocates a kit for each watch, in their order. The kits have room for `places` places together,
 /// each for at least one and all for about the same number. Returns `None` if memory is refused.
@@ -75,6 +76,7 @@ pub(crate) fn staff<'a, R: Wait, T: NonBlocking, W: Watch<T>>(
     rt: &'a R,
     alloc: Global,
     service: &'a Service,
+    newest: Version,
     pass: &mut Pass,
     books: &mut Vec<T::Book>,
     kits: Vec<Kit<'a, R, T, W>>,
@@ -87,7 +89,7 @@ pub(crate) fn staff<'a, R: Wait, T: NonBlocking, W: Watch<T>>(
     requires each { All (λ k. (k.places.items ≡ []) × (1 ≤ vec_capacity k.places)) kits.items }
     ensures pass { AreOf service.now pass.new.seats }
     ensures count { vec_len workers.new ≡ vec_len kits.entry }
-    ensures places { All (IsOpened service.now) (flat_map (λ w. w.places.items) workers.new.items) }
+    ensures places { All (IsOpened service.now newest) (flat_map (λ w. w.places.items) workers.new.items) }
     ensures each { All (λ w. 1 ≤ vec_len w.places) workers.new.items }
     ensures books { books.old.items
         ≡ map (λ p. p.book) (flat_map (λ w. w.places.items) workers.new.items) }
@@ -98,7 +100,7 @@ pub(crate) fn staff<'a, R: Wait, T: NonBlocking, W: Watch<T>>(
     let mut kits = kits;
     while let Some(kit) = kits.pop() {
         let mut kit = kit;
-        hire(rt, alloc, service, pass, books, &mut kit.places);
+        hire(rt, alloc, service, newest, pass, books, &mut kit.places);
         workers.push_reserved(Worker::new(kit));
     }
     kits.destroy_empty();
@@ -116,7 +118,7 @@ pub(crate) fn gather<'a, R: Wait, T: NonBlocking, W: Watch<T> + Drop>(
     requires room { sum_by (λ w. vec_len w.places) workers.items ≤ vec_capacity places.old }
     ensures keeps { KeepsAll T.incoming T.outgoing T.closes
         (reverse (flat_map (λ w. w.places.items) workers.entry.items)) places.new.items }
-    ensures vacant { All (λ p. p.client ≡ None) places.new.items }
+    ensures ended { All (λ p. has_ended p ≡ true) places.new.items }
     ensures count { vec_len places.new ≡ sum_by (λ w. vec_len w.places) workers.entry.items }
 {
     let mut workers = workers;

@@ -1,6 +1,7 @@
 //! How long a client may take, and the result of a server.
 ghost use Rattle.std.specs.Prelude.{◌≡◌};
 
+use crate::fates::Fates;
 use crate::sums::Sums;
 use sysv_model::Errno;
 use sysv_service::Closed;
@@ -26,6 +27,7 @@ pub struct Setting {
     pub(crate) workers: usize,
     pub(crate) patience: Patience,
     pub(crate) drain: u32,
+    pub(crate) holds: bool,
 }
 
 impl Setting {
@@ -49,6 +51,13 @@ impl Setting {
     {
         self.drain
     }
+
+    /// Returns whether sessions might hold messages.
+    pub fn holds(self) -> bool
+        ensures { result ≡ self.holds }
+    {
+        self.holds
+    }
 }
 
 /// How a server ended.
@@ -58,6 +67,8 @@ pub struct Ended {
     pub sums: Sums,
     /// The number of its sessions whose memory was refused, at most 2^64 - 1.
     pub refused: u64,
+    /// What became of the messages that clients held when their sessions ended.
+    pub fates: Fates,
     /// The number of queues that were left at the end and were removed, or `EOVERFLOW` if the gate
     /// of a slot was found worn out.
     pub removed: Result<u32, Errno>,

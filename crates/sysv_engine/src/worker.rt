@@ -92,7 +92,8 @@ impl<'a, R: Wait, T: NonBlocking, W: Drop> Kit<'a, R, T, W> {
         let ready = Vec::with_capacity(alloc, MOST_READY).ok()?;
         let agenda = Agenda::open(alloc, number, count)?;
         let turns = VecDeque::with_capacity(alloc, count).ok()?;
-        let tools = Tools::open(alloc).ok()?;
+        let mut tools = Tools::open(alloc).ok()?;
+        tools.share_places(count);
         let places = room_for(alloc, count)?;
         Some(Kit {
             places,
@@ -283,9 +284,48 @@ impl<'a, R: Wait, T: NonBlocking, W: Watch<T>> Worker<'a, R, T, W> {
     }
 
     /// Returns whether the place has a client.
-    pub(crate) fn is_taken(&self, place: usize) -> bool {
+    pub(crate) fn has_client(&self, place: usize) -> bool {
         match self.places.get(place) {
-            Some(there) => there.is_taken(),
+            Some(there) => there.has_client(),
+            None => false,
+        }
+    }
+
+    /// Returns whether a message is held at the place.
+    pub(crate) fn has_message(&self, place: usize) -> bool {
+        match self.places.get(place) {
+            Some(there) => there.has_message(),
+            None => false,
+        }
+    }
+
+    /// Returns whether no place has a client.
+    pub(crate) fn has_no_clients(&self) -> bool {
+        self.places.iter().all(|place| !place.has_client())
+    }
+
+    /// Begins to give back the message that the last client of the place held.
+    #[tactic(auto, using(crate::proofs::PlaceLists::keeps_at))]
+    pub(crate) fn give_back(&mut self, place: usize)
+        ensures keeps { KeepsAll T.incoming T.outgoing T.closes self.old.places.items
+            self.new.places.items }
+        ensures agenda { self.new.agenda ≡ self.old.agenda }
+    {
+        if let Some(there) = self.places.get_mut(place) {
+            there.give_back(&mut self.tools);
+        }
+    }
+
+    /// Returns whether what the last client of the place held was given back since this was last
+    /// asked.
+    #[tactic(auto, using(crate::proofs::PlaceLists::keeps_at))]
+    pub(crate) fn has_given_back(&mut self, place: usize) -> bool
+        ensures keeps { KeepsAll T.incoming T.outgoing T.closes self.old.places.items
+            self.new.places.items }
+        ensures agenda { self.new.agenda ≡ self.old.agenda }
+    {
+        match self.places.get_mut(place) {
+            Some(there) => there.has_given_back(),
             None => false,
         }
     }

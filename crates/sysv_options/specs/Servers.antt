@@ -45,6 +45,7 @@ pub record AsksForTerms (words : List Row) (terms : Terms) : Type 0 where
   pub stall : HasOr IsNat32 0 (word_of words (codes "stall")) terms.patience.stall
   pub drain : HasOr IsNat32 0 (word_of words (codes "drain")) terms.drain
   pub stats : terms.stats ≡ is_some (word_of words (codes "stats"))
+  pub hold : HasFlag words (codes "hold") terms.hold
 
 -- A command with these words has this path.
 abbrev pub HasPath : List Row → List ℕ → Type 0

@@ -428,6 +428,7 @@ fn terms_of(words: &ArgMatches<'_>) -> Result<Terms, Bad>
         },
         drain: seconds_of(words, "drain")?,
         stats: has_word(words, "stats"),
+        hold: has_flag(words, "hold"),
     })
 }
 

@@ -180,6 +180,11 @@ Example:
             "Ends the sessions left this long after the last accept, 0 for never [default: 0]",
         ),
         (
+            "hold",
+            Form::Flag,
+            "Lets clients hold messages that come back if they are not spent",
+        ),
+        (
             "stats",
             Form::Value("PATH2"),
             "A second socket to create, on which the server shows its state",

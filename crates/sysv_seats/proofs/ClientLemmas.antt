@@ -27,11 +27,11 @@ use Rattle.sysv_session.proofs.OutboxLemmas.{each_once}
 use Rattle.sysv_service.specs.Ran.{Pass}
 use Rattle.sysv_wire.specs.declared.fault.Fault.TheVariants.{Truncated, TooLong, BadOp, BadField, Read}
 use Rattle.sysv_wire.specs.declared.frame.Version.{Version}
-use Rattle.sysv_wire.specs.declared.frame.Version.TheVariants.{Two}
 use Rattle.sysv_seats.specs.declared.parked.Parked.{Parked}
-use Rattle.sysv_seats.specs.Asked.{asks_with}
 use Rattle.sysv_seats.specs.Breaking.{Breaks, HasCause, MayEnd}
-use Rattle.sysv_seats.specs.InPieces.{left}
+use Rattle.sysv_seats.specs.Held.{holds_with}
+use Rattle.sysv_seats.specs.Holding.{Holder, empty_handed}
+use Rattle.sysv_seats.proofs.HeldPieces.{hold_left}
 use Rattle.sysv_seats.specs.Sits.{Arrives, HasFrame, HasStopped, IsAt, IsBehind, IsCounted, IsFree, IsOver}
 use Rattle.sysv_seats.specs.Sits.{IsReady, end_at_close, is_finished, is_early}
 use Rattle.sysv_seats.specs.Sits.{Keeps, KeepsWith, Sits, Sitting, broken_off, broken_off_for, stopped_for, with_input}
@@ -235,18 +235,20 @@ module _ {T : Type 0} (incoming outgoing : T → Option (List ℕ)) where
   }
 
   -- One event after another.
-  pub keeps_on : (old : Sitting T) (before : Pass) (mid : Sitting T) (between : Pass) (new : Sitting T) (after : Pass) →
+  pub keeps_on : (old : Sitting T) (before : Holder Pass) (mid : Sitting T) (between : Holder Pass)
+      (new : Sitting T) (after : Holder Pass) →
       KeepsWith incoming outgoing old before mid between → KeepsWith incoming outgoing mid between new after →
       KeepsWith incoming outgoing old before new after
   keeps_on old before mid between new after first second =
-      λ start origin sits. second start origin (first start origin sits)
+      λ newest start origin sits. second newest start origin (first newest start origin sits)
 
   -- The fields of the client say the same.
   pub keeps_from : (old client new : Sitting T) → client ≡ old → Keeps incoming outgoing client new →
       Keeps incoming outgoing old new
   keeps_from old client new is keeps = subst (λ (c : Sitting T). Keeps incoming outgoing c new) is keeps
 
-  pub keeps_with_from : (old client : Sitting T) (before : Pass) (new : Sitting T) (after : Pass) → client ≡ old →
+  pub keeps_with_from : (old client : Sitting T) (before : Holder Pass) (new : Sitting T) (after : Holder Pass) →
+      client ≡ old →
       KeepsWith incoming outgoing client before new after → KeepsWith incoming outgoing old before new after
   keeps_with_from old client before new after is keeps =
       subst (λ (c : Sitting T). KeepsWith incoming outgoing c before new after) is keeps
@@ -261,78 +263,86 @@ module _ {T : Type 0} (incoming outgoing : T → Option (List ℕ)) where
 
   -- ---- a client that is free
 
-  is_ready : (start : Pass) (origin : T) (client : Sitting T) (now : Pass) (sent : List ℕ) → IsFree client →
-      IsAt incoming outgoing start origin client now sent client.parked client.stopped →
-      IsReady incoming outgoing start origin client now sent
-  is_ready start origin client now sent free at =
-      subst₂ (λ (p : Option Parked) (s : Option End). IsAt incoming outgoing start origin client now sent p s) free.0
+  is_ready : (newest : Version) (start : Pass) (origin : T) (client : Sitting T) (now : Holder Pass)
+      (sent : List ℕ) → IsFree client →
+      IsAt incoming outgoing newest start origin client now sent client.parked client.stopped →
+      IsReady incoming outgoing newest start origin client now sent
+  is_ready newest start origin client now sent free at =
+      subst₂ (λ (p : Option Parked) (s : Option End). IsAt incoming outgoing newest start origin client now sent p
+      s) free.0
       free.1 at
 
-  is_at : (start : Pass) (origin : T) (client : Sitting T) (now : Pass) (sent : List ℕ) → IsFree client →
-      IsReady incoming outgoing start origin client now sent →
-      IsAt incoming outgoing start origin client now sent client.parked client.stopped
-  is_at start origin client now sent free ready =
-      subst₂ (λ (p : Option Parked) (s : Option End). IsAt incoming outgoing start origin client now sent p s)
+  is_at : (newest : Version) (start : Pass) (origin : T) (client : Sitting T) (now : Holder Pass) (sent : List ℕ) →
+      IsFree client →
+      IsReady incoming outgoing newest start origin client now sent →
+      IsAt incoming outgoing newest start origin client now sent client.parked client.stopped
+  is_at newest start origin client now sent free ready =
+      subst₂ (λ (p : Option Parked) (s : Option End). IsAt incoming outgoing newest start origin client now sent p s)
       (sym free.0) (sym free.1) ready
 
-  is_stopped : (start : Pass) (origin : T) (client : Sitting T) (now : Pass) (sent : List ℕ) (why : End) →
-      client.parked ≡ None → HasStopped incoming outgoing start origin client now sent why →
-      IsAt incoming outgoing start origin client now sent client.parked (Some why)
-  is_stopped start origin client now sent why none stopped =
-      subst (λ (p : Option Parked). IsAt incoming outgoing start origin client now sent p (Some why)) (sym none) stopped
+  is_stopped : (newest : Version) (start : Pass) (origin : T) (client : Sitting T) (now : Holder Pass)
+      (sent : List ℕ) (why : End) →
+      client.parked ≡ None → HasStopped incoming outgoing newest start origin client now sent why →
+      IsAt incoming outgoing newest start origin client now sent client.parked (Some why)
+  is_stopped newest start origin client now sent why none stopped =
+      subst (λ (p : Option Parked). IsAt incoming outgoing newest start origin client now sent p (Some why))
+      (sym none) stopped
 
   -- The connection cannot be read.
-  read_at : (start : Pass) (origin : T) (client : Sitting T) (now : Pass) (sent : List ℕ) →
-      IsReady incoming outgoing start origin client now sent →
-      HasStopped incoming outgoing start origin client now sent (Fault Read)
-  read_at start origin client now sent ready = (
+  read_at : (newest : Version) (start : Pass) (origin : T) (client : Sitting T) (now : Holder Pass) (sent : List ℕ) →
+      IsReady incoming outgoing newest start origin client now sent →
+      HasStopped incoming outgoing newest start origin client now sent (Fault Read)
+  read_at newest start origin client now sent ready = (
     prepend_known client.input (incoming client.connection),
     behind client.input (incoming client.connection),
-    stops_read Two (asks_with zero_moment ⊤) SLOTS client.dialogue start now (incoming origin)
+    stops_read newest (holds_with zero_moment ⊤) SLOTS client.dialogue (empty_handed start) now (incoming origin)
         (prepend_known client.input (incoming client.connection)) sent ready,
   )
 
   pub stops_reading : (client : Sitting T) → IsFree client →
       Keeps incoming outgoing client (stopped_for (Fault Read) client)
-  stops_reading client free = λ now start origin sits. record {
+  stops_reading client free = λ now newest start origin sits. record {
     sent = sits.sent;
     wrote = sits.wrote;
-    at = is_stopped start origin (stopped_for (Fault Read) client) now sits.sent (Fault Read) free.0
-        (read_at start origin client now sits.sent (is_ready start origin client now sits.sent free sits.at));
+    at = is_stopped newest start origin (stopped_for (Fault Read) client) now sits.sent (Fault Read) free.0
+        (read_at newest start origin client now sits.sent (is_ready newest start origin client now sits.sent free
+        sits.at));
   }
 
   -- The client has reset the connection.
-  reset_at : (start : Pass) (origin : T) (client : Sitting T) (now : Pass) (sent : List ℕ) →
-      IsReady incoming outgoing start origin client now sent →
-      HasStopped incoming outgoing start origin client now sent Reset
-  reset_at start origin client now sent ready = (
+  reset_at : (newest : Version) (start : Pass) (origin : T) (client : Sitting T) (now : Holder Pass) (sent : List ℕ) →
+      IsReady incoming outgoing newest start origin client now sent →
+      HasStopped incoming outgoing newest start origin client now sent Reset
+  reset_at newest start origin client now sent ready = (
     prepend_known client.input (incoming client.connection),
     behind client.input (incoming client.connection),
-    stops_reset Two (asks_with zero_moment ⊤) SLOTS client.dialogue start now (incoming origin)
+    stops_reset newest (holds_with zero_moment ⊤) SLOTS client.dialogue (empty_handed start) now (incoming origin)
         (prepend_known client.input (incoming client.connection)) sent ready,
   )
 
   pub stops_resetting : (client : Sitting T) → IsFree client →
       Keeps incoming outgoing client (stopped_for Reset client)
-  stops_resetting client free = λ now start origin sits. record {
+  stops_resetting client free = λ now newest start origin sits. record {
     sent = sits.sent;
     wrote = sits.wrote;
-    at = is_stopped start origin (stopped_for Reset client) now sits.sent Reset free.0
-        (reset_at start origin client now sits.sent (is_ready start origin client now sits.sent free sits.at));
+    at = is_stopped newest start origin (stopped_for Reset client) now sits.sent Reset free.0
+        (reset_at newest start origin client now sits.sent (is_ready newest start origin client now sits.sent free
+        sits.at));
   }
 
   -- The connection takes no more.
   pub stops_writing : (client : Sitting T) → IsFree client → client.dialogue.unsent.bytes ≢ [] →
       Keeps incoming outgoing client (stopped_for Write client)
-  stops_writing client free some = λ now start origin sits. record {
+  stops_writing client free some = λ now newest start origin sits. record {
     sent = sits.sent;
     wrote = sits.wrote;
-    at = is_stopped start origin (stopped_for Write client) now sits.sent Write free.0 (
+    at = is_stopped newest start origin (stopped_for Write client) now sits.sent Write free.0 (
       prepend_known client.input (incoming client.connection),
       behind client.input (incoming client.connection),
-      stops_write Two (asks_with zero_moment ⊤) SLOTS client.dialogue start now (incoming origin)
+      stops_write newest (holds_with zero_moment ⊤) SLOTS client.dialogue (empty_handed start) now (incoming origin)
           (prepend_known client.input (incoming client.connection)) sits.sent
-          (some_bytes client.dialogue.unsent.bytes some) (is_ready start origin client now sits.sent free sits.at),
+          (some_bytes client.dialogue.unsent.bytes some) (is_ready newest start origin client now sits.sent free
+          sits.at),
     );
   }
 
@@ -342,15 +352,15 @@ module _ {T : Type 0} (incoming outgoing : T → Option (List ℕ)) where
       (incoming client.connection ≡ None → incoming connection ≡ None) →
       outgoing connection ≡ outgoing client.connection →
       Keeps incoming outgoing client (with_input (client.input ++ bytes) (on connection client))
-  arrives_more client connection bytes free took none same = λ now start origin sits. record {
+  arrives_more client connection bytes free took none same = λ now newest start origin sits. record {
     sent = sits.sent;
     wrote = subst (λ (o : Option (List ℕ)). Appends (outgoing origin) o sits.sent) (sym same) sits.wrote;
-    at = is_at start origin (with_input (client.input ++ bytes) (on connection client)) now sits.sent free
+    at = is_at newest start origin (with_input (client.input ++ bytes) (on connection client)) now sits.sent free
         (subst (λ (o : Option (List ℕ)).
-        Stands Two (asks_with zero_moment ⊤) SLOTS client.dialogue start now (incoming origin)
+        Stands newest (holds_with zero_moment ⊤) SLOTS client.dialogue (empty_handed start) now (incoming origin)
         o sits.sent)
         (same_unread client.input bytes (incoming client.connection) (incoming connection) took none)
-        (is_ready start origin client now sits.sent free sits.at));
+        (is_ready newest start origin client now sits.sent free sits.at));
   }
 
   -- Bytes were read, and memory for them was refused.
@@ -358,15 +368,15 @@ module _ {T : Type 0} (incoming outgoing : T → Option (List ℕ)) where
       Consumes (incoming client.connection) (incoming connection) bytes →
       outgoing connection ≡ outgoing client.connection →
       Keeps incoming outgoing client (stopped_for NoMemory (on connection client))
-  arrives_not client connection bytes free took same = λ now start origin sits. record {
+  arrives_not client connection bytes free took same = λ now newest start origin sits. record {
     sent = sits.sent;
     wrote = subst (λ (o : Option (List ℕ)). Appends (outgoing origin) o sits.sent) (sym same) sits.wrote;
-    at = is_stopped start origin (stopped_for NoMemory (on connection client)) now sits.sent NoMemory free.0 (
+    at = is_stopped newest start origin (stopped_for NoMemory (on connection client)) now sits.sent NoMemory free.0 (
       prepend_known client.input (incoming client.connection),
       behind_read client.input bytes (incoming client.connection) (incoming connection) took,
-      stops_memory Two (asks_with zero_moment ⊤) SLOTS client.dialogue start now (incoming origin)
+      stops_memory newest (holds_with zero_moment ⊤) SLOTS client.dialogue (empty_handed start) now (incoming origin)
           (prepend_known client.input (incoming client.connection)) sits.sent
-          (is_ready start origin client now sits.sent free sits.at),
+          (is_ready newest start origin client now sits.sent free sits.at),
     );
   }
 
@@ -382,11 +392,12 @@ module _ {T : Type 0} (incoming outgoing : T → Option (List ℕ)) where
       subst (Keeps incoming outgoing client) (sym is) (arrives_not client connection bytes free took same)
 
   -- The connection takes no more replies.
-  broken_at : (start : Pass) (origin : T) (client : Sitting T) (now : Pass) (sent : List ℕ) (parked : Option Parked)
-      (stopped : Option End) → IsAt incoming outgoing start origin client now sent parked stopped →
-      IsAt incoming outgoing start origin (broken_off client) now sent parked stopped
-  broken_at start origin client now sent None None at = at
-  broken_at start origin client now sent (Some parked) None at = record {
+  broken_at : (newest : Version) (start : Pass) (origin : T) (client : Sitting T) (now : Holder Pass)
+      (sent : List ℕ) (parked : Option Parked)
+      (stopped : Option End) → IsAt incoming outgoing newest start origin client now sent parked stopped →
+      IsAt incoming outgoing newest start origin (broken_off client) now sent parked stopped
+  broken_at newest start origin client now sent None None at = at
+  broken_at newest start origin client now sent (Some parked) None at = record {
     text = at.text;
     before = at.before;
     later = at.later;
@@ -395,14 +406,14 @@ module _ {T : Type 0} (incoming outgoing : T → Option (List ℕ)) where
     size = at.size;
     waits = at.waits;
   }
-  broken_at start origin client now sent None (Some why) at = at
-  broken_at start origin client now sent (Some parked) (Some why) at = absurd at
+  broken_at newest start origin client now sent None (Some why) at = at
+  broken_at newest start origin client now sent (Some parked) (Some why) at = absurd at
 
   breaks : (client : Sitting T) → Keeps incoming outgoing client (broken_off client)
-  breaks client = λ now start origin sits. record {
+  breaks client = λ now newest start origin sits. record {
     sent = sits.sent;
     wrote = sits.wrote;
-    at = broken_at start origin client now sits.sent client.parked client.stopped sits.at;
+    at = broken_at newest start origin client now sits.sent client.parked client.stopped sits.at;
   }
 
   -- The client is broken off: it stops for this reason, unless it has stopped.
@@ -455,61 +466,67 @@ module _ {T : Type 0} (incoming outgoing : T → Option (List ℕ)) where
   -- ---- any client
 
   -- The call is left.
-  left_at : (start : Pass) (origin : T) (client : Sitting T) (input : List ℕ) (now : Pass) (sent : List ℕ)
+  left_at : (newest : Version) (start : Pass) (origin : T) (client : Sitting T) (input : List ℕ) (now : Holder Pass)
+      (sent : List ℕ)
       (parked : Parked) (stopped : Option End) →
-      IsAt incoming outgoing start origin client now sent (Some parked) stopped →
-      HasStopped incoming outgoing start origin (left_with input client) now sent Left
-  left_at start origin client input now sent parked None waits =
-      let told = left zero_moment parked.request.version parked.cred ⊤ parked.request.ask waits.text waits.before
+      IsAt incoming outgoing newest start origin client now sent (Some parked) stopped →
+      HasStopped incoming outgoing newest start origin (left_with input client) now sent Left
+  left_at newest start origin client input now sent parked None waits =
+      let told = hold_left zero_moment parked.request.version parked.cred ⊤ parked.request.ask waits.text waits.before
       parked.waiting now tt waits.waits in (
         prepend_known waits.later (incoming client.connection),
         behind waits.later (incoming client.connection),
-        leaves Two (asks_with zero_moment ⊤) SLOTS parked.cred parked.request waits.text [] client.dialogue start
+        leaves newest (holds_with zero_moment ⊤) SLOTS parked.cred parked.request waits.text [] client.dialogue
+            (empty_handed start)
             waits.before
             now (incoming origin) (prepend_known waits.later (incoming client.connection)) sent waits.asking told refl,
       )
-  left_at start origin client input now sent parked (Some why) none = absurd none
+  left_at newest start origin client input now sent parked (Some why) none = absurd none
 
   pub gives_up : (client : Sitting T) (input : List ℕ) (parked : Parked) → client.parked ≡ Some parked →
       Keeps incoming outgoing client (left_with input client)
-  gives_up client input parked is = λ now start origin sits. record {
+  gives_up client input parked is = λ now newest start origin sits. record {
     sent = sits.sent;
     wrote = sits.wrote;
-    at = left_at start origin client input now sits.sent parked client.stopped
-        (subst (λ (p : Option Parked). IsAt incoming outgoing start origin client now sits.sent p client.stopped) is
+    at = left_at newest start origin client input now sits.sent parked client.stopped
+        (subst (λ (p : Option Parked). IsAt incoming outgoing newest start origin client now sits.sent p
+        client.stopped) is
         sits.at);
   }
 
   -- The connection took or gave nothing.
-  turned_at : (start : Pass) (origin : T) (client : Sitting T) (connection : T) (now : Pass) (sent : List ℕ)
+  turned_at : (newest : Version) (start : Pass) (origin : T) (client : Sitting T) (connection : T)
+      (now : Holder Pass) (sent : List ℕ)
       (parked : Option Parked) (stopped : Option End) → incoming connection ≡ incoming client.connection →
-      IsAt incoming outgoing start origin client now sent parked stopped →
-      IsAt incoming outgoing start origin (on connection client) now sent parked stopped
-  turned_at start origin client connection now sent None None same at =
+      IsAt incoming outgoing newest start origin client now sent parked stopped →
+      IsAt incoming outgoing newest start origin (on connection client) now sent parked stopped
+  turned_at newest start origin client connection now sent None None same at =
       subst (λ (o : Option (List ℕ)).
-      Stands Two (asks_with zero_moment ⊤) SLOTS client.dialogue start now (incoming origin)
+      Stands newest (holds_with zero_moment ⊤) SLOTS client.dialogue (empty_handed start) now (incoming origin)
       (prepend_known client.input o) sent) (sym same) at
-  turned_at start origin client connection now sent (Some parked) None same at = record {
+  turned_at newest start origin client connection now sent (Some parked) None same at = record {
     text = at.text;
     before = at.before;
     later = at.later;
-    asking = subst (λ (o : Option (List ℕ)). StandsAsking Two (asks_with zero_moment ⊤) SLOTS parked.cred parked.request
-        at.text client.dialogue start at.before (incoming origin) (prepend_known at.later o) sent) (sym same) at.asking;
+    asking = subst (λ (o : Option (List ℕ)). StandsAsking newest (holds_with zero_moment ⊤) SLOTS parked.cred
+        parked.request
+        at.text client.dialogue (empty_handed start) at.before (incoming origin) (prepend_known at.later o) sent)
+        (sym same) at.asking;
     frame = at.frame;
     size = at.size;
     waits = at.waits;
   }
-  turned_at start origin client connection now sent None (Some why) same at =
+  turned_at newest start origin client connection now sent None (Some why) same at =
       (at.0, subst (λ (o : Option (List ℕ)). IsBehind at.0 o) (sym same) at.1, at.2)
-  turned_at start origin client connection now sent (Some parked) (Some why) same at = absurd at
+  turned_at newest start origin client connection now sent (Some parked) (Some why) same at = absurd at
 
   pub turned : (client : Sitting T) (connection : T) → incoming connection ≡ incoming client.connection →
       KeepsBytes (outgoing client.connection) (outgoing connection) →
       Keeps incoming outgoing client (on connection client)
-  turned client connection same kept = λ now start origin sits. record {
+  turned client connection same kept = λ now newest start origin sits. record {
     sent = sits.sent;
     wrote = Appends-kept (outgoing origin) (outgoing client.connection) (outgoing connection) sits.sent sits.wrote kept;
-    at = turned_at start origin client connection now sits.sent client.parked client.stopped same sits.at;
+    at = turned_at newest start origin client connection now sits.sent client.parked client.stopped same sits.at;
   }
 
   -- A read returned nothing.
@@ -523,7 +540,7 @@ module _ {T : Type 0} (incoming outgoing : T → Option (List ℕ)) where
       (Keeps-refl (outgoing client.connection)))
 
   -- One read, and then what is taken up.
-  pub filled : (old client mid new : Sitting T) (connection : T) (bytes : List ℕ) (before after : Pass) →
+  pub filled : (old client mid new : Sitting T) (connection : T) (bytes : List ℕ) (before after : Holder Pass) →
       client ≡ old → IsFree old → Consumes (incoming client.connection) (incoming connection) bytes →
       (incoming client.connection ≡ None → incoming connection ≡ None) →
       outgoing connection ≡ outgoing client.connection → Arrives bytes (on connection client) mid →
@@ -534,7 +551,7 @@ module _ {T : Type 0} (incoming outgoing : T → Option (List ℕ)) where
       (arrives client mid connection bytes (free_as old client view free) took none same arrived before) taken)
 
   -- Nothing more can be read.
-  pub filled_last : (old client new : Sitting T) (connection : T) (before after : Pass) → client ≡ old →
+  pub filled_last : (old client new : Sitting T) (connection : T) (before after : Holder Pass) → client ≡ old →
       KeepsBytes (incoming client.connection) (incoming connection) →
       (incoming client.connection ≡ None → incoming connection ≡ None) →
       outgoing connection ≡ outgoing client.connection →
@@ -545,7 +562,7 @@ module _ {T : Type 0} (incoming outgoing : T → Option (List ℕ)) where
       (keeps_on client before (on connection client) before new after
       (unread_still client connection kept none same before) taken)
 
-  pub filled_none : (old client : Sitting T) (connection : T) (now : Pass) → client ≡ old →
+  pub filled_none : (old client : Sitting T) (connection : T) (now : Holder Pass) → client ≡ old →
       KeepsBytes (incoming client.connection) (incoming connection) →
       (incoming client.connection ≡ None → incoming connection ≡ None) →
       outgoing connection ≡ outgoing client.connection →
@@ -555,7 +572,7 @@ module _ {T : Type 0} (incoming outgoing : T → Option (List ℕ)) where
       (unread_still client connection kept none same now)
 
   pub filled_not : (why : End) → ((c : Sitting T) → IsFree c → Keeps incoming outgoing c (stopped_for why c)) →
-      (old client new : Sitting T) (connection : T) (now : Pass) → client ≡ old → IsFree old →
+      (old client new : Sitting T) (connection : T) (now : Holder Pass) → client ≡ old → IsFree old →
       KeepsBytes (incoming client.connection) (incoming connection) →
       (incoming client.connection ≡ None → incoming connection ≡ None) →
       outgoing connection ≡ outgoing client.connection → new ≡ stopped_for why (on connection client) →
@@ -568,7 +585,7 @@ module _ {T : Type 0} (incoming outgoing : T → Option (List ℕ)) where
       (stops (on connection client) (free_as old client view free))) now)
 
   -- A turn: what is taken up, then the leave of a peer, then what changes nothing.
-  pub turns : (old : Sitting T) (before : Pass) (mid left new : Sitting T) (after : Pass) →
+  pub turns : (old : Sitting T) (before : Holder Pass) (mid left new : Sitting T) (after : Holder Pass) →
       KeepsWith incoming outgoing old before mid after → Keeps incoming outgoing mid left → new ≡ left →
       KeepsWith incoming outgoing old before new after
   turns old before mid left new after taken keeps is =
@@ -585,52 +602,58 @@ module _ {T : Type 0} (incoming outgoing : T → Option (List ℕ)) where
     broken = client.broken;
   }
 
-  drained_at : (start : Pass) (origin : T) (client : Sitting T) (connection : T) (n : ℕ) (now : Pass) (sent : List ℕ)
+  drained_at : (newest : Version) (start : Pass) (origin : T) (client : Sitting T) (connection : T) (n : ℕ)
+      (now : Holder Pass) (sent : List ℕ)
       (parked : Option Parked) (stopped : Option End) → n ≤ length client.dialogue.unsent.bytes →
       incoming connection ≡ incoming client.connection →
-      IsAt incoming outgoing start origin client now sent parked stopped →
-      IsAt incoming outgoing start origin (with_sent connection n client) now
+      IsAt incoming outgoing newest start origin client now sent parked stopped →
+      IsAt incoming outgoing newest start origin (with_sent connection n client) now
       (sent ++ take n client.dialogue.unsent.bytes) parked stopped
-  drained_at start origin client connection n now sent None None fits same at =
-      sends Two (asks_with zero_moment ⊤) SLOTS n client.dialogue (sent_on n client.dialogue) start now
+  drained_at newest start origin client connection n now sent None None fits same at =
+      sends newest (holds_with zero_moment ⊤) SLOTS n client.dialogue (sent_on n client.dialogue)
+      (empty_handed start) now
       (incoming origin)
       (prepend_known client.input (incoming connection)) sent fits refl
       (subst (λ (o : Option (List ℕ)).
-      Stands Two (asks_with zero_moment ⊤) SLOTS client.dialogue start now (incoming origin)
+      Stands newest (holds_with zero_moment ⊤) SLOTS client.dialogue (empty_handed start) now (incoming origin)
       (prepend_known client.input o) sent) (sym same) at)
-  drained_at start origin client connection n now sent (Some parked) None fits same at = record {
+  drained_at newest start origin client connection n now sent (Some parked) None fits same at = record {
     text = at.text;
     before = at.before;
     later = at.later;
-    asking = sends_asking Two (asks_with zero_moment ⊤) SLOTS parked.cred parked.request at.text n client.dialogue
-        (sent_on n client.dialogue) start at.before (incoming origin) (prepend_known at.later (incoming connection))
+    asking = sends_asking newest (holds_with zero_moment ⊤) SLOTS parked.cred parked.request at.text n client.dialogue
+        (sent_on n client.dialogue) (empty_handed start) at.before (incoming origin)
+        (prepend_known at.later (incoming connection))
         sent
         fits refl
-        (subst (λ (o : Option (List ℕ)). StandsAsking Two (asks_with zero_moment ⊤) SLOTS parked.cred parked.request
-        at.text client.dialogue start at.before (incoming origin) (prepend_known at.later o) sent) (sym same)
+        (subst (λ (o : Option (List ℕ)). StandsAsking newest (holds_with zero_moment ⊤) SLOTS parked.cred parked.request
+        at.text client.dialogue (empty_handed start) at.before (incoming origin) (prepend_known at.later o) sent)
+        (sym same)
         at.asking);
     frame = at.frame;
     size = at.size;
     waits = at.waits;
   }
-  drained_at start origin client connection n now sent None (Some why) fits same at = (
+  drained_at newest start origin client connection n now sent None (Some why) fits same at = (
     at.0,
     subst (λ (o : Option (List ℕ)). IsBehind at.0 o) (sym same) at.1,
-    sends_stopped Two (asks_with zero_moment ⊤) SLOTS why n client.dialogue (sent_on n client.dialogue) start now
+    sends_stopped newest (holds_with zero_moment ⊤) SLOTS why n client.dialogue (sent_on n client.dialogue)
+        (empty_handed start) now
         (incoming origin)
         at.0 sent fits refl at.2,
   )
-  drained_at start origin client connection n now sent (Some parked) (Some why) fits same at = absurd at
+  drained_at newest start origin client connection n now sent (Some parked) (Some why) fits same at = absurd at
 
   pub drained : (client : Sitting T) (connection : T) (n : ℕ) → n ≤ length client.dialogue.unsent.bytes →
       incoming connection ≡ incoming client.connection →
       Appends (outgoing client.connection) (outgoing connection) (take n client.dialogue.unsent.bytes) →
       Keeps incoming outgoing client (with_sent connection n client)
-  drained client connection n fits same wrote = λ now start origin sits. record {
+  drained client connection n fits same wrote = λ now newest start origin sits. record {
     sent = sits.sent ++ take n client.dialogue.unsent.bytes;
     wrote = Appends-trans (outgoing origin) (outgoing client.connection) (outgoing connection) sits.sent
         (take n client.dialogue.unsent.bytes) sits.wrote wrote;
-    at = drained_at start origin client connection n now sits.sent client.parked client.stopped fits same sits.at;
+    at = drained_at newest start origin client connection n now sits.sent client.parked client.stopped fits same
+        sits.at;
   }
 
   abbrev pub with_dialogue : T → Dialogue → Sitting T → Sitting T
@@ -657,48 +680,49 @@ module _ {T : Type 0} (incoming outgoing : T → Option (List ℕ)) where
   -- ---- the first and the last event
 
   -- A new client.
-  pub opened : (client : Sitting T) (pass : Pass) → client.dialogue.session.newest ≡ Two →
+  pub opened : (client : Sitting T) (newest : Version) (pass : Pass) → client.dialogue.session.newest ≡ newest →
       client.dialogue.session.caller ≡ None →
       client.dialogue.session.tally ≡ record { written = 0; lost = 0 } → client.dialogue.session.requests ≡ 0 →
       client.dialogue.unsent ≡ record { bytes = []; marks = [] } → client.input ≡ [] → IsFree client →
-      Sits incoming outgoing pass client.connection client pass
-  opened client pass limit caller tally requests unsent none free = record {
+      Sits incoming outgoing newest pass client.connection client (empty_handed pass)
+  opened client newest pass limit caller tally requests unsent none free = record {
     sent = [];
     wrote = Appends-nil (outgoing client.connection);
-    at = is_at pass client.connection client pass [] free
-        (subst (λ (o : Option (List ℕ)). Stands Two (asks_with zero_moment ⊤) SLOTS client.dialogue pass pass
-        (incoming client.connection) o [])
+    at = is_at newest pass client.connection client (empty_handed pass) [] free
+        (subst (λ (o : Option (List ℕ)). Stands newest (holds_with zero_moment ⊤) SLOTS client.dialogue
+        (empty_handed pass) (empty_handed pass) (incoming client.connection) o [])
         (sym (ap (λ (l : List ℕ). prepend_known l (incoming client.connection)) none
         ∙ prepend_known-nil (incoming client.connection)))
-        (opens Two (asks_with zero_moment ⊤) SLOTS client.dialogue pass (incoming client.connection) limit caller tally
-        requests
-        unsent));
+        (opens newest (holds_with zero_moment ⊤) SLOTS client.dialogue (empty_handed pass) (incoming client.connection)
+        limit caller tally requests unsent));
   }
 
   -- A client is closed. Its call is left, if one is parked.
-  closing_at : (start : Pass) (origin : T) (client : Sitting T) (now : Pass) (sent : List ℕ)
+  closing_at : (newest : Version) (start : Pass) (origin : T) (client : Sitting T) (now : Holder Pass) (sent : List ℕ)
       (parked : Option Parked) (stopped : Option End) →
-      IsAt incoming outgoing start origin client now sent parked stopped →
-      HasStopped incoming outgoing start origin client now sent (end_at_close parked stopped)
-  closing_at start origin client now sent None None at = read_at start origin client now sent at
-  closing_at start origin client now sent None (Some why) at = at
-  closing_at start origin client now sent (Some parked) None at =
-      left_at start origin client client.input now sent parked None at
-  closing_at start origin client now sent (Some parked) (Some why) at = absurd at
+      IsAt incoming outgoing newest start origin client now sent parked stopped →
+      HasStopped incoming outgoing newest start origin client now sent (end_at_close parked stopped)
+  closing_at newest start origin client now sent None None at = read_at newest start origin client now sent at
+  closing_at newest start origin client now sent None (Some why) at = at
+  closing_at newest start origin client now sent (Some parked) None at =
+      left_at newest start origin client client.input now sent parked None at
+  closing_at newest start origin client now sent (Some parked) (Some why) at = absurd at
 
-  closed : {B : Type 0} (closes : Closing T B) (start : Pass) (origin : T) (client : Sitting T) (now : Pass)
-      (book book' : B) → Sits incoming outgoing start origin client now →
+  closed : {B : Type 0} (closes : Closing T B) (newest : Version) (start : Pass) (origin : T) (client : Sitting T)
+      (now : Holder Pass)
+      (book book' : B) → Sits incoming outgoing newest start origin client now →
       closes.leaves book (incoming client.connection) (outgoing client.connection) book' →
-      IsOver incoming outgoing closes start origin
+      IsOver incoming outgoing closes newest start origin
       (report (end_at_close client.parked client.stopped) client.dialogue) now book book'
-  closed closes start origin client now book book' sits done =
+  closed closes newest start origin client now book book' sits done =
       let why = end_at_close client.parked client.stopped in
-      let stopped = closing_at start origin client now sits.sent client.parked client.stopped sits.at in
+      let stopped = closing_at newest start origin client now sits.sent client.parked client.stopped sits.at in
       record {
         rest = stopped.0;
         kept = incoming client.connection;
         more = outgoing client.connection;
-        serves = ends Two (asks_with zero_moment ⊤) SLOTS why client.dialogue start now (incoming origin) stopped.0
+        serves = ends newest (holds_with zero_moment ⊤) SLOTS why client.dialogue (empty_handed start) now (incoming
+            origin) stopped.0
             (outgoing origin) (outgoing client.connection) sits.sent stopped.2 sits.wrote;
         behind = stopped.1;
         closed = done;
@@ -708,10 +732,11 @@ module _ {T : Type 0} (incoming outgoing : T → Option (List ℕ)) where
       (book book' : B) → client ≡ old → why ≡ end_at_close client.parked client.stopped →
       served ≡ report why client.dialogue →
       closes.leaves book (incoming client.connection) (outgoing client.connection) book' →
-      (start now : Pass) (origin : T) → Sits incoming outgoing start origin old now →
-      IsOver incoming outgoing closes start origin served now book book'
-  closed_over closes old client why served book book' same reason is done start now origin sits =
-      let here = subst (λ (c : Sitting T). Sits incoming outgoing start origin c now) (sym same) sits in
-      subst (λ (s : Served). IsOver incoming outgoing closes start origin s now book book')
+      (newest : Version) (start : Pass) (now : Holder Pass) (origin : T) →
+      Sits incoming outgoing newest start origin old now →
+      IsOver incoming outgoing closes newest start origin served now book book'
+  closed_over closes old client why served book book' same reason is done newest start now origin sits =
+      let here = subst (λ (c : Sitting T). Sits incoming outgoing newest start origin c now) (sym same) sits in
+      subst (λ (s : Served). IsOver incoming outgoing closes newest start origin s now book book')
       (sym (is ∙ ap (λ (w : End). report w client.dialogue) reason))
-      (closed closes start origin client now book book' here done)
+      (closed closes newest start origin client now book book' here done)

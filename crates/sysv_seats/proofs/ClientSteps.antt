@@ -41,7 +41,6 @@ use Rattle.sysv_wire.specs.declared.fault.Fault.TheVariants.{Truncated, TooLong,
 use Rattle.sysv_wire.specs.declared.frame.Op.{Op}
 use Rattle.sysv_wire.specs.declared.frame.Op.TheVariants as op
 use Rattle.sysv_wire.specs.declared.frame.Version.{Version}
-use Rattle.sysv_wire.specs.declared.frame.Version.TheVariants.{Two}
 use Rattle.sysv_wire.specs.declared.reply.ReplyContent.{ReplyContent}
 use Rattle.sysv_wire.specs.declared.reply.ReplyContent.TheVariants as content
 use Rattle.sysv_wire.specs.declared.request.Ask.{Ask}
@@ -51,19 +50,20 @@ use Rattle.sysv_wire.specs.Requests.{ask_text, op_of, request_encoding}
 use Rattle.sysv_seats.specs.declared.parked.Parked.{Parked}
 use Rattle.sysv_seats.specs.declared.waiting.Waiting.{Waiting}
 use Rattle.sysv_seats.specs.declared.waiting.Waiting.TheVariants.{Send, Receive, Get}
-use Rattle.sysv_seats.specs.Asked.{asks_with}
-use Rattle.sysv_seats.specs.InPieces.{asks_any}
 use Rattle.sysv_seats.specs.Asked.{Asks}
-use Rattle.sysv_seats.specs.Parked.{GoesOn, HasBegun, IsReplied, IsWaitOf, MayProgress, Proceeds}
+use Rattle.sysv_seats.specs.Held.{AnyGoesOn, HoldAsks, HoldBegun, HoldProgress, hold_progress, holds_with}
+use Rattle.sysv_seats.specs.Holding.{Holder, Message, done_outcome, empty_handed, hold_outcome, received}
+use Rattle.sysv_seats.specs.Parked.{GoesOn, IsReplied, IsWaitOf, Proceeds}
 use Rattle.sysv_seats.specs.Parked.{kind_in, get_progress, receive_progress, send_progress}
 use Rattle.sysv_seats.specs.Replies.{done_reply, given_reply, id_reply, row_reply, stat_reply}
 use Rattle.sysv_seats.specs.Sits.{GreetsAs, HasAsked, HasFrame, HasStopped, IsAt, IsBehind, IsFree, IsPending, IsReady}
 use Rattle.sysv_seats.specs.Sits.{IsWaiting, ReadsNext, Sits, Sitting, is_early, is_wait_of}
 use Rattle.sysv_seats.specs.Sits.{messages_so_far, stopped_for, conversing, with_input, zero_moment}
+use Rattle.sysv_seats.proofs.HeldPieces.{hold_asks_any}
 
 -- What the calls of a client mean.
-abbrev Means : Meaning Pass
-Means = asks_with zero_moment ⊤
+abbrev Means : Meaning (Holder Pass)
+Means = holds_with zero_moment ⊤
 
 -- ---- lists
 
@@ -108,17 +108,18 @@ is_of ask waiting is = absurd is
 
 -- A call that waits waits by a wait of its request.
 pub waits_by : (version : Version) (ask : Ask) (came : Progress Waiting RequestOutcome) (given : List ℕ)
-    (waiting : Waiting) → came ≡ progress.Waits waiting → MayProgress version ask came given →
-    is_wait_of ask waiting ≡ true
+    (waiting : Waiting) → came ≡ progress.Waits waiting → HoldProgress version ask came given →
+    is_wait_of (received ask) waiting ≡ true
 waits_by version ask came given waiting is may =
-    is_of ask waiting (subst (λ (p : Progress Waiting RequestOutcome). MayProgress version ask p given) is may)
+    is_of (received ask) waiting
+    (subst (λ (p : Progress Waiting RequestOutcome). HoldProgress version ask p given) is may)
 
 -- The outcome of a call that is over.
 pub answers : (version : Version) (ask : Ask) (came : Progress Waiting RequestOutcome) (given : List ℕ)
-    (outcome : RequestOutcome) → came ≡ progress.Over outcome → MayProgress version ask came given →
+    (outcome : RequestOutcome) → came ≡ progress.Over outcome → HoldProgress version ask came given →
     MayAnswer version ask outcome given
 answers version ask came given outcome is may =
-    subst (λ (p : Progress Waiting RequestOutcome). MayProgress version ask p given) is may
+    subst (λ (p : Progress Waiting RequestOutcome). HoldProgress version ask p given) is may
 
 -- A body that may be returned is short.
 pub short_given : (version : Version) (ask : Ask) (outcome : RequestOutcome) (given : List ℕ) →
@@ -193,7 +194,7 @@ row_has version (Ok row) = tt
 row_has version (Err why) = tt
 
 -- A caller that does not leave is told how each call ended.
-asks_replied : (may : ℕ → Type 0) (version : Version) (cred : Cred) (ask : Ask) (text : List ℕ) (before : Pass)
+pub asks_replied : (may : ℕ → Type 0) (version : Version) (cred : Cred) (ask : Ask) (text : List ℕ) (before : Pass)
     (outcome : RequestOutcome) (given : List ℕ) (after : Pass) →
     Asks may ⊥ version cred ask text before outcome given after →
     HasReply outcome
@@ -224,12 +225,36 @@ asks_replied may version cred (kind.Hold id size mtype flags seconds) text befor
 asks_replied may version cred kind.Done text before outcome given after asked = subst HasReply (sym asked.0.1) tt
 asks_replied may version cred kind.Back text before outcome given after asked = subst HasReply (sym asked.0.1) tt
 
-pub begun_replied : (may : ℕ → Type 0) (version : Version) (cred : Cred) (ask : Ask) (text : List ℕ) (before : Pass)
-    (came : Progress Waiting RequestOutcome) (given : List ℕ) (after : Pass) →
-    HasBegun may version cred ask text before came given after → IsReplied came
+hold_has : (version : Version) (outcome : RequestOutcome) → HasReply outcome → HasReply (hold_outcome version outcome)
+hold_has version (Reply reply) has = tt
+hold_has version (Got delivery) has = tt
+hold_has version WasLeft has = absurd has
+
+spent_has : (version : Version) (message : Option Message) → HasReply (done_outcome version message)
+spent_has version None = tt
+spent_has version (Some message) = tt
+
+hold_asks_replied : (may : ℕ → Type 0) (version : Version) (cred : Cred) (ask : Ask) (text : List ℕ)
+    (before : Holder Pass) (outcome : RequestOutcome) (given : List ℕ) (after : Holder Pass) →
+    HoldAsks may ⊥ version cred ask text before outcome given after → HasReply outcome
+hold_asks_replied may version cred (kind.Hold id size mtype flags seconds) text before outcome given after
+    (inl refused) = subst HasReply (sym refused.2) tt
+hold_asks_replied may version cred (kind.Hold id size mtype flags seconds) text before outcome given after
+    (inr (can, came, receives, is, held)) =
+    subst HasReply (sym is) (hold_has version came
+    (asks_replied may version cred (kind.Rcv id size mtype flags) text before.at came given after.at receives))
+hold_asks_replied may version cred kind.Done text before outcome given after asked =
+    subst HasReply (sym asked.1) (spent_has version before.message)
+hold_asks_replied may version cred kind.Back text before outcome given after asked = subst HasReply (sym asked.1) tt
+hold_asks_replied may version cred ask text before outcome given after asked =
+    asks_replied may version cred ask text before.at outcome given after.at asked.0
+
+pub begun_replied : (may : ℕ → Type 0) (version : Version) (cred : Cred) (ask : Ask) (text : List ℕ)
+    (before : Holder Pass) (came : Progress Waiting RequestOutcome) (given : List ℕ) (after : Holder Pass) →
+    HoldBegun may version cred ask text before came given after → IsReplied came
 begun_replied may version cred ask text before (progress.Waits waiting) given after begun = tt
 begun_replied may version cred ask text before (progress.Over outcome) given after begun =
-    asks_replied may version cred ask text before outcome given after begun
+    hold_asks_replied may version cred ask text before outcome given after begun
 
 send_has : (version : Version) (came : Progress SendWait (Result ⊤ Errno)) → IsReplied (send_progress version came)
 send_has version (progress.Waits w) = tt
@@ -260,6 +285,23 @@ pub goes_replied : (may : ℕ → Type 0) (version : Version) (waiting : Waiting
 goes_replied may version waiting text before came given after (inl still) = subst IsReplied (sym still.1) tt
 goes_replied may version waiting text before came given after (inr went) =
     proceeds_replied may version waiting text went.0 went.1 came given after went.3
+
+hold_on_has : (version : Version) (came : Progress Waiting RequestOutcome) → IsReplied came →
+    IsReplied (hold_progress version came)
+hold_on_has version (progress.Waits waiting) has = tt
+hold_on_has version (progress.Over outcome) has = hold_has version outcome has
+
+pub any_goes_replied : (may : ℕ → Type 0) (version : Version) (cred : Cred) (ask : Ask) (waiting : Waiting)
+    (text : List ℕ) (before : Holder Pass) (came : Progress Waiting RequestOutcome) (given : List ℕ)
+    (after : Holder Pass) → AnyGoesOn may version cred ask waiting text before came given after → IsReplied came
+any_goes_replied may version cred (kind.Hold id size mtype flags seconds) waiting text before came given after
+    (inl waits) = subst IsReplied (sym waits.0) tt
+any_goes_replied may version cred (kind.Hold id size mtype flags seconds) waiting text before came given after
+    (inr (inner, goes, is, held)) =
+    subst IsReplied (sym is)
+    (hold_on_has version inner (goes_replied may version waiting text before.at inner given after.at goes))
+any_goes_replied may version cred ask waiting text before came given after goes =
+    goes_replied may version waiting text before.at came given after.at goes.0
 
 -- The outcome of a call that is over has a reply.
 pub over_has : (came : Progress Waiting RequestOutcome) (outcome : RequestOutcome) → came ≡ progress.Over outcome →
@@ -315,61 +357,68 @@ pending_next old new size result text cred request counted reads is =
 
 module _ {T : Type 0} (incoming outgoing : T → Option (List ℕ)) where
   -- A client that is free can take up more.
-  ready : (start : Pass) (origin : T) (client : Sitting T) (now : Pass) → IsFree client →
-      (sits : Sits incoming outgoing start origin client now) →
-      IsReady incoming outgoing start origin client now sits.sent
-  ready start origin client now free sits =
-      subst₂ (λ (p : Option Parked) (s : Option End). IsAt incoming outgoing start origin client now sits.sent p s)
+  ready : (newest : Version) (start : Pass) (origin : T) (client : Sitting T) (now : Holder Pass) → IsFree client →
+      (sits : Sits incoming outgoing newest start origin client now) →
+      IsReady incoming outgoing newest start origin client now sits.sent
+  ready newest start origin client now free sits =
+      subst₂ (λ (p : Option Parked) (s : Option End). IsAt incoming outgoing newest start origin client now
+      sits.sent p s)
       free.0 free.1 sits.at
 
-  at_ready : (start : Pass) (origin : T) (client : Sitting T) (now : Pass) (sent : List ℕ) → client.parked ≡ None →
-      client.stopped ≡ None → IsReady incoming outgoing start origin client now sent →
-      IsAt incoming outgoing start origin client now sent client.parked client.stopped
-  at_ready start origin client now sent parked stopped at =
-      subst₂ (λ (p : Option Parked) (s : Option End). IsAt incoming outgoing start origin client now sent p s)
+  at_ready : (newest : Version) (start : Pass) (origin : T) (client : Sitting T) (now : Holder Pass)
+      (sent : List ℕ) → client.parked ≡ None →
+      client.stopped ≡ None → IsReady incoming outgoing newest start origin client now sent →
+      IsAt incoming outgoing newest start origin client now sent client.parked client.stopped
+  at_ready newest start origin client now sent parked stopped at =
+      subst₂ (λ (p : Option Parked) (s : Option End). IsAt incoming outgoing newest start origin client now sent p s)
       (sym parked) (sym stopped) at
 
-  at_stopped : (start : Pass) (origin : T) (client : Sitting T) (now : Pass) (sent : List ℕ) (why : End) →
+  at_stopped : (newest : Version) (start : Pass) (origin : T) (client : Sitting T) (now : Holder Pass)
+      (sent : List ℕ) (why : End) →
       client.parked ≡ None → client.stopped ≡ Some why →
-      HasStopped incoming outgoing start origin client now sent why →
-      IsAt incoming outgoing start origin client now sent client.parked client.stopped
-  at_stopped start origin client now sent why parked stopped at =
-      subst₂ (λ (p : Option Parked) (s : Option End). IsAt incoming outgoing start origin client now sent p s)
+      HasStopped incoming outgoing newest start origin client now sent why →
+      IsAt incoming outgoing newest start origin client now sent client.parked client.stopped
+  at_stopped newest start origin client now sent why parked stopped at =
+      subst₂ (λ (p : Option Parked) (s : Option End). IsAt incoming outgoing newest start origin client now sent p s)
       (sym parked) (sym stopped) at
 
-  at_waiting : (start : Pass) (origin : T) (client : Sitting T) (now : Pass) (sent : List ℕ) (parked : Parked) →
+  at_waiting : (newest : Version) (start : Pass) (origin : T) (client : Sitting T) (now : Holder Pass)
+      (sent : List ℕ) (parked : Parked) →
       client.parked ≡ Some parked → client.stopped ≡ None →
-      IsWaiting incoming outgoing start origin client now sent parked →
-      IsAt incoming outgoing start origin client now sent client.parked client.stopped
-  at_waiting start origin client now sent parked parks stopped at =
-      subst₂ (λ (p : Option Parked) (s : Option End). IsAt incoming outgoing start origin client now sent p s)
+      IsWaiting incoming outgoing newest start origin client now sent parked →
+      IsAt incoming outgoing newest start origin client now sent client.parked client.stopped
+  at_waiting newest start origin client now sent parked parks stopped at =
+      subst₂ (λ (p : Option Parked) (s : Option End). IsAt incoming outgoing newest start origin client now sent p s)
       (sym parks) (sym stopped) at
 
   -- ---- a request has an outcome, or waits
 
-  module _ (start before now : Pass) (origin : T) (old new : Sitting T) (cred : Cred) (request : Request)
-      (text : List ℕ) (size : ℕ) (asked : HasAsked incoming outgoing start origin old cred request text size before)
+  module _ (newest : Version) (start : Pass) (before now : Holder Pass) (origin : T) (old new : Sitting T)
+      (cred : Cred) (request : Request)
+      (text : List ℕ) (size : ℕ) (asked : HasAsked incoming outgoing newest start origin old cred request text size
+      before)
       (connection : new.connection ≡ old.connection) where
     wrote : Appends (outgoing origin) (outgoing new.connection) asked.sent
     wrote = subst (λ (t : T). Appends (outgoing origin) (outgoing t) asked.sent) (sym connection) asked.wrote
 
     module _ (came : Progress Waiting RequestOutcome) (outcome : RequestOutcome) (given : List ℕ)
         (is : came ≡ progress.Over outcome)
-        (begun : HasBegun zero_moment request.version cred request.ask text before came given now)
-        (may : MayProgress request.version request.ask came given) where
+        (begun : HoldBegun zero_moment request.version cred request.ask text before came given now)
+        (may : HoldProgress request.version request.ask came given) where
       means : Means before cred request text outcome given now
       means =
-          asks_any zero_moment request.version cred ⊤ request.ask text before outcome given now
-          (subst (λ (p : Progress Waiting RequestOutcome). HasBegun zero_moment request.version cred request.ask text
+          hold_asks_any zero_moment request.version cred ⊤ request.ask text before outcome given now
+          (subst (λ (p : Progress Waiting RequestOutcome). HoldBegun zero_moment request.version cred request.ask text
           before p given now) is begun)
 
       -- Its reply was gathered.
       pub put_reply : Puts (Ok tt) request.version outcome given old.dialogue new.dialogue →
           new.input ≡ drop size old.input →
-          new.parked ≡ None → new.stopped ≡ old.stopped → Sits incoming outgoing start origin new now
+          new.parked ≡ None → new.stopped ≡ old.stopped → Sits incoming outgoing newest start origin new now
       put_reply put input parked stopped =
           let stands =
-          puts Two Means SLOTS cred request text outcome given old.dialogue start before now (incoming origin)
+          puts newest Means SLOTS cred request text outcome given old.dialogue (empty_handed start) before now
+          (incoming origin)
           (prepend_known asked.later (incoming old.connection)) asked.sent asked.asking means
           (answers request.version request.ask came given outcome is may) new.dialogue put in
           let left : new.input ≡ asked.later =
@@ -377,24 +426,26 @@ module _ {T : Type 0} (incoming outgoing : T → Option (List ℕ)) where
           record {
             sent = asked.sent;
             wrote = wrote;
-            at = at_ready start origin new now asked.sent parked (stopped ∙ asked.going)
-                (subst₂ (λ (l : List ℕ) (t : T). Stands Two Means SLOTS new.dialogue start now (incoming origin)
+            at = at_ready newest start origin new now asked.sent parked (stopped ∙ asked.going)
+                (subst₂ (λ (l : List ℕ) (t : T). Stands newest Means SLOTS new.dialogue (empty_handed start) now
+                (incoming origin)
                 (prepend_known l (incoming t)) asked.sent) (sym left) (sym connection) stands);
           }
 
       -- It has no reply, and the client stops.
       pub put_none : (why : End) → Puts (Err why) request.version outcome given old.dialogue new.dialogue →
-          new.parked ≡ None → new.stopped ≡ Some why → Sits incoming outgoing start origin new now
+          new.parked ≡ None → new.stopped ≡ Some why → Sits incoming outgoing newest start origin new now
       put_none why put parked stopped =
           let rest = prepend_known asked.later (incoming old.connection) in
           let stood =
-          put_ends Two Means SLOTS cred request text outcome given old.dialogue start before now (incoming origin)
+          put_ends newest Means SLOTS cred request text outcome given old.dialogue (empty_handed start) before now
+          (incoming origin)
           rest asked.sent asked.asking means (answers request.version request.ask came given outcome is may) why
           new.dialogue put in
           record {
             sent = asked.sent;
             wrote = wrote;
-            at = at_stopped start origin new now asked.sent why parked stopped (
+            at = at_stopped newest start origin new now asked.sent why parked stopped (
               rest,
               subst (λ (t : T). IsBehind rest (incoming t)) (sym connection)
                   (behind asked.later (incoming old.connection)),
@@ -405,23 +456,24 @@ module _ {T : Type 0} (incoming outgoing : T → Option (List ℕ)) where
     -- It waits, and is parked.
     pub parks : (came : Progress Waiting RequestOutcome) (waiting : Waiting) (given : List ℕ) →
         came ≡ progress.Waits waiting →
-        HasBegun zero_moment request.version cred request.ask text before came given now →
+        HoldBegun zero_moment request.version cred request.ask text before came given now →
         new.dialogue ≡ old.dialogue → new.input ≡ old.input →
         new.parked ≡ Some (record { cred = cred; request = request; waiting = waiting; length = size }) →
-        new.stopped ≡ old.stopped → Sits incoming outgoing start origin new now
+        new.stopped ≡ old.stopped → Sits incoming outgoing newest start origin new now
     parks came waiting given is begun dialogue input parked stopped =
-        let waits = subst (λ (p : Progress Waiting RequestOutcome). HasBegun zero_moment request.version cred
+        let waits = subst (λ (p : Progress Waiting RequestOutcome). HoldBegun zero_moment request.version cred
         request.ask text before p given now) is begun in
         record {
           sent = asked.sent;
           wrote = wrote;
-          at = at_waiting start origin new now asked.sent
+          at = at_waiting newest start origin new now asked.sent
               (record { cred = cred; request = request; waiting = waiting; length = size }) parked
               (stopped ∙ asked.going) (record {
                 text = text;
                 before = before;
                 later = asked.later;
-                asking = subst₂ (λ (k : Dialogue) (t : T). StandsAsking Two Means SLOTS cred request text k start before
+                asking = subst₂ (λ (k : Dialogue) (t : T). StandsAsking newest Means SLOTS cred request text k
+                    (empty_handed start) before
                     (incoming origin) (prepend_known asked.later (incoming t)) asked.sent) (sym dialogue)
                     (sym connection)
                     asked.asking;
@@ -433,27 +485,32 @@ module _ {T : Type 0} (incoming outgoing : T → Option (List ℕ)) where
 
   -- ---- a parked call
 
-  parked_at : (start : Pass) (origin : T) (client : Sitting T) (now : Pass) (sent : List ℕ) (parked : Parked)
-      (stopped : Option End) → IsAt incoming outgoing start origin client now sent (Some parked) stopped →
-      (stopped ≡ None) × IsWaiting incoming outgoing start origin client now sent parked
-  parked_at start origin client now sent parked None at = (refl, at)
-  parked_at start origin client now sent parked (Some why) at = absurd at
+  parked_at : (newest : Version) (start : Pass) (origin : T) (client : Sitting T) (now : Holder Pass)
+      (sent : List ℕ) (parked : Parked)
+      (stopped : Option End) → IsAt incoming outgoing newest start origin client now sent (Some parked) stopped →
+      (stopped ≡ None) × IsWaiting incoming outgoing newest start origin client now sent parked
+  parked_at newest start origin client now sent parked None at = (refl, at)
+  parked_at newest start origin client now sent parked (Some why) at = absurd at
 
   -- A client with a parked call waits.
-  pub is_waiting : (start : Pass) (origin : T) (client : Sitting T) (now : Pass) (parked : Parked) →
-      client.parked ≡ Some parked → (sits : Sits incoming outgoing start origin client now) →
-      (client.stopped ≡ None) × IsWaiting incoming outgoing start origin client now sits.sent parked
-  is_waiting start origin client now parked is sits =
-      parked_at start origin client now sits.sent parked client.stopped
-      (subst (λ (p : Option Parked). IsAt incoming outgoing start origin client now sits.sent p client.stopped) is
+  pub is_waiting : (newest : Version) (start : Pass) (origin : T) (client : Sitting T) (now : Holder Pass)
+      (parked : Parked) →
+      client.parked ≡ Some parked → (sits : Sits incoming outgoing newest start origin client now) →
+      (client.stopped ≡ None) × IsWaiting incoming outgoing newest start origin client now sits.sent parked
+  is_waiting newest start origin client now parked is sits =
+      parked_at newest start origin client now sits.sent parked client.stopped
+      (subst (λ (p : Option Parked). IsAt incoming outgoing newest start origin client now sits.sent p
+      client.stopped) is
       sits.at)
 
   -- Its request was taken up.
-  pub asked_before : (start : Pass) (origin : T) (client : Sitting T) (now : Pass) (parked : Parked)
-      (sits : Sits incoming outgoing start origin client now) → client.stopped ≡ None →
-      (waits : IsWaiting incoming outgoing start origin client now sits.sent parked) →
-      HasAsked incoming outgoing start origin client parked.cred parked.request waits.text parked.length waits.before
-  asked_before start origin client now parked sits going waits = record {
+  pub asked_before : (newest : Version) (start : Pass) (origin : T) (client : Sitting T) (now : Holder Pass)
+      (parked : Parked)
+      (sits : Sits incoming outgoing newest start origin client now) → client.stopped ≡ None →
+      (waits : IsWaiting incoming outgoing newest start origin client now sits.sent parked) →
+      HasAsked incoming outgoing newest start origin client parked.cred parked.request waits.text parked.length
+      waits.before
+  asked_before newest start origin client now parked sits going waits = record {
     sent = sits.sent;
     wrote = sits.wrote;
     later = waits.later;
@@ -465,9 +522,10 @@ module _ {T : Type 0} (incoming outgoing : T → Option (List ℕ)) where
 
   -- ---- what is taken up
 
-  module _ (start now : Pass) (origin : T) (old new : Sitting T) (size : ℕ) (result : Result TakenUp End)
+  module _ (newest : Version) (start : Pass) (now : Holder Pass) (origin : T) (old new : Sitting T) (size : ℕ)
+      (result : Result TakenUp End)
       (text : List ℕ) (free : IsFree old) (reads : ReadsNext old size result text new)
-      (sits : Sits incoming outgoing start origin old now) where
+      (sits : Sits incoming outgoing newest start origin old now) where
     stays : new.connection ≡ old.connection
     stays = ap (λ (s : Sitting T). s.connection) reads.same
 
@@ -482,21 +540,23 @@ module _ {T : Type 0} (incoming outgoing : T → Option (List ℕ)) where
 
     -- A request is taken up.
     pub asks_next : (cred : Cred) (request : Request) → result ≡ Ok (Asked cred request) →
-        HasAsked incoming outgoing start origin new cred request text size now
+        HasAsked incoming outgoing newest start origin new cred request text size now
     asks_next cred request is =
         let takes = took (Ok (Asked cred request)) is in
         let took_more = takes_up_more old.dialogue.session new.dialogue.session (Ok (Asked cred request)) old.input
         reads.rest text
         (incoming old.connection) tt takes in
-        let stands = takes_request Two Means SLOTS cred request old.dialogue new.dialogue start now (incoming origin)
+        let stands = takes_request newest Means SLOTS cred request old.dialogue new.dialogue (empty_handed start)
+        now (incoming origin)
         (prepend_known old.input (incoming old.connection)) (prepend_known reads.rest (incoming old.connection))
-        sits.sent text (ready start origin old now free sits) took_more reads.unsent in
+        sits.sent text (ready newest start origin old now free sits) took_more reads.unsent in
         record {
           sent = sits.sent;
           wrote = wrote_still;
           later = reads.rest;
           asking =
-              subst (λ (t : T). StandsAsking Two Means SLOTS cred request text new.dialogue start now (incoming origin)
+              subst (λ (t : T). StandsAsking newest Means SLOTS cred request text new.dialogue (empty_handed start)
+              now (incoming origin)
               (prepend_known reads.rest (incoming t)) sits.sent) (sym stays) stands;
           frame = ap (λ (s : Sitting T). s.input) reads.same ∙ takes.3.0;
           whole = read_whole size old.input (request_encoding request text) reads.rest reads.read takes.3.0;
@@ -505,75 +565,82 @@ module _ {T : Type 0} (incoming outgoing : T → Option (List ℕ)) where
 
     -- What is read ends the session.
     pub stops_next : (why : End) (last : Sitting T) → result ≡ Err why → IsSettled (Err why) (incoming old.connection) →
-        last ≡ stopped_for why new → Sits incoming outgoing start origin last now
+        last ≡ stopped_for why new → Sits incoming outgoing newest start origin last now
     stops_next why last is settled same =
         let took_more = takes_up_more old.dialogue.session new.dialogue.session (Err why) old.input reads.rest text
         (incoming old.connection) settled (took (Err why) is) in
         let rest = prepend_known reads.rest (incoming old.connection) in
-        let stood = stops Two Means SLOTS why old.dialogue new.dialogue start now (incoming origin)
+        let stood = stops newest Means SLOTS why old.dialogue new.dialogue (empty_handed start) now (incoming origin)
         (prepend_known old.input (incoming old.connection)) rest sits.sent text
-        (ready start origin old now free sits) took_more reads.unsent in
-        let at_new : HasStopped incoming outgoing start origin (stopped_for why new) now sits.sent why = (
+        (ready newest start origin old now free sits) took_more reads.unsent in
+        let at_new : HasStopped incoming outgoing newest start origin (stopped_for why new) now sits.sent why = (
           rest,
           subst (λ (t : T). IsBehind rest (incoming t)) (sym stays)
               (behind reads.rest (incoming old.connection)),
           stood,
         ) in
-        subst (λ (s : Sitting T). Sits incoming outgoing start origin s now) (sym same)
+        subst (λ (s : Sitting T). Sits incoming outgoing newest start origin s now) (sym same)
         (record {
           sent = sits.sent;
           wrote = wrote_still;
-          at = at_stopped start origin (stopped_for why new) now sits.sent why
+          at = at_stopped newest start origin (stopped_for why new) now sits.sent why
               (ap (λ (s : Sitting T). s.parked) reads.same ∙ free.0) refl at_new;
         })
 
     -- A hello is taken up, and its reply is gathered, or memory is refused for it.
     greeted : (version : Version) (last : Sitting T) →
-        StandsGreeting Two version new.dialogue start now (incoming origin)
+        StandsGreeting newest version new.dialogue (empty_handed start) now (incoming origin)
         (prepend_known (drop size new.input) (incoming new.connection)) sits.sent →
-        GreetsAs version (with_input (drop size new.input) new) last → Sits incoming outgoing start origin last now
+        GreetsAs version (with_input (drop size new.input) new) last →
+        Sits incoming outgoing newest start origin last now
     greeted version last stands (inl same) =
         let answered = conversing (gathered (with_frame (hello_frame version SLOTS)) new.dialogue)
         (with_input (drop size new.input) new) in
-        subst (λ (s : Sitting T). Sits incoming outgoing start origin s now) (sym same)
+        subst (λ (s : Sitting T). Sits incoming outgoing newest start origin s now) (sym same)
         (record {
           sent = sits.sent;
           wrote = wrote_still;
-          at = at_ready start origin answered now sits.sent (ap (λ (s : Sitting T). s.parked) reads.same ∙ free.0)
+          at = at_ready newest start origin answered now sits.sent (ap (λ (s : Sitting T). s.parked) reads.same ∙
+              free.0)
               (ap (λ (s : Sitting T). s.stopped) reads.same ∙ free.1)
-              (greets Two Means SLOTS version new.dialogue answered.dialogue start now (incoming origin)
+              (greets newest Means SLOTS version new.dialogue answered.dialogue (empty_handed start) now (incoming
+              origin)
               (prepend_known (drop size new.input) (incoming new.connection)) sits.sent stands refl);
         })
     greeted version last stands (inr same) =
-        subst (λ (s : Sitting T). Sits incoming outgoing start origin s now) (sym same)
+        subst (λ (s : Sitting T). Sits incoming outgoing newest start origin s now) (sym same)
         (record {
           sent = sits.sent;
           wrote = wrote_still;
-          at = at_stopped start origin (stopped_for NoMemory (with_input (drop size new.input) new)) now sits.sent
+          at = at_stopped newest start origin (stopped_for NoMemory (with_input (drop size new.input) new)) now
+              sits.sent
               NoMemory
               (ap (λ (s : Sitting T). s.parked) reads.same ∙ free.0) refl (
                 prepend_known (drop size new.input) (incoming new.connection),
                 behind (drop size new.input) (incoming new.connection),
-                greet_ends Two Means SLOTS version new.dialogue start now (incoming origin)
+                greet_ends newest Means SLOTS version new.dialogue (empty_handed start) now (incoming origin)
                     (prepend_known (drop size new.input) (incoming new.connection)) sits.sent stands,
               );
         })
 
     pub greets_next : (version : Version) (last : Sitting T) → result ≡ Ok (Hello version) →
-        GreetsAs version (with_input (drop size new.input) new) last → Sits incoming outgoing start origin last now
+        GreetsAs version (with_input (drop size new.input) new) last →
+        Sits incoming outgoing newest start origin last now
     greets_next version last is greets_as =
         let takes = took (Ok (Hello version)) is in
         let encoded = takes.2.1 in
         let took_more =
         takes_up_more old.dialogue.session new.dialogue.session (Ok (Hello version)) old.input reads.rest text
         (incoming old.connection) tt takes in
-        let stands = takes_hello Two Means SLOTS version old.dialogue new.dialogue start now (incoming origin)
+        let stands = takes_hello newest Means SLOTS version old.dialogue new.dialogue (empty_handed start) now
+        (incoming origin)
         (prepend_known old.input (incoming old.connection)) (prepend_known reads.rest (incoming old.connection))
-        sits.sent text (ready start origin old now free sits) took_more reads.unsent in
+        sits.sent text (ready newest start origin old now free sits) took_more reads.unsent in
         let input : new.input ≡ old.input = ap (λ (s : Sitting T). s.input) reads.same in
         let left : drop size new.input ≡ reads.rest =
         drops size new.input _ reads.rest (read_whole size old.input _ reads.rest reads.read encoded)
         (input ∙ encoded) in
         greeted version last
-        (subst₂ (λ (l : List ℕ) (t : T). StandsGreeting Two version new.dialogue start now (incoming origin)
+        (subst₂ (λ (l : List ℕ) (t : T). StandsGreeting newest version new.dialogue (empty_handed start) now
+        (incoming origin)
         (prepend_known l (incoming t)) sits.sent) (sym left) (sym stays) stands) greets_as

@@ -13,4 +13,8 @@ pub mod Memory
 pub mod NonBlocking
 pub mod Sockets
 pub mod PacedStreams
+pub mod Holding
+pub mod Held
 pub mod Sits
+pub mod GivingBack
+pub mod Fates

@@ -1,5 +1,5 @@
 -- The limits under which a server cuts clients off (this project's profile).
-use Rattle.std.specs.Prelude.{ℕ, Bool, true, false, not, ◌==◌}
+use Rattle.std.specs.Prelude.{ℕ, Bool, not, ◌==◌}
 use Rattle.sysv_seats.specs.declared.limits.Limit.{Limit}
 use Rattle.sysv_seats.specs.declared.limits.Limit.TheVariants.{Idle, Stall, Drain}
 use Rattle.sysv_seats.specs.declared.limits.Limits.{Limits}

@@ -22,9 +22,9 @@ use Rattle.sysv_steps.specs.declared.send.SendWait.TheVariants.{Room}
 use Rattle.sysv_session.specs.declared.handler.RequestOutcome.{RequestOutcome}
 use Rattle.sysv_session.specs.declared.handler.RequestOutcome.TheVariants.{Reply, Got, Left}
 use Rattle.sysv_wire.specs.declared.reply.ReplyContent.{ReplyContent}
-use Rattle.sysv_wire.specs.declared.reply.ReplyContent.TheVariants.{Refused}
+use Rattle.sysv_wire.specs.declared.reply.ReplyContent.TheVariants.{Refused, Hold}
 use Rattle.sysv_wire.specs.declared.request.Ask.{Ask}
-use Rattle.sysv_wire.specs.declared.request.Ask.TheVariants.{Get, Snd, Rcv, Set, Rm}
+use Rattle.sysv_wire.specs.declared.request.Ask.TheVariants.{Get, Snd, Rcv, Set, Rm, Hold as HoldOne}
 use Rattle.sysv_seats.specs.declared.notification.Notification.{Notification}
 use Rattle.sysv_seats.specs.declared.notification.Notification.TheVariants as notifications
 use Rattle.sysv_seats.specs.declared.notification.Told.{Told}
@@ -45,16 +45,23 @@ is_done (Reply reply) = not (is_refusal reply.result)
 is_done (Got delivery) = true
 is_done Left = false
 
--- The message that a receive took from this queue.
+-- The message that a hold took from this queue, by its reply.
+abbrev pub freed_by_reply : ℤ → ReplyContent → Option Notification
+freed_by_reply id (Hold mtype) = Some (notifications.Freed (slot_of_id id) mtype)
+freed_by_reply id content = None
+
+-- The message that a receive or a hold took from this queue.
 abbrev pub freed_by : ℤ → RequestOutcome → Option Notification
 freed_by id (Got delivery) = Some (notifications.Freed (slot_of_id id) delivery.mtype)
-freed_by id outcome = None
+freed_by id (Reply answer) = freed_by_reply id answer.result
+freed_by id Left = None
 
 -- What the call changed at a slot.
 abbrev pub changed_by : Ask → RequestOutcome → Option Notification
 changed_by (Snd id mtype flags) outcome =
     if is_done outcome then Some (notifications.Arrived (slot_of_id id) mtype) else None
 changed_by (Rcv id size mtype flags) outcome = freed_by id outcome
+changed_by (HoldOne id size mtype flags seconds) outcome = freed_by id outcome
 changed_by (Set id to) outcome = if is_done outcome then Some (notifications.Changed (slot_of_id id)) else None
 changed_by (Rm id) outcome = if is_done outcome then Some (notifications.Changed (slot_of_id id)) else None
 changed_by ask outcome = None
@@ -63,6 +70,7 @@ changed_by ask outcome = None
 abbrev pub may_release : Ask → RequestOutcome → Bool
 may_release (Snd id mtype flags) outcome = not (is_done outcome)
 may_release (Rcv id size mtype flags) outcome = is_done outcome
+may_release (HoldOne id size mtype flags seconds) outcome = is_done outcome
 may_release (Set id to) outcome = is_done outcome
 may_release (Rm id) outcome = is_done outcome
 may_release ask outcome = false

@@ -23,16 +23,15 @@ use Rattle.sysv_session.specs.Stands.{Stands, StandsAsking, Stopped}
 use Rattle.sysv_service.specs.Ran.{Pass}
 use Rattle.sysv_wire.specs.declared.fault.Fault.TheVariants.{Truncated, TooLong, BadOp, BadField, Read}
 use Rattle.sysv_wire.specs.declared.frame.Version.{Version}
-use Rattle.sysv_wire.specs.declared.frame.Version.TheVariants.{Two}
 use Rattle.sysv_wire.specs.declared.request.Ask.{Ask}
-use Rattle.sysv_wire.specs.declared.request.Ask.TheVariants.{Get as AskGet, Snd, Rcv}
+use Rattle.sysv_wire.specs.declared.request.Ask.TheVariants.{Get as AskGet, Snd, Rcv, Hold}
 use Rattle.sysv_wire.specs.declared.request.Request.{Request}
 use Rattle.sysv_wire.specs.Requests.{request_encoding}
 use Rattle.sysv_seats.specs.declared.parked.Parked.{Parked}
 use Rattle.sysv_seats.specs.declared.waiting.Waiting.{Waiting}
 use Rattle.sysv_seats.specs.declared.waiting.Waiting.TheVariants.{Send, Receive, Get}
-use Rattle.sysv_seats.specs.Asked.{ServesPassTogether, asks_with}
-use Rattle.sysv_seats.specs.Parked.{IsParked}
+use Rattle.sysv_seats.specs.Held.{HoldParked, ServesHolding, holds_with}
+use Rattle.sysv_seats.specs.Holding.{Holder, empty_handed, received}
 use Rattle.sysv_seats.specs.Untold.{Closing}
 
 -- What the parked call waits for, if a call is parked.
@@ -44,6 +43,15 @@ parked_wait (Some parked) = Some parked.waiting
 abbrev pub parked_bytes : Option Parked → ℕ
 parked_bytes None = 0
 parked_bytes (Some parked) = parked.length
+
+-- The parked call is the receive of a hold.
+abbrev pub is_hold : Ask → Bool
+is_hold (Hold id size mtype flags seconds) = true
+is_hold ask = false
+
+abbrev pub is_hold_parked : Option Parked → Bool
+is_hold_parked None = false
+is_hold_parked (Some parked) = is_hold parked.request.ask
 
 -- What the contracts see of a client.
 pub record Sitting (T : Type 0) : Type 0 where
@@ -67,72 +75,76 @@ module _ {T : Type 0} (incoming outgoing : T → Option (List ℕ)) where
   abbrev pub unread : Sitting T → Option (List ℕ)
   unread client = prepend_known client.input (incoming client.connection)
 
-  -- More can be taken up. The session began with the pass `start` and on the connection `origin`.
-  abbrev pub IsReady : Pass → T → Sitting T → Pass → List ℕ → Type 0
-  IsReady start origin client now sent =
-      Stands Two (asks_with zero_moment ⊤) SLOTS client.dialogue start now (incoming origin) (unread client) sent
+  -- More can be taken up. The session reads versions up to the newest one. It began with the pass `start`,
+  -- on the connection `origin`, and held nothing then.
+  abbrev pub IsReady : Version → Pass → T → Sitting T → Holder Pass → List ℕ → Type 0
+  IsReady newest start origin client now sent =
+      Stands newest (holds_with zero_moment ⊤) SLOTS client.dialogue (empty_handed start) now (incoming origin)
+      (unread client) sent
 
   -- The request of this call was taken up, and its frame is still at the front of the input. The call
   -- waits.
-  pub record IsWaiting (start : Pass) (origin : T) (client : Sitting T) (now : Pass) (sent : List ℕ)
-      (parked : Parked) : Type 0 where
+  pub record IsWaiting (newest : Version) (start : Pass) (origin : T) (client : Sitting T) (now : Holder Pass)
+      (sent : List ℕ) (parked : Parked) : Type 0 where
     pub text : List ℕ
-    pub before : Pass
+    pub before : Holder Pass
     pub later : List ℕ
-    pub asking : StandsAsking Two (asks_with zero_moment ⊤) SLOTS parked.cred parked.request text client.dialogue start
-        before
-        (incoming origin) (prepend_known later (incoming client.connection)) sent
+    pub asking : StandsAsking newest (holds_with zero_moment ⊤) SLOTS parked.cred parked.request text client.dialogue
+        (empty_handed start) before (incoming origin) (prepend_known later (incoming client.connection)) sent
     pub frame : client.input ≡ request_encoding parked.request text ++ later
     pub size : parked.length ≡ length (request_encoding parked.request text)
-    pub waits : IsParked zero_moment parked.cred parked.request.ask text before parked.waiting now
+    pub waits : HoldParked zero_moment parked.cred parked.request.ask text before parked.waiting now
 
   -- It takes up no more, for this reason.
-  abbrev pub HasStopped : Pass → T → Sitting T → Pass → List ℕ → End → Type 0
-  HasStopped start origin client now sent why = (rest : Option (List ℕ)) × IsBehind rest (incoming client.connection)
-      × Stopped Two (asks_with zero_moment ⊤) SLOTS why client.dialogue start now (incoming origin) rest sent
+  abbrev pub HasStopped : Version → Pass → T → Sitting T → Holder Pass → List ℕ → End → Type 0
+  HasStopped newest start origin client now sent why =
+      (rest : Option (List ℕ)) × IsBehind rest (incoming client.connection)
+      × Stopped newest (holds_with zero_moment ⊤) SLOTS why client.dialogue (empty_handed start) now (incoming origin)
+      rest sent
 
-  abbrev pub IsAt : Pass → T → Sitting T → Pass → List ℕ → Option Parked → Option End → Type 0
-  IsAt start origin client now sent None None = IsReady start origin client now sent
-  IsAt start origin client now sent (Some parked) None = IsWaiting start origin client now sent parked
-  IsAt start origin client now sent None (Some why) = HasStopped start origin client now sent why
-  IsAt start origin client now sent (Some parked) (Some why) = ⊥
+  abbrev pub IsAt : Version → Pass → T → Sitting T → Holder Pass → List ℕ → Option Parked → Option End → Type 0
+  IsAt newest start origin client now sent None None = IsReady newest start origin client now sent
+  IsAt newest start origin client now sent (Some parked) None = IsWaiting newest start origin client now sent parked
+  IsAt newest start origin client now sent None (Some why) = HasStopped newest start origin client now sent why
+  IsAt newest start origin client now sent (Some parked) (Some why) = ⊥
 
   -- The client's session began with the pass `start`, on the connection `origin`. Its connection has
-  -- taken these bytes of its replies since then, and the pass is now `now`.
-  pub record Sits (start : Pass) (origin : T) (client : Sitting T) (now : Pass) : Type 0 where
+  -- taken these bytes of its replies since then. `now` is the pass now, and what the session holds.
+  pub record Sits (newest : Version) (start : Pass) (origin : T) (client : Sitting T) (now : Holder Pass) :
+      Type 0 where
     pub sent : List ℕ
     pub wrote : Appends (outgoing origin) (outgoing client.connection) sent
-    pub at : IsAt start origin client now sent client.parked client.stopped
+    pub at : IsAt newest start origin client now sent client.parked client.stopped
 
   -- The client's session, which began with the pass `start` on the connection `origin`, is over. It
-  -- reported this, and its connection was closed into the book.
-  pub record IsOver {B : Type 0} (closes : Closing T B) (start : Pass) (origin : T) (served : Served) (now : Pass)
-      (book book' : B) : Type 0 where
+  -- reported this, and its connection was closed into the book. It may still hold a message.
+  pub record IsOver {B : Type 0} (closes : Closing T B) (newest : Version) (start : Pass) (origin : T)
+      (served : Served) (now : Holder Pass) (book book' : B) : Type 0 where
     pub rest : Option (List ℕ)
     pub kept : Option (List ℕ)
     pub more : Option (List ℕ)
-    pub serves : ServesPassTogether zero_moment ⊤ served start now (incoming origin) rest (outgoing origin) more
+    pub serves : ServesHolding newest zero_moment ⊤ served start now (incoming origin) rest (outgoing origin) more
     pub behind : IsBehind rest kept
     pub closed : closes.leaves book kept more book'
 
   -- Wherever the client was before, it is still one of the same session.
-  abbrev pub KeepsWith : (old : Sitting T) → Pass → (new : Sitting T) → Pass → Type 0
-  KeepsWith old before new after =
-      (start : Pass) (origin : T) → Sits start origin old before → Sits start origin new after
+  abbrev pub KeepsWith : (old : Sitting T) → Holder Pass → (new : Sitting T) → Holder Pass → Type 0
+  KeepsWith old before new after = (newest : Version) (start : Pass) (origin : T) →
+      Sits newest start origin old before → Sits newest start origin new after
 
   -- The same, and no call was made.
   abbrev pub Keeps : (old new : Sitting T) → Type 0
-  Keeps old new = (now : Pass) → KeepsWith old now new now
+  Keeps old new = (now : Holder Pass) → KeepsWith old now new now
 
   -- This request was taken up, and its frame, of this length, is at the front of the input. The pass
-  -- was `before` then. The client has not stopped.
-  pub record HasAsked (start : Pass) (origin : T) (client : Sitting T) (cred : Cred) (request : Request)
-      (text : List ℕ) (size : ℕ) (before : Pass) : Type 0 where
+  -- and what was held were `before` then. The client has not stopped.
+  pub record HasAsked (newest : Version) (start : Pass) (origin : T) (client : Sitting T) (cred : Cred)
+      (request : Request) (text : List ℕ) (size : ℕ) (before : Holder Pass) : Type 0 where
     pub sent : List ℕ
     pub wrote : Appends (outgoing origin) (outgoing client.connection) sent
     pub later : List ℕ
-    pub asking : StandsAsking Two (asks_with zero_moment ⊤) SLOTS cred request text client.dialogue start before
-        (incoming origin) (prepend_known later (incoming client.connection)) sent
+    pub asking : StandsAsking newest (holds_with zero_moment ⊤) SLOTS cred request text client.dialogue
+        (empty_handed start) before (incoming origin) (prepend_known later (incoming client.connection)) sent
     pub frame : client.input ≡ request_encoding request text ++ later
     pub whole : size ≡ length (request_encoding request text)
     pub going : client.stopped ≡ None
@@ -256,7 +268,7 @@ is_wait_of ask waiting = false
 -- The frame of a parked call is in the input, and its wait is one of a call of its request.
 abbrev pub HasFrame : List ℕ → Option Parked → Type 0
 HasFrame input parked =
-    IfSome parked (λ p. (p.length ≤ length input) × (is_wait_of p.request.ask p.waiting ≡ true))
+    IfSome parked (λ p. (p.length ≤ length input) × (is_wait_of (received p.request.ask) p.waiting ≡ true))
 
 -- The number of messages that were counted or are in the outbox.
 abbrev pub messages_so_far : Dialogue → ℕ

@@ -9,10 +9,13 @@ ghost use Rattle.sysv_seats.specs.Breaking.{MayBreak, MayEnd};
 ghost use Rattle.sysv_seats.specs.Limits.{has_limit};
 ghost use Rattle.sysv_seats.specs.HandlesKept.{KeepsHandles};
 ghost use Rattle.sysv_seats.specs.Notification.{Keeps as KeepsNotification, notifications_of, told_of};
-ghost use Rattle.sysv_seats.specs.Parked.{HasBegun, IsReplied, MayProgress};
-ghost use Rattle.sysv_seats.specs.Sits.{Arrives, GreetsAs, HasAsked, IsFree, IsOver, IsPending, Keeps, KeepsWith, ReadsNext, Sits, broken_off_for, end_at_close, is_early as early, is_finished, parked_bytes, parked_wait, stopped_for, zero_moment};
+ghost use Rattle.sysv_wire.specs.declared.frame.Version.{Version as Known};
+ghost use Rattle.sysv_seats.specs.Parked.{IsReplied};
+ghost use Rattle.sysv_seats.specs.Holding.{Holder, empty_handed};
+ghost use Rattle.sysv_seats.specs.Held.{HoldBegun, HoldProgress, holder_of};
+ghost use Rattle.sysv_seats.specs.Sits.{Arrives, GreetsAs, HasAsked, IsFree, IsOver, IsPending, Keeps, KeepsWith, ReadsNext, Sits, broken_off_for, end_at_close, is_early as early, is_finished, is_hold_parked, parked_bytes, parked_wait, stopped_for, zero_moment};
 
-use crate::handler::ServiceHandler;
+use crate::keeper::Keeper;
 use crate::limits::Limit;
 use crate::non_blocking::{Drained, Filled, NonBlocking, Over};
 use crate::notification::Told;
@@ -29,7 +32,7 @@ use sysv_keys::SLOTS;
 use sysv_model::{Body, Cred, Instrumented, MESSAGE_BYTES};
 use sysv_service::Progress;
 use sysv_session::{Conversation, End, RequestOutcome, Served, TakenUp};
-use sysv_wire::{Ask, Fault, FrameIn, Op, Request, Version, frame_in};
+use sysv_wire::{Ask, Fault, FrameIn, Op, Request, Version, frame_in_up_to};
 
 /// The number of bytes of replies above which nothing is read from a client.
 const MOST_UNSENT: usize = 65_536;
@@ -94,14 +97,16 @@ impl<T: NonBlocking> Model for Client<T> {
 }
 
 impl<T: NonBlocking> Client<T> {
-    /// Creates the client of a connection from which nothing was read. Allocates nothing.
-    pub fn open(alloc: Global, connection: T) -> Client<T>
+    /// Creates the client of a connection from which nothing was read. Its session reads versions
+    /// up to `newest`. Allocates nothing.
+    pub fn open(alloc: Global, connection: T, newest: Version) -> Client<T>
         ensures connection { result.connection ≡ connection }
-        ensures sits { (pass : Pass) → Sits T.incoming T.outgoing pass connection result pass }
+        ensures sits { (pass : Pass) →
+            Sits T.incoming T.outgoing newest pass connection result (empty_handed pass) }
     {
         Client {
             connection,
-            conversation: Conversation::open(alloc, Version::Two),
+            conversation: Conversation::open(alloc, newest),
             input: Vec::new(alloc),
             start: 0,
             parked: None,
@@ -137,6 +142,16 @@ impl<T: NonBlocking> Client<T> {
         match self.parked {
             Some(parked) => Some(parked.waiting),
             None => None,
+        }
+    }
+
+    /// Returns whether the parked call is the receive of a hold.
+    pub fn awaits_hold(&self) -> bool
+        ensures { result ≡ is_hold_parked self.now.parked }
+    {
+        match self.parked {
+            Some(parked) => matches!(parked.request.ask, Ask::Hold { .. }),
+            None => false,
         }
     }
 
@@ -211,8 +226,8 @@ impl<T: NonBlocking> Client<T> {
         self.connection.may_be_cut(limit)
     }
 
-    /// Returns whether more bytes may be there than the last read returned, although nothing reports
-    /// them: it was short, and no read since has found nothing.
+    /// Returns whether more bytes may be there than the last read returned, although nothing
+    /// reports them: it was short, and no read since has found nothing.
     pub fn may_hold_more(&self) -> bool {
         self.is_short && !self.is_held()
     }
@@ -289,14 +304,10 @@ impl<T: NonBlocking> Client<T> {
 
     /// Takes up and answers what has arrived: a share of the requests that are there, or what one
     /// read returns.
-    pub fn take_turn<R: Wait>(
-        &mut self,
-        handler: &mut ServiceHandler<'_, Zero, R>,
-        tools: &mut Tools,
-    )
-        ensures keeps { KeepsWith T.incoming T.outgoing self.old handler.old.pass self.new
-            handler.new.pass }
-        ensures handles { KeepsHandles handler.old handler.new }
+    pub fn take_turn<R: Wait>(&mut self, handler: &mut Keeper<'_, Zero, R>, tools: &mut Tools)
+        ensures keeps { KeepsWith T.incoming T.outgoing self.old (holder_of handler.old)
+            self.new (holder_of handler.new) }
+        ensures handles { KeepsHandles handler.old.handler handler.new.handler }
         ensures breaks { T.closes.breaks self.new.connection
             ≡ T.closes.breaks self.old.connection }
     {
@@ -309,10 +320,10 @@ impl<T: NonBlocking> Client<T> {
     }
 
     /// Looks whether the parked call may go on, and continues it if so.
-    pub fn go_on<R: Wait>(&mut self, handler: &mut ServiceHandler<'_, Zero, R>, tools: &mut Tools)
-        ensures keeps { KeepsWith T.incoming T.outgoing self.old handler.old.pass self.new
-            handler.new.pass }
-        ensures handles { KeepsHandles handler.old handler.new }
+    pub fn go_on<R: Wait>(&mut self, handler: &mut Keeper<'_, Zero, R>, tools: &mut Tools)
+        ensures keeps { KeepsWith T.incoming T.outgoing self.old (holder_of handler.old)
+            self.new (holder_of handler.new) }
+        ensures handles { KeepsHandles handler.old.handler handler.new.handler }
         ensures breaks { T.closes.breaks self.new.connection
             ≡ T.closes.breaks self.old.connection }
     {
@@ -331,7 +342,7 @@ impl<T: NonBlocking> Client<T> {
             waiting,
             length,
         } = parked;
-        let progress = handler.go_on(&request, &tools.text, &mut tools.given, waiting);
+        let progress = handler.go_on(cred, &request, &tools.text, &mut tools.given, waiting);
         self.settle(cred, request, length, progress, tools);
         self.has_input = self.is_within_request();
     }
@@ -339,9 +350,10 @@ impl<T: NonBlocking> Client<T> {
     /// Closes the client, and returns what its session did. Replies that the connection has not
     /// taken are lost. If nothing else was left to do, the session ends for a reason that there is.
     pub fn close(self, book: &mut T::Book) -> Served
-        ensures over { (start now : Pass) (origin : T) →
-            Sits T.incoming T.outgoing start origin self now →
-            IsOver T.incoming T.outgoing T.closes start origin result now book.old book.new }
+        ensures over { (newest : Known) (start : Pass) (now : Holder Pass) (origin : T) →
+            Sits T.incoming T.outgoing newest start origin self now →
+            IsOver T.incoming T.outgoing T.closes newest start origin result now book.old
+            book.new }
         ensures cause { is_finished self ≡ true
             → MayEnd (T.closes.breaks self.connection) result.«end» }
     {
@@ -426,11 +438,11 @@ impl<T: NonBlocking> Client<T> {
     }
 
     /// Takes up a share of what has arrived, or what one read returns.
-    fn take_some<R: Wait>(&mut self, handler: &mut ServiceHandler<'_, Zero, R>, tools: &mut Tools)
+    fn take_some<R: Wait>(&mut self, handler: &mut Keeper<'_, Zero, R>, tools: &mut Tools)
         requires free { IsFree self.old }
-        ensures keeps { KeepsWith T.incoming T.outgoing self.old handler.old.pass self.new
-            handler.new.pass }
-        ensures handles { KeepsHandles handler.old handler.new }
+        ensures keeps { KeepsWith T.incoming T.outgoing self.old (holder_of handler.old)
+            self.new (holder_of handler.new) }
+        ensures handles { KeepsHandles handler.old.handler handler.new.handler }
         ensures breaks { T.closes.breaks self.new.connection
             ≡ T.closes.breaks self.old.connection }
     {
@@ -442,11 +454,11 @@ impl<T: NonBlocking> Client<T> {
     }
 
     /// Reads once, and takes up what has arrived.
-    fn fill<R: Wait>(&mut self, handler: &mut ServiceHandler<'_, Zero, R>, tools: &mut Tools)
+    fn fill<R: Wait>(&mut self, handler: &mut Keeper<'_, Zero, R>, tools: &mut Tools)
         requires free { IsFree self.old }
-        ensures keeps { KeepsWith T.incoming T.outgoing self.old handler.old.pass self.new
-            handler.new.pass }
-        ensures handles { KeepsHandles handler.old handler.new }
+        ensures keeps { KeepsWith T.incoming T.outgoing self.old (holder_of handler.old)
+            self.new (holder_of handler.new) }
+        ensures handles { KeepsHandles handler.old.handler handler.new.handler }
         ensures breaks { T.closes.breaks self.new.connection
             ≡ T.closes.breaks self.old.connection }
     {
@@ -482,10 +494,10 @@ impl<T: NonBlocking> Client<T> {
     }
 
     /// Takes up a share of the requests in the input.
-    fn take_share<R: Wait>(&mut self, handler: &mut ServiceHandler<'_, Zero, R>, tools: &mut Tools)
-        ensures keeps { KeepsWith T.incoming T.outgoing self.old handler.old.pass self.new
-            handler.new.pass }
-        ensures handles { KeepsHandles handler.old handler.new }
+    fn take_share<R: Wait>(&mut self, handler: &mut Keeper<'_, Zero, R>, tools: &mut Tools)
+        ensures keeps { KeepsWith T.incoming T.outgoing self.old (holder_of handler.old)
+            self.new (holder_of handler.new) }
+        ensures handles { KeepsHandles handler.old.handler handler.new.handler }
         ensures breaks { T.closes.breaks self.new.connection
             ≡ T.closes.breaks self.old.connection }
     {
@@ -494,7 +506,8 @@ impl<T: NonBlocking> Client<T> {
             if self.is_held() {
                 return;
             }
-            if let FrameIn::More { .. } = frame_in(&self.input[self.start..]) {
+            let newest = self.conversation.newest();
+            if let FrameIn::More { .. } = frame_in_up_to(newest, &self.input[self.start..]) {
                 self.has_input = false;
                 return;
             }
@@ -508,14 +521,14 @@ impl<T: NonBlocking> Client<T> {
     fn take_up<R: Wait>(
         &mut self,
         is_end: bool,
-        handler: &mut ServiceHandler<'_, Zero, R>,
+        handler: &mut Keeper<'_, Zero, R>,
         tools: &mut Tools,
     )
         requires free { IsFree self.old }
         requires end { is_end ≡ true → IsAtEnd (T.incoming self.old.connection) }
-        ensures keeps { KeepsWith T.incoming T.outgoing self.old handler.old.pass self.new
-            handler.new.pass }
-        ensures handles { KeepsHandles handler.old handler.new }
+        ensures keeps { KeepsWith T.incoming T.outgoing self.old (holder_of handler.old)
+            self.new (holder_of handler.new) }
+        ensures handles { KeepsHandles handler.old.handler handler.new.handler }
         ensures breaks { T.closes.breaks self.new.connection
             ≡ T.closes.breaks self.old.connection }
     {
@@ -570,17 +583,17 @@ impl<T: NonBlocking> Client<T> {
         cred: Cred,
         request: Request,
         size: usize,
-        handler: &mut ServiceHandler<'_, Zero, R>,
+        handler: &mut Keeper<'_, Zero, R>,
         tools: &mut Tools,
     )
         requires asked { op_of request.ask ≢ Op.Hello }
         requires pending { IsPending self.old }
         requires frame { size ≤ length self.old.input }
-        ensures keeps { (start : Pass) (origin : T) →
-            HasAsked T.incoming T.outgoing start origin self.old cred request tools.old.text size
-            handler.old.pass →
-            Sits T.incoming T.outgoing start origin self.new handler.new.pass }
-        ensures handles { KeepsHandles handler.old handler.new }
+        ensures keeps { (newest : Known) (start : Pass) (origin : T) →
+            HasAsked T.incoming T.outgoing newest start origin self.old cred request tools.old.text
+            size (holder_of handler.old) →
+            Sits T.incoming T.outgoing newest start origin self.new (holder_of handler.new) }
+        ensures handles { KeepsHandles handler.old.handler handler.new.handler }
         ensures breaks { T.closes.breaks self.new.connection
             ≡ T.closes.breaks self.old.connection }
     {
@@ -602,13 +615,15 @@ impl<T: NonBlocking> Client<T> {
     )
         requires pending { IsPending self.old }
         requires frame { size ≤ length self.old.input }
-        requires answer { MayProgress request.version request.ask progress tools.old.given }
+        requires answer { HoldProgress request.version request.ask progress tools.old.given }
         requires replied { IsReplied progress }
-        ensures keeps { (start before now : Pass) (origin : T) (text : List ℕ) →
-            HasAsked T.incoming T.outgoing start origin self.old cred request text size before →
-            HasBegun zero_moment request.version cred request.ask text before progress
+        ensures keeps { (newest : Known) (start : Pass) (before now : Holder Pass) (origin : T)
+            (text : List ℕ) →
+            HasAsked T.incoming T.outgoing newest start origin self.old cred request text size
+            before →
+            HoldBegun zero_moment request.version cred request.ask text before progress
             tools.old.given now →
-            Sits T.incoming T.outgoing start origin self.new now }
+            Sits T.incoming T.outgoing newest start origin self.new now }
         ensures notifications { KeepsNotification (notifications_of (told_of request.ask progress))
             tools.old tools.new }
         ensures breaks { T.closes.breaks self.new.connection

@@ -103,7 +103,7 @@ impl<'a, C: Clock, R: Wait> ServiceHandler<'a, C, R> {
 
     /// Begins a `msgrcv` into `given`.
     #[inline(always)]
-    fn begin_receive(
+    pub(crate) fn begin_receive(
         &mut self,
         version: Version,
         cred: Cred,

@@ -1,6 +1,6 @@
 //! What a call may have changed for calls that wait.
 ghost use Rattle.std.specs.Prelude.{◌≡◌};
-ghost use Rattle.sysv_seats.specs.Notification.{changed_by, freed_by, is_done as does, may_make as makes, may_release, may_settle, told_at, told_by};
+ghost use Rattle.sysv_seats.specs.Notification.{changed_by, freed_by, freed_by_reply, is_done as does, may_make as makes, may_release, may_settle, told_at, told_by};
 
 use crate::waiting::Waiting;
 use bitflags::Flags as _;
@@ -8,7 +8,7 @@ use sysv_keys::slot_of_id;
 use sysv_model::{Flags, IPC_PRIVATE};
 use sysv_service::SendWait;
 use sysv_session::RequestOutcome;
-use sysv_wire::{Ask, ReplyContent, Request};
+use sysv_wire::{Ask, Reply, ReplyContent, Request};
 
 /// What a call may have changed for calls that wait.
 #[derive(Clone, Copy, PartialEq, Eq, Debug)]
@@ -84,6 +84,7 @@ fn there(request: &Request, outcome: &RequestOutcome) -> Option<Notification>
 {
     match request.ask {
         Ask::Rcv { id, .. } => freed(id, outcome),
+        Ask::Hold { id, .. } => freed(id, outcome),
         Ask::Snd { id, mtype, .. } if is_done(outcome) => Some(Notification::Arrived {
             slot: slot_of_id(id),
             mtype,
@@ -104,7 +105,7 @@ fn releases(request: &Request, outcome: &RequestOutcome) -> bool
 {
     match request.ask {
         Ask::Snd { .. } => !is_done(outcome),
-        Ask::Rcv { .. } | Ask::Set { .. } | Ask::Rm { .. } => is_done(outcome),
+        Ask::Rcv { .. } | Ask::Hold { .. } | Ask::Set { .. } | Ask::Rm { .. } => is_done(outcome),
         _ => false,
     }
 }
@@ -128,6 +129,20 @@ fn freed(id: i32, outcome: &RequestOutcome) -> Option<Notification>
         RequestOutcome::Got(delivery) => Some(Notification::Freed {
             slot: slot_of_id(id),
             mtype: delivery.mtype(),
+        }),
+        RequestOutcome::Reply(reply) => freed_by_hold(id, reply),
+        RequestOutcome::Left => None,
+    }
+}
+
+/// Returns what a hold of this queue with this reply changed.
+fn freed_by_hold(id: i32, reply: &Reply) -> Option<Notification>
+    ensures { result ≡ freed_by_reply id reply.now.result }
+{
+    match reply.result {
+        ReplyContent::Hold { mtype } => Some(Notification::Freed {
+            slot: slot_of_id(id),
+            mtype,
         }),
         _ => None,
     }

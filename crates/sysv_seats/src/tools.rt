@@ -1,5 +1,5 @@
 //! What the clients of one worker use one after another.
-ghost use Rattle.std.specs.Prelude.{◌≡◌, ◌∷◌, [], if◌then◌else◌, IfOk, vec_capacity};
+ghost use Rattle.std.specs.Prelude.{◌≡◌, ◌<◌, ◌∷◌, [], if◌then◌else◌, IfOk, true, vec_capacity};
 ghost use Rattle.std.specs.List.{list_any};
 ghost use Rattle.std.specs.Option.{option_to_list};
 ghost use Rattle.sysv_seats.specs.declared.tools.TheConstants.{MOST_NOTIFICATIONS};
@@ -18,9 +18,9 @@ pub const SHARE: u32 = 64;
 /// The maximum number of things that one call may tell.
 const MOST_TOLD: usize = 3;
 
-/// The number of things that one event may tell: those of each request of a share, and of a call
-/// that waited before.
-const MOST_NOTIFICATIONS: usize = MOST_TOLD * (SHARE as usize + 2);
+/// The number of things that one event may tell: those of each request of a share, of a call that
+/// waited before, and of a send that gives back a message and is looked at once more.
+const MOST_NOTIFICATIONS: usize = MOST_TOLD * (SHARE as usize + 4);
 
 /// The buffers that the clients of one worker use one after another, and what their calls may have
 /// changed for calls that wait.
@@ -30,6 +30,9 @@ pub struct Tools {
     pub(crate) text: Body,
     pub(crate) given: Body,
     pub(crate) notifications: Vec<Notification>,
+    /// The number of places that hold a message or whose client waits for one, and the maximum.
+    holding: usize,
+    most_holding: usize,
 }
 
 impl Tools {
@@ -56,7 +59,35 @@ impl Tools {
             text,
             given,
             notifications,
+            holding: 0,
+            most_holding: 0,
         })
+    }
+
+    /// Has at most seven eighths of this many places hold messages, but at least one. So messages
+    /// that are given back leave places for clients that make room for them.
+    pub fn share_places(&mut self, places: usize)
+        ensures { self.new ≡ record self.old { most_holding = self.new.most_holding } }
+    {
+        self.most_holding = (places - places / 8).max(1);
+    }
+
+    /// Returns whether one more place may hold a message.
+    pub fn may_hold_more(&self) -> bool
+        ensures { result ≡ true → self.now.holding < self.now.most_holding }
+    {
+        self.holding < self.most_holding
+    }
+
+    /// Counts one more place that holds a message or whose client waits for one, or one less.
+    pub fn count_hold(&mut self, begins: bool)
+        ensures { self.new ≡ record self.old { holding = self.new.holding } }
+    {
+        self.holding = if begins {
+            self.holding.saturating_add(1)
+        } else {
+            self.holding.saturating_sub(1)
+        };
     }
 
     /// Removes the last of the things that calls may have changed since the tools were opened, and

@@ -252,6 +252,8 @@ module _ {L I H : Type 0} (told : L → Option (List SocketStream)) (listens : L
     ends = record {
       served = serves_on shows blocks workers m s s' books books' ended none same small counted all;
       refused = all.refused;
+      versions = all.versions;
+      held = all.held;
       removed = refl;
       closed = all.closed;
     };

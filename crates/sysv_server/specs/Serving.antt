@@ -20,7 +20,7 @@ use Rattle.sysv_engine.specs.declared.sums.Sums.{Sums}
 use Rattle.sysv_engine.specs.declared.terms.Ended.{Ended}
 use Rattle.sysv_engine.specs.declared.terms.Setting.{Setting}
 use Rattle.sysv_engine.specs.Desks.{Desk, Sat, AreServedInOrder, all_connections}
-use Rattle.sysv_engine.specs.Handled.{Shift, cut_off_of, refused_of, sums_of, told_in}
+use Rattle.sysv_engine.specs.Handled.{Shift, backs_in, cut_off_of, fates_of, newest_of, refused_of, sums_of, told_in}
 use Rattle.sysv_engine.specs.OneRun.{Lived}
 use Rattle.sysv_engine.specs.Serving.{HasLived, LeavesBooks, RunsWith}
 use Rattle.sysv_workers.specs.declared.workers.TheConstants.{MAX_WORKERS}
@@ -48,9 +48,10 @@ abbrev pub limits_in : Terms → Limits
 limits_in terms = limits_for terms.patience.idle terms.patience.stall terms.drain
 
 -- A server on these terms ran with as many workers as they have, or as many as it could have clients, and
--- with the limits of time that they have.
+-- with the limits of time that they have. Its clients might hold messages if the terms say so.
 abbrev pub RanOn : Terms → Setting → Type 0
-RanOn terms setting = RunsWith (min terms.workers terms.at_once) terms.patience terms.drain setting
+RanOn terms setting =
+    RunsWith (min terms.workers terms.at_once) terms.patience terms.drain terms.hold setting
 
 -- A server on a listener, with this number of places. It ran no more sessions than the maximum, if the
 -- maximum is not 0. Each session was on a connection of its own. Each place had its connections in the
@@ -77,6 +78,10 @@ pub record ServesOn (shows : Bool) (blocks places most : ℕ) (limits : Limits) 
 pub record EndsOn (shows : Bool) (blocks places most : ℕ) (limits : Limits) (ended : Ended) : Type 0 where
   pub served : ServesOn shows blocks places most limits ended.sums
   pub refused : ended.refused ≡ refused_of (told_in served.shifts)
+  -- Sessions read versions up to 3 if they might hold messages, and else up to 2. What became of the messages that
+  -- they held at their ends is counted.
+  pub versions : AllByRecursion (λ (shift : Shift). shift.newest ≡ newest_of ended.setting.holds) served.shifts
+  pub held : ended.fates ≡ fates_of (backs_in served.shifts)
   pub removed : ended.removed ≡ served.removed
   pub closed : ended.closed ≡ served.lived.closed
 

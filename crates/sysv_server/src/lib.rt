@@ -14,8 +14,8 @@ mod visitor;
 pub use host::{Host, Notice, Reason};
 pub use listening::{Input, Listens};
 pub use serving::{MAX_CLIENTS, serve_from, serve_listener, serve_on};
-pub use sysv_engine::{Ended, Patience, ServeFault, Sums};
+pub use sysv_engine::{Ended, Fates, Patience, ServeFault, Sums};
 pub use terms::Terms;
 
 /// The version of the server and of its clients.
-pub const VERSION: &str = "0.3.0-dev";
+pub const VERSION: &str = "0.3.0";

@@ -73,6 +73,7 @@ pub fn serve_on<R: Threads + Wait + Net + Sync>(
         patience: Patience::UNBOUNDED,
         drain: 0,
         stats: false,
+        hold: false,
     };
     let mut lent = Lent::new(listener);
     let mut reason = None;
@@ -212,6 +213,7 @@ fn run<L: Listens, I: Input + Drop, H: Host, R: Threads + Wait + Net + Sync>(
         patience,
         drain,
         stats,
+        hold: _,
     } = terms;
     *reason = None;
     let Some((server, rests)) = opened_for(alloc, &terms) else {
@@ -252,10 +254,18 @@ fn opened_for(alloc: Global, terms: &Terms) -> Option<(ServerState, Vec<Rest>)>
     ensures at_once { IfSome result (λ both. both.0.at_once ≡ terms.now.at_once) }
     ensures times { IfSome result (λ both. (both.0.patience ≡ terms.now.patience)
         × (both.0.drain ≡ terms.now.drain)) }
+    ensures holds { IfSome result (λ both. both.0.holds ≡ terms.now.hold) }
 {
     let workers = terms.workers.min(terms.at_once) as usize;
     let at_once = terms.at_once as usize;
-    ServerState::open(alloc, workers, at_once, terms.patience, terms.drain)
+    ServerState::open(
+        alloc,
+        workers,
+        at_once,
+        terms.patience,
+        terms.drain,
+        terms.hold,
+    )
 }
 
 /// Uses the reference once more. This use ties it to the parameter that lent it.

@@ -20,4 +20,6 @@ pub struct Terms {
     pub drain: u32,
     /// Whether the state of the server is shown: its host then opens a socket for readers of it.
     pub stats: bool,
+    /// Whether clients may hold messages: then sessions of version 3 are served.
+    pub hold: bool,
 }

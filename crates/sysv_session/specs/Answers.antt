@@ -6,12 +6,13 @@ use Rattle.sysv_session.specs.declared.handler.RequestOutcome.{RequestOutcome}
 use Rattle.sysv_session.specs.declared.handler.RequestOutcome.TheVariants.{Reply, Got, Left}
 use Rattle.sysv_wire.specs.declared.frame.Op.TheVariants as op
 use Rattle.sysv_wire.specs.declared.frame.Version.{Version}
+use Rattle.sysv_wire.specs.declared.reply.ReplyContent.{ReplyContent}
 use Rattle.sysv_wire.specs.declared.reply.ReplyContent.TheVariants.{Rcv}
 use Rattle.sysv_wire.specs.declared.reply.Reply.{Reply as Answer}
 use Rattle.sysv_wire.specs.declared.request.Ask.{Ask}
 use Rattle.sysv_wire.specs.declared.request.Request.{Request}
 use Rattle.sysv_wire.specs.Frames.{op_number}
-use Rattle.sysv_wire.specs.Replies.{IsAnswer, gives_text, reply_encoding}
+use Rattle.sysv_wire.specs.Replies.{IsAnswer, reply_encoding}
 use Rattle.sysv_wire.specs.Requests.{FitsRequest, ask_text, op_of}
 
 -- The request is not a hello, and its body is that of a send or empty.
@@ -23,13 +24,19 @@ IsAsked request text =
 abbrev pub IsAskedIn : Version → Request → List ℕ → Type 0
 IsAskedIn version request text = (request.version ≡ version) × IsAsked request text
 
+-- The result of a receive with a message, which then is written or lost. That of a hold is none of these:
+-- its message is held.
+abbrev pub is_received : ReplyContent → Bool
+is_received (Rcv mtype) = true
+is_received content = false
+
 -- A handler may return this outcome. A reply has the version and the operation of its request, is a
--- reply that the operation may have, and carries no message. Only a receive returns a message,
+-- reply that the operation may have, and is none of a receive with a message. Only a receive returns a message,
 -- which has the length of its body. In both cases the body has at most MESSAGE_BYTES bytes. A call
 -- that was left has no body.
 abbrev pub MayAnswer : Version → Ask → RequestOutcome → List ℕ → Type 0
 MayAnswer version ask (Reply reply) given = (reply.version ≡ version) × (reply.op ≡ op_number (op_of ask))
-    × IsAnswer reply.version reply.op reply.result × (gives_text reply.result ≡ false) × (length given ≤ MESSAGE_BYTES)
+    × IsAnswer reply.version reply.op reply.result × (is_received reply.result ≡ false) × (length given ≤ MESSAGE_BYTES)
 MayAnswer version ask (Got delivery) given =
     (op_of ask ≡ op.Rcv) × (delivery.len ≡ length given) × (length given ≤ MESSAGE_BYTES)
 MayAnswer version ask Left given = given ≡ []

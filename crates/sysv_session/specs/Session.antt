@@ -1,7 +1,7 @@
 -- What a session does (this project's profile). It reads a hello and replies to it. It then reads
 -- requests, passes each to the handler and writes the handler's outcome, until something ends it. A
 -- call that was left has no reply and ends it.
-use Rattle.std.specs.Prelude.{◌≡◌, ◌+◌, ◌<◌, ◌⊎◌, ⊤, ℕ, List, [], ◌∷◌, ◌++◌, Option, length}
+use Rattle.std.specs.Prelude.{◌≡◌, ◌+◌, ◌<◌, ◌⊎◌, ⊤, ℕ, List, ◌∷◌, ◌++◌, Option, length}
 use Rattle.std.specs.List.{AllByRecursion}
 use Rattle.std.specs.Io.KnownBytes.{Consumes}
 use Rattle.sysv_model.specs.declared.cred.Cred.{Cred}

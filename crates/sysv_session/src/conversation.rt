@@ -56,6 +56,13 @@ impl Conversation {
         }
     }
 
+    /// Returns the newest version that the session reads.
+    pub fn newest(&self) -> Version
+        ensures { result ≡ self.now.session.newest }
+    {
+        self.session.newest
+    }
+
     /// Takes up what the input holds next, like `Session::take_up`. `text` is then the body of the
     /// request.
     ///

@@ -3,6 +3,7 @@ use Rattle.std.specs.Prelude.{◌≡◌, ⊤, ℕ, Bool, true, false, List, [], 
 use Rattle.std.specs.Fmt.{decimal}
 use Rattle.std.specs.Io.KnownBytes.{Appends}
 use Rattle.sysv_server.specs.Serving.{EndsOn, HasReason, limits_in}
+use Rattle.sysv_engine.specs.declared.fates.Fates.{Fates}
 use Rattle.sysv_engine.specs.declared.fault.ServeFault.{ServeFault}
 use Rattle.sysv_engine.specs.declared.fault.ServeFault.TheVariants as faults
 use Rattle.sysv_engine.specs.declared.terms.Ended.{Ended}
@@ -20,11 +21,23 @@ line_of sums rest =
     codes "sessions " ++ decimal sums.sessions ++ codes " taken " ++ decimal sums.taken ++ codes " written "
     ++ decimal sums.written ++ codes " lost " ++ decimal sums.lost ++ rest
 
+-- What becomes of the messages that sessions held at their ends, and the end of the line.
+abbrev pub fates_of : Fates → List ℕ
+fates_of fates =
+    codes " back " ++ decimal fates.sent ++ codes " discarded " ++ decimal fates.discarded ++ codes " refused "
+    ++ decimal fates.refused ++ codes " unsent " ++ decimal fates.unsent ++ 10 ∷ []
+
+-- The end of the line with the sums of a server. If sessions might hold messages, it has what became of these.
+abbrev pub rest_of : (holds : Bool) → Fates → List ℕ
+rest_of false fates = 10 ∷ []
+rest_of true fates = fates_of fates
+
 -- The line with the sums of a server. That of a server that may have an input also has the number of
 -- calls that its end cut off.
 abbrev pub sums_line : (has_input : Bool) → Ended → List ℕ
-sums_line false ended = line_of ended.sums (10 ∷ [])
-sums_line true ended = line_of ended.sums (codes " cut " ++ decimal ended.cut ++ 10 ∷ [])
+sums_line false ended = line_of ended.sums (rest_of ended.setting.holds ended.fates)
+sums_line true ended =
+    line_of ended.sums (codes " cut " ++ decimal ended.cut ++ rest_of ended.setting.holds ended.fates)
 
 -- What is printed of a server that did not serve to its end. A thread that cannot be started lacks memory
 -- or is one too many.
@@ -58,11 +71,11 @@ EndsWithin limit terms ended =
     (limits_in terms) ended
 
 -- A server on these terms ran with as many workers as they have, or as many as it had places under this
--- limit of open files, and with the limits of time that they have.
+-- limit of open files, and with the limits of time that they have. Its clients might hold messages if the terms say so.
 abbrev pub RanWithin : Option ℕ → Terms → Setting → Type 0
 RanWithin limit terms setting =
     RunsWith (min terms.workers (places_within limit terms.stats terms.workers terms.at_once)) terms.patience
-    terms.drain setting
+    terms.drain terms.hold setting
 
 -- A server that may have an input served on these terms until the input was over or the maximum
 -- number of sessions was reached, and the sums of its sessions were printed. It did so under this limit of

@@ -1,10 +1,12 @@
 //! The server.
-ghost use Rattle.std.specs.Prelude.{◌≡◌, ◌∷◌, [], true, IfOk};
+ghost use Rattle.std.specs.Prelude.{◌≡◌, ◌∷◌, ◌++◌, [], codes, IfOk};
+ghost use Rattle.std.specs.Fmt.{decimal};
 ghost use Rattle.std.specs.Io.KnownBytes.{Appends};
 ghost use Rattle.sysv_connect.specs.Ends.{Fails, SucceedsOnlyIf};
 ghost use Rattle.sysv_options.specs.Asked.{HasLimits};
 ghost use Rattle.sysv_server.specs.Serving.{HasReason};
-ghost use Rattle.sysvmsg.specs.Ends.{EndsWithin, HasServed, HasServedAll, RanWithin, line_of, sums_line, words_of};
+ghost use Rattle.sysvmsg.specs.Ends.{EndsWithin, HasServed, HasServedAll, RanWithin};
+ghost use Rattle.sysvmsg.specs.Ends.{fates_of, line_of, sums_line, words_of};
 
 use crate::room::room;
 use crate::socket::listen_at;
@@ -21,7 +23,7 @@ use sysv_connect::{FAULT, complain};
 use sysv_model::BLOCK_BYTES;
 use sysv_options::Serving;
 use sysv_server::{
-    Ended, Host, MAX_CLIENTS, Notice, Reason, ServeFault, Sums, Terms, serve_listener,
+    Ended, Fates, Host, MAX_CLIENTS, Notice, Reason, ServeFault, Sums, Terms, serve_listener,
 };
 use sysv_system::{Event, Watched, await_event};
 
@@ -36,8 +38,8 @@ struct Reporter<'a, R> {
 
 impl<R: Eprint> Reporter<'_, R> {
     /// Reports that the server listens, how many clients it serves at once and how many short
-    /// messages it has blocks for. If there are fewer descriptors than the clients that were asked for, that is reported
-    /// too.
+    /// messages it has blocks for. If there are fewer descriptors than the clients that were asked
+    /// for, that is reported too.
     fn announce(&self) {
         let Reporter {
             rt,
@@ -245,16 +247,17 @@ fn fail<S: Write>(screen: &mut S, fault: &str) -> ExitCode
     ExitCode::from(FAULT)
 }
 
-/// Prints the sums, and for a server that may have had an input the number of calls that its end
-/// cut off.
+/// Prints the sums, for a server that may have had an input the number of calls that its end cut off,
+/// and what became of the messages that sessions held, if they might hold any.
 fn tell<S: Write>(screen: &mut S, ended: &Ended, has_input: bool) -> ExitCode
     ensures { SucceedsOnlyIf (Appends (S.contents screen.old) (S.contents screen.new)
         (sums_line has_input ended.now)) result }
 {
-    if has_input {
-        tell_cut(screen, ended)
-    } else {
-        tell_sums(screen, &ended.sums)
+    match (has_input, ended.setting.holds()) {
+        (false, false) => tell_sums(screen, &ended.sums),
+        (true, false) => tell_cut(screen, &ended.sums, ended.cut),
+        (false, true) => tell_held(screen, &ended.sums, &ended.fates),
+        (true, true) => tell_all(screen, &ended.sums, ended.cut, &ended.fates),
     }
 }
 
@@ -279,20 +282,98 @@ fn tell_sums<S: Write>(screen: &mut S, sums: &Sums) -> ExitCode
 }
 
 /// Prints the sums, and the number of calls that the end cut off.
-fn tell_cut<S: Write>(screen: &mut S, ended: &Ended) -> ExitCode
+fn tell_cut<S: Write>(screen: &mut S, sums: &Sums, cut: u64) -> ExitCode
     ensures { SucceedsOnlyIf (Appends (S.contents screen.old) (S.contents screen.new)
-        (sums_line true ended.now)) result }
+        (line_of sums.now (codes " cut " ++ decimal cut ++ 10 ∷ []))) result }
 {
     let Sums {
         sessions,
         taken,
         written,
         lost,
-    } = ended.sums;
-    let cut = ended.cut;
+    } = *sums;
     match writeln!(
         screen,
         "sessions {sessions} taken {taken} written {written} lost {lost} cut {cut}"
+    ) {
+        Ok(()) => ExitCode::SUCCESS,
+        Err(_) => ExitCode::from(FAULT),
+    }
+}
+
+/// Prints the sums, and what became of the messages that sessions held.
+#[tactic(auto, using(crate::proofs::Lines::held_line))]
+fn tell_held<S: Write>(screen: &mut S, sums: &Sums, fates: &Fates) -> ExitCode
+    ensures { SucceedsOnlyIf (Appends (S.contents screen.old) (S.contents screen.new)
+        (line_of sums.now (fates_of fates.now))) result }
+{
+    match begin_sums(screen, sums) {
+        Ok(()) => tell_fates(screen, fates),
+        Err(_) => ExitCode::from(FAULT),
+    }
+}
+
+/// Prints the sums, the number of calls that the end cut off, and what became of the messages that
+/// sessions held.
+#[tactic(auto, using(crate::proofs::Lines::whole_line))]
+fn tell_all<S: Write>(screen: &mut S, sums: &Sums, cut: u64, fates: &Fates) -> ExitCode
+    ensures { SucceedsOnlyIf (Appends (S.contents screen.old) (S.contents screen.new)
+        (line_of sums.now (codes " cut " ++ decimal cut ++ fates_of fates.now))) result }
+{
+    match begin_cut(screen, sums, cut) {
+        Ok(()) => tell_fates(screen, fates),
+        Err(_) => ExitCode::from(FAULT),
+    }
+}
+
+/// Prints the sums, and does not end the line.
+fn begin_sums<S: Write>(screen: &mut S, sums: &Sums) -> io::Result<()>
+    ensures { IfOk result (λ _. Appends (S.contents screen.old) (S.contents screen.new)
+        (line_of sums.now [])) }
+{
+    let Sums {
+        sessions,
+        taken,
+        written,
+        lost,
+    } = *sums;
+    write!(
+        screen,
+        "sessions {sessions} taken {taken} written {written} lost {lost}"
+    )
+}
+
+/// Prints the sums and the number of calls that the end cut off, and does not end the line.
+fn begin_cut<S: Write>(screen: &mut S, sums: &Sums, cut: u64) -> io::Result<()>
+    ensures { IfOk result (λ _. Appends (S.contents screen.old) (S.contents screen.new)
+        (line_of sums.now (codes " cut " ++ decimal cut))) }
+{
+    let Sums {
+        sessions,
+        taken,
+        written,
+        lost,
+    } = *sums;
+    write!(
+        screen,
+        "sessions {sessions} taken {taken} written {written} lost {lost} cut {cut}"
+    )
+}
+
+/// Prints what became of the messages that sessions held, and ends the line.
+fn tell_fates<S: Write>(screen: &mut S, fates: &Fates) -> ExitCode
+    ensures { SucceedsOnlyIf (Appends (S.contents screen.old) (S.contents screen.new)
+        (fates_of fates.now)) result }
+{
+    let Fates {
+        sent,
+        discarded,
+        refused,
+        unsent,
+    } = *fates;
+    match writeln!(
+        screen,
+        " back {sent} discarded {discarded} refused {refused} unsent {unsent}"
     ) {
         Ok(()) => ExitCode::SUCCESS,
         Err(_) => ExitCode::from(FAULT),

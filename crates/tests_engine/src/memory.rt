@@ -7,7 +7,7 @@ use std::alloc::Global;
 use std::process::Abort;
 use std::sync::Wait;
 use std::thread::Threads;
-use sysv_engine::{Ended, Patience, serve_connections};
+use sysv_engine::{Ended, Fates, Patience, serve_connections};
 use sysv_seats::{MemoryStream, Replies, Step};
 use sysv_workers::Source;
 use tests_kit::worked::{ANSWERS, SESSION};
@@ -80,12 +80,21 @@ fn count(books: &[Replies], replies: &[u8]) -> usize {
     count
 }
 
+/// What became of messages that were held, if none was.
+const NO_FATES: Fates = Fates {
+    sent: 0,
+    discarded: 0,
+    refused: 0,
+    unsent: 0,
+};
+
 /// Asserts that the server ended after this number of sessions, in which one message was written,
 /// removed one queue, and cut off no call.
 fn assert_ended(rt: &impl Abort, ended: Ended, sessions: u64) {
     let wanted = Ended {
         sums: sums(sessions, 1, 0),
         refused: 0,
+        fates: NO_FATES,
         removed: Ok(1),
         cut: 0,
         closed: EMPTY,
@@ -94,6 +103,7 @@ fn assert_ended(rt: &impl Abort, ended: Ended, sessions: u64) {
     assert_is(rt, ended, wanted);
     assert_is(rt, ended.setting.patience(), Patience::UNBOUNDED);
     assert_is(rt, ended.setting.drain(), 0);
+    assert_is(rt, ended.setting.holds(), false);
 }
 
 /// Asserts that these replies, one after another, were written to one connection in these books.

@@ -164,7 +164,7 @@ fn a_state_is_requested(rt: HostRuntime) {
 fn a_server_is_requested(rt: HostRuntime) {
     let words = [
         "sysvmsg", "serve", "./q", "--mode", "660", "--blocks", "128", "--stats", "./s", "--drain",
-        "9",
+        "9", "--hold",
     ];
     let file = SocketFile {
         path: "./q",
@@ -179,6 +179,7 @@ fn a_server_is_requested(rt: HostRuntime) {
         patience: Patience { idle: 0, stall: 0 },
         drain: 9,
         stats: true,
+        hold: true,
     };
     let serving = Serving {
         file,

@@ -18,7 +18,7 @@ use std::time::{Clock, Duration};
 use std::{fs, io, thread};
 use sysv_keys::SLOTS;
 use sysv_server::{
-    Ended, Host, Notice, Patience, Reason, ServeFault, Sums, Terms, serve_listener, serve_on,
+    Ended, Fates, Host, Notice, Patience, Reason, ServeFault, Sums, Terms, serve_listener, serve_on,
 };
 use sysv_service::Closed;
 
@@ -485,6 +485,7 @@ fn ends_with<R: Threads + Wait + Net + Files + Abort + Clock + Sync>(
         },
         drain: 62,
         stats: matches!(clients, Clients::Looking),
+        hold: false,
     };
     let first = ended(rt, alloc, terms, clients);
     if matches!(&first.0.0, Err(ServeFault::NoMemory | ServeFault::Thread)) {
@@ -493,6 +494,14 @@ fn ends_with<R: Threads + Wait + Net + Files + Abort + Clock + Sync>(
         assert_end(rt, first, terms, all, removed);
     }
 }
+
+/// What became of messages that were held, if none was.
+const NO_FATES: Fates = Fates {
+    sent: 0,
+    discarded: 0,
+    refused: 0,
+    unsent: 0,
+};
 
 /// Asserts that a server on these terms ended with these sums because all its connections were
 /// accepted, after it had removed this number of queues, and that its clients had the right replies.
@@ -509,6 +518,7 @@ fn assert_end(
     let wanted = Ended {
         sums: all,
         refused: 0,
+        fates: NO_FATES,
         removed: Ok(removed),
         cut: 0,
         closed: EMPTY,
@@ -519,6 +529,7 @@ fn assert_end(
     assert_is(rt, end.setting.workers(), workers);
     assert_is(rt, end.setting.patience(), terms.patience);
     assert_is(rt, end.setting.drain(), terms.drain);
+    assert_is(rt, end.setting.holds(), terms.hold);
 }
 
 /// Returns the sums of this number of sessions, with these numbers of messages written and lost.
@@ -592,6 +603,7 @@ fn a_server_without_a_listener_serves_nobody(rt: HostRuntime) {
         patience: Patience::UNBOUNDED,
         drain: 0,
         stats: false,
+        hold: false,
     };
     let mut reason = None;
     let end = serve_listener(

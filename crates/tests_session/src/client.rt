@@ -10,10 +10,12 @@ use std::process::Abort;
 use std::sync::Wait;
 use std::thread::{Threads, join_mut};
 use sysv_seats::{
-    Client, Limit, MemoryStream, Notification, Replies, ServiceHandler, Step, Tools, ZERO, Zero,
+    Client, Keeper, Limit, MemoryStream, Notification, Replies, ServiceHandler, Step, Tools, ZERO,
+    Zero,
 };
 use sysv_service::{Pass, Service};
 use sysv_session::{End, Served};
+use sysv_wire::Version;
 use tests_kit::worked::{ANSWERS, SESSION};
 
 /// A hello, a get of key 7, and a receive that waits for a type of at most 5.
@@ -74,7 +76,7 @@ const FREED: Notification = Notification::Freed { slot: 0, mtype: 5 };
 const CHANGED: Notification = Notification::Changed { slot: 0 };
 
 /// Returns the tools of a worker. Tolerates one refusal of memory.
-fn tools(rt: &impl Abort, alloc: Global) -> Tools {
+pub(crate) fn tools(rt: &impl Abort, alloc: Global) -> Tools {
     match Tools::open(alloc) {
         Ok(tools) => tools,
         Err(_) => Tools::open(alloc).expect(rt, "a second try"),
@@ -101,7 +103,7 @@ fn paced<'a>(
     reads: &'a [Step],
     writes: &'a [Step],
 ) -> Client<MemoryStream<'a>> {
-    Client::open(alloc, stream(rt, alloc, input, reads, writes))
+    Client::open(alloc, stream(rt, alloc, input, reads, writes), Version::Two)
 }
 
 /// Returns a client like that of `client`, which may leave or be cut off.
@@ -111,11 +113,15 @@ fn loose<'a>(
     input: &'a [u8],
     writes: &'a [Step],
 ) -> Client<MemoryStream<'a>> {
-    Client::open(alloc, stream(rt, alloc, input, &[], writes).with_cuts())
+    Client::open(
+        alloc,
+        stream(rt, alloc, input, &[], writes).with_cuts(),
+        Version::Two,
+    )
 }
 
 /// Returns the connection of a client. Tolerates one refusal of memory.
-fn stream<'a>(
+pub(crate) fn stream<'a>(
     rt: &impl Abort,
     alloc: Global,
     input: &'a [u8],
@@ -152,12 +158,12 @@ fn assert_notifications(rt: &impl Abort, tools: &mut Tools, expected: &[Notifica
 
 /// Reports that there may be something to read, has the client take a turn, and gives its
 /// connection the replies.
-fn turn<R: Abort + Wait>(
-    handler: &mut ServiceHandler<'_, Zero, R>,
+pub(crate) fn turn<R: Abort + Wait>(
+    handler: &mut Keeper<'_, Zero, R>,
     tools: &mut Tools,
     client: &mut Client<MemoryStream<'_>>,
 )
-    ensures { handler.new.service ≡ handler.old.service }
+    ensures { handler.new.handler.service ≡ handler.old.handler.service }
 {
     client.note_readable();
     client.take_turn(handler, tools);
@@ -166,7 +172,7 @@ fn turn<R: Abort + Wait>(
 
 /// Closes the client, and asserts that its session ended for this reason, after this number of
 /// requests, with this number of messages written and lost, and that these replies were taken.
-fn assert_closed(
+pub(crate) fn assert_closed(
     rt: &impl Abort,
     alloc: Global,
     client: Client<MemoryStream<'_>>,
@@ -213,7 +219,7 @@ fn assert_served(rt: &impl Abort, served: &Served, end: End, counts: (u32, u64, 
 fn the_session_of_one_client(rt: HostRuntime) {
     let alloc = rt.alloc();
     let (service, pass) = opened(&rt, alloc, 128, 0);
-    let mut handler = ServiceHandler::new(&rt, &service, &ZERO, pass);
+    let mut handler = Keeper::new(ServiceHandler::new(&rt, &service, &ZERO, pass));
     let mut tools = tools(&rt, alloc);
     let mut client = client(&rt, alloc, SESSION, &[]);
     turn(&mut handler, &mut tools, &mut client);
@@ -229,7 +235,7 @@ fn the_session_of_one_client(rt: HostRuntime) {
 fn the_counts_of_a_client_in_pieces(rt: HostRuntime) {
     let alloc = rt.alloc();
     let (service, pass) = opened(&rt, alloc, 128, 0);
-    let mut handler = ServiceHandler::new(&rt, &service, &ZERO, pass);
+    let mut handler = Keeper::new(ServiceHandler::new(&rt, &service, &ZERO, pass));
     let mut tools = tools(&rt, alloc);
     let reads = [
         Step::AtMost(10),
@@ -265,7 +271,7 @@ fn the_counts_of_a_client_in_pieces(rt: HostRuntime) {
 fn a_client_with_more_than_a_share(rt: HostRuntime) {
     let alloc = rt.alloc();
     let (service, pass) = opened(&rt, alloc, 128, 0);
-    let mut handler = ServiceHandler::new(&rt, &service, &ZERO, pass);
+    let mut handler = Keeper::new(ServiceHandler::new(&rt, &service, &ZERO, pass));
     let mut tools = tools(&rt, alloc);
     let mut input = Vec::new(alloc);
     append(&rt, &mut input, &SESSION[..18]);
@@ -293,7 +299,7 @@ fn a_client_with_more_than_a_share(rt: HostRuntime) {
 fn the_notifications_of_a_send_and_a_receive(rt: HostRuntime) {
     let alloc = rt.alloc();
     let (service, pass) = opened(&rt, alloc, 128, 0);
-    let mut handler = ServiceHandler::new(&rt, &service, &ZERO, pass);
+    let mut handler = Keeper::new(ServiceHandler::new(&rt, &service, &ZERO, pass));
     let mut tools = tools(&rt, alloc);
     let mut client = paced(&rt, alloc, SESSION, &[Step::AtMost(56)], &[]);
     turn(&mut handler, &mut tools, &mut client);
@@ -320,7 +326,7 @@ fn the_notifications_of_a_send_and_a_receive(rt: HostRuntime) {
 fn the_notifications_of_a_set_a_refused_send_and_a_removal(rt: HostRuntime) {
     let alloc = rt.alloc();
     let (service, pass) = opened(&rt, alloc, 128, 0);
-    let mut handler = ServiceHandler::new(&rt, &service, &ZERO, pass);
+    let mut handler = Keeper::new(ServiceHandler::new(&rt, &service, &ZERO, pass));
     let mut tools = tools(&rt, alloc);
     let mut client = paced(
         &rt,
@@ -355,7 +361,7 @@ fn the_notifications_of_a_set_a_refused_send_and_a_removal(rt: HostRuntime) {
 fn the_notifications_of_calls_that_wait(rt: HostRuntime) {
     let alloc = rt.alloc();
     let (service, pass) = opened(&rt, alloc, 128, 0);
-    let mut handler = ServiceHandler::new(&rt, &service, &ZERO, pass);
+    let mut handler = Keeper::new(ServiceHandler::new(&rt, &service, &ZERO, pass));
     let mut tools = tools(&rt, alloc);
     let mut receives = client(&rt, alloc, WAITING, &[]);
     turn(&mut handler, &mut tools, &mut receives);
@@ -386,8 +392,8 @@ fn a_parked_receive_goes_on(rt: HostRuntime) {
     let alloc = rt.alloc();
     let (service, mut pass) = opened(&rt, alloc, 128, 0);
     let other = split(&rt, alloc, &service, &mut pass);
-    let mut handler = ServiceHandler::new(&rt, &service, &ZERO, pass);
-    let mut theirs = ServiceHandler::new(&rt, &service, &ZERO, other);
+    let mut handler = Keeper::new(ServiceHandler::new(&rt, &service, &ZERO, pass));
+    let mut theirs = Keeper::new(ServiceHandler::new(&rt, &service, &ZERO, other));
     let mut tools = tools(&rt, alloc);
     let mut waits = client(&rt, alloc, WAITING, &[]);
     turn(&mut handler, &mut tools, &mut waits);
@@ -423,10 +429,10 @@ fn a_parked_receive_goes_on(rt: HostRuntime) {
 fn get_settled<R: Abort + Wait>(
     rt: &R,
     alloc: Global,
-    handler: &mut ServiceHandler<'_, Zero, R>,
+    handler: &mut Keeper<'_, Zero, R>,
     stage: &Stage,
 )
-    ensures { handler.new.service ≡ handler.old.service }
+    ensures { handler.new.handler.service ≡ handler.old.handler.service }
 {
     let mut tools = tools(rt, alloc);
     let mut gets = client(rt, alloc, GETTING, &[]);
@@ -452,11 +458,11 @@ fn make_and_get<R: Threads + Abort + Wait + Sync>(
     rt: &R,
     alloc: Global,
     maker: &mut ServiceHandler<'_, Stage, R>,
-    getter: &mut ServiceHandler<'_, Zero, R>,
+    getter: &mut Keeper<'_, Zero, R>,
     stage: &Stage,
 )
     ensures maker { maker.new.service ≡ maker.old.service }
-    ensures getter { getter.new.service ≡ getter.old.service }
+    ensures getter { getter.new.handler.service ≡ getter.old.handler.service }
 {
     // (each closure borrows a variable of its own)
     let other = alloc;
@@ -474,7 +480,7 @@ fn a_parked_get_goes_on_or_is_left(rt: HostRuntime) {
     let other = split(&rt, alloc, &service, &mut pass);
     let stage = Stage::new();
     let mut maker = ServiceHandler::new(&rt, &service, &stage, pass);
-    let mut getter = ServiceHandler::new(&rt, &service, &ZERO, other);
+    let mut getter = Keeper::new(ServiceHandler::new(&rt, &service, &ZERO, other));
     make_and_get(&rt, alloc, &mut maker, &mut getter, &stage);
     let mut pass = maker.into_pass();
     service.join_pass(&mut pass, getter.into_pass());
@@ -485,7 +491,7 @@ fn a_parked_get_goes_on_or_is_left(rt: HostRuntime) {
 fn a_parked_receive_is_left(rt: HostRuntime) {
     let alloc = rt.alloc();
     let (service, pass) = opened(&rt, alloc, 128, 0);
-    let mut handler = ServiceHandler::new(&rt, &service, &ZERO, pass);
+    let mut handler = Keeper::new(ServiceHandler::new(&rt, &service, &ZERO, pass));
     let mut tools = tools(&rt, alloc);
     let mut client = loose(&rt, alloc, WAITING, &[]);
     turn(&mut handler, &mut tools, &mut client);
@@ -502,7 +508,7 @@ fn a_parked_receive_is_left(rt: HostRuntime) {
 fn a_client_that_stays(rt: HostRuntime) {
     let alloc = rt.alloc();
     let (service, pass) = opened(&rt, alloc, 128, 0);
-    let mut handler = ServiceHandler::new(&rt, &service, &ZERO, pass);
+    let mut handler = Keeper::new(ServiceHandler::new(&rt, &service, &ZERO, pass));
     let mut tools = tools(&rt, alloc);
     let mut stays = client(&rt, alloc, WAITING, &[]);
     turn(&mut handler, &mut tools, &mut stays);
@@ -533,7 +539,7 @@ fn a_client_that_stays(rt: HostRuntime) {
 fn a_client_that_is_cut(rt: HostRuntime) {
     let alloc = rt.alloc();
     let (service, pass) = opened(&rt, alloc, 128, 0);
-    let mut handler = ServiceHandler::new(&rt, &service, &ZERO, pass);
+    let mut handler = Keeper::new(ServiceHandler::new(&rt, &service, &ZERO, pass));
     let mut tools = tools(&rt, alloc);
     let steps = [Step::AtMost(20), Step::AtMost(0), Step::AtMost(0)];
     let mut client = loose(&rt, alloc, SESSION, &steps);
@@ -550,7 +556,7 @@ fn a_client_that_is_cut(rt: HostRuntime) {
 }
 
 /// Splits off a pass. Tolerates one refusal of memory.
-fn split(rt: &impl Abort, alloc: Global, service: &Service, pass: &mut Pass) -> Pass
+pub(crate) fn split(rt: &impl Abort, alloc: Global, service: &Service, pass: &mut Pass) -> Pass
     requires { AreOf service.now pass.old.seats }
     ensures first { AreOf service.now pass.new.seats }
     ensures other { AreOf service.now result.seats }

@@ -13,6 +13,8 @@ mod gathered;
 #[cfg(test)]
 mod growths;
 #[cfg(test)]
+mod holding;
+#[cfg(test)]
 mod parts;
 #[cfg(test)]
 mod pieces;

@@ -3,7 +3,8 @@ ghost use Rattle.std.specs.Prelude.{◌≡◌, ⊤, false};
 ghost use Rattle.sysv_session.specs.Answers.{MayAnswer};
 ghost use Rattle.sysv_wire.specs.declared.frame.Version.{Version};
 ghost use Rattle.sysv_wire.specs.Frames.{op_number};
-ghost use Rattle.sysv_wire.specs.Replies.{IsAnswer, gives_text};
+ghost use Rattle.sysv_session.specs.Answers.{is_received};
+ghost use Rattle.sysv_wire.specs.Replies.{IsAnswer};
 ghost use Rattle.sysv_wire.specs.Requests.{op_of};
 
 use crate::parts::open_pool;
@@ -66,7 +67,7 @@ impl TestHandler {
 
     fn get(&mut self, cred: Cred, key: i32, flags: Flags) -> ReplyContent
         ensures answer { (version : Version) → IsAnswer version (op_number Op.Get) result }
-        ensures text { gives_text result ≡ false }
+        ensures text { is_received result ≡ false }
     {
         match self.registry.begin(key, flags) {
             Begun::Found { id, .. } => ReplyContent::Get { id },
@@ -84,7 +85,7 @@ impl TestHandler {
 
     fn send(&mut self, cred: Cred, id: i32, mtype: i64, text: &Body) -> ReplyContent
         ensures answer { (version : Version) → IsAnswer version (op_number Op.Snd) result }
-        ensures text { gives_text result ≡ false }
+        ensures text { is_received result ≡ false }
     {
         if text.len() > MESSAGE_BYTES || self.slot.counts().0 > MAX_COUNT {
             return ReplyContent::Refused(Errno::EINVAL);

@@ -9,10 +9,10 @@ use crate::parts::assert_is;
 use std::alloc::Global;
 use std::process::Abort;
 use std::sync::Wait;
-use sysv_seats::{Client, MemoryStream, Replies, ServiceHandler, Step, Tools, ZERO, Zero};
+use sysv_seats::{Client, Keeper, MemoryStream, Replies, ServiceHandler, Step, Tools, ZERO, Zero};
 use sysv_service::Closed;
 use sysv_session::{End, Served};
-use sysv_wire::Fault;
+use sysv_wire::{Fault, Version};
 use tests_kit::worked::{ANSWERS, SESSION};
 
 /// The room for the replies of a connection.
@@ -31,11 +31,11 @@ const STEPS: usize = 256;
 /// Has the client take turns until it is over. In each turn it reads once, and the connection is
 /// given the replies.
 fn take_turns<R: Wait>(
-    handler: &mut ServiceHandler<'_, Zero, R>,
+    handler: &mut Keeper<'_, Zero, R>,
     tools: &mut Tools,
     client: &mut Client<MemoryStream<'_>>,
 )
-    ensures { handler.new.service ≡ handler.old.service }
+    ensures { handler.new.handler.service ≡ handler.old.handler.service }
 {
     for _ in 0..TURNS {
         if client.is_over() {
@@ -75,7 +75,7 @@ fn client<'a>(rt: &impl Abort, alloc: Global, stream: Stream<'a>) -> Client<Memo
         writes,
     } = stream;
     let connection = MemoryStream::new(alloc, input, ROOM, reads, writes).expect(rt, "memory");
-    Client::open(alloc, connection)
+    Client::open(alloc, connection, Version::Two)
 }
 
 /// Serves the client of this connection on a new service until it is over. Returns what its session
@@ -87,7 +87,7 @@ fn served<R: Abort + Wait>(
     book: &mut Replies,
 ) -> (Served, Closed) {
     let (service, pass) = opened(rt, alloc);
-    let mut handler = ServiceHandler::new(rt, &service, &ZERO, pass);
+    let mut handler = Keeper::new(ServiceHandler::new(rt, &service, &ZERO, pass));
     let mut client = client(rt, alloc, stream);
     take_turns(&mut handler, &mut tools(rt, alloc), &mut client);
     assert_is(rt, client.is_over(), true);

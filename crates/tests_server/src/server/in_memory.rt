@@ -121,6 +121,7 @@ fn terms(sessions: u64) -> Terms
         patience: Patience::UNBOUNDED,
         drain: 0,
         stats: false,
+        hold: false,
     }
 }
 

@@ -1,10 +1,11 @@
 -- The gates that were opened are those that were served, stopped and closed, also after a fault. The
 -- messages that were taken were written or lost.
-use Rattle.std.proofs.Common.{subst, refl}
-use Rattle.std.specs.Prelude.{false}
+use Rattle.std.proofs.Common.{◌≡◌, subst, refl, sym}
+use Rattle.std.specs.Prelude.{Bool, false}
+use Rattle.std.specs.List.{AllByRecursion}
 use Rattle.sysv_thread_laws.specs.Hiring.{Hires}
 use Rattle.sysv_service.specs.Ran.{Pass}
-use Rattle.sysv_engine.specs.Handled.{first_passes, last_passes, told_in}
+use Rattle.sysv_engine.specs.Handled.{Shift, first_passes, last_passes, newest_of, told_in}
 use Rattle.sysv_engine.specs.OneRun.{Stopped}
 use Rattle.sysv_engine.specs.Serving.{HasLived, HiredFrom}
 use Rattle.sysv_engine.proofs.FaultLeaves.{fault_says}
@@ -46,6 +47,9 @@ returns-in-Ok-outcome-clause-ok g c =
       sums = worked.adds;
       refused = worked.counts;
       lost = lost_at_an_end shifts c.in-Ok-outcome.sums worked.adds;
+      versions = subst (λ (h : Bool). AllByRecursion (λ (shift : Shift). shift.newest ≡ newest_of h) shifts)
+          (sym c.setting-setting.ensures.3) worked.versions;
+      held = worked.held;
       lived = lived laws.run laws.whole laws.none_held laws.empty c.args.blocks c.in-Ok.service c.stop-removed.result
           stopped
           c.close-closed.result c.close-closed.ensures opened.0 c.stop-removed.ensures.pass false shifts hires;

@@ -5,6 +5,7 @@ use Rattle.std.proofs.Common.{◌≡◌, ◌≤◌, ◌∙◌, ℕ, List, ◌++�
 use Rattle.std.proofs.Common.{subst, sym, vec_len}
 use Rattle.std.specs.Prelude.{false}
 use Rattle.sysv_workers.specs.declared.workers.TheConstants.{MAX_WORKERS}
+use Rattle.sysv_wire.specs.declared.frame.Version.{Version}
 use Rattle.sysv_engine.specs.declared.dealing.Dealing.{Dealing}
 use Rattle.sysv_engine.specs.declared.worker.Worker.{Worker}
 use Rattle.sysv_engine.specs.Places.{Seated}
@@ -25,7 +26,7 @@ pub run_workers-outcome-requires-sync-J : goal.run_workers-outcome-requires-sync
 run_workers-outcome-requires-sync-J g c κs within =
     let t = serving_sync (record { mir = lifetime 8; lft = κs.1.1.1.1.1.1.1.1.0 })
     (record { mir = lifetime 11; lft = κs.1.1.1.1.1.1.1.1.1.1.1.0 }) _ c.type_bounds.sync-R in
-    param_sync 3 (lts.arg-12-3 g.row.T g.row.S g.row.W g.row.R g.row.T-Book g.T.laws g.S.laws g.W.laws g.R.laws
+    param_sync 3 (lts.arg-13-3 g.row.T g.row.S g.row.W g.row.R g.row.T-Book g.T.laws g.S.laws g.W.laws g.R.laws
     g.T.Book.laws g.T.NonBlocking g.T.NonBlocking-dict g.S.Source g.S.Source-dict g.W.Watch g.W.Watch-dict g.R.Threads
     g.R.Threads-dict g.R.Wait g.R.Wait-dict g.T.Destruct-dict g.W.Destruct-dict κs) (record { shared = t.shared })
 
@@ -35,8 +36,8 @@ run_workers-outcome-requires-after_bounds g c κs within =
     let t = g.T.NonBlocking in
     let own = c.args.service.now in
     let workers = c.staff.new.workers.items in
-    staffed t.incoming t.outgoing t.closes own (λ (w : W). w.places.items) workers c.staff.ensures.places
-    (some_each (λ (w : W). w.places) workers c.staff.ensures.each)
+    staffed t.incoming t.outgoing t.closes own c.newest-newest.result (λ (w : W). w.places.items) workers
+    c.staff.ensures.places (some_each (λ (w : W). w.places) workers c.staff.ensures.each)
 
 -- ---- the number of places
 
@@ -45,7 +46,8 @@ gather-requires-clause-room g c =
     let W : Type 0 = Worker g.row.R.Denot g.row.T.Denot g.row.W.Denot g.row.T-Book.Denot in
     let D : Type 0 = Dealing g.row.S.Denot in
     let t = g.T.NonBlocking in
-    let many = ran_as_many t.incoming t.outgoing t.closes c.args.service.now (λ (w : W). w.places.items)
+    let many = ran_as_many t.incoming t.outgoing t.closes c.args.service.now c.newest-newest.result
+    (λ (w : W). w.places.items)
     (Behind (λ (d : D). d.source.now) (λ (d : D). d.source.ghost_name) g.S.Source.gives) c.new-dealing.result
     c.run_workers-outcome.new.source c.staff.new.workers.items c.in-Ok-outcome.workers.items c.staff.ensures.places
     (some_each (λ (w : W). w.places) c.staff.new.workers.items c.staff.ensures.each) c.in-Ok-outcome.ensures.ok in
@@ -60,7 +62,7 @@ pub dismiss-requires-clause-places : goal.dismiss-requires-clause-places
 dismiss-requires-clause-places g c =
     let W : Type 0 = Worker g.row.R.Denot g.row.T.Denot g.row.W.Denot g.row.T-Book.Denot in
     let t = g.T.NonBlocking in
-    gates_again t.incoming t.outgoing t.closes c.args.service.now (λ (w : W). w.places.items)
+    gates_again t.incoming t.outgoing t.closes c.args.service.now c.newest-newest.result (λ (w : W). w.places.items)
     c.in-Ok-outcome.workers.items c.gather.new.places.items c.in-Ok-outcome.ensures.fits c.gather.ensures.keeps
 
 pub dismiss-requires-clause-room : goal.dismiss-requires-clause-room
@@ -68,7 +70,8 @@ dismiss-requires-clause-room g c =
     let W : Type 0 = Worker g.row.R.Denot g.row.T.Denot g.row.W.Denot g.row.T-Book.Denot in
     let D : Type 0 = Dealing g.row.S.Denot in
     let t = g.T.NonBlocking in
-    let many = ran_as_many t.incoming t.outgoing t.closes c.args.service.now (λ (w : W). w.places.items)
+    let many = ran_as_many t.incoming t.outgoing t.closes c.args.service.now c.newest-newest.result
+    (λ (w : W). w.places.items)
     (Behind (λ (d : D). d.source.now) (λ (d : D). d.source.ghost_name) g.S.Source.gives) c.new-dealing.result
     c.run_workers-outcome.new.source c.staff.new.workers.items c.in-Ok-outcome.workers.items c.staff.ensures.places
     (some_each (λ (w : W). w.places) c.staff.new.workers.items c.staff.ensures.each) c.in-Ok-outcome.ensures.ok in
@@ -88,7 +91,8 @@ gather-requires-in-Err-clause-room g c =
     let W : Type 0 = Worker g.row.R.Denot g.row.T.Denot g.row.W.Denot g.row.T-Book.Denot in
     let D : Type 0 = Dealing g.row.S.Denot in
     let t = g.T.NonBlocking in
-    let many = back_as_many t.incoming t.outgoing t.closes c.args.service.now (λ (w : W). w.places.items)
+    let many = back_as_many t.incoming t.outgoing t.closes c.args.service.now c.newest-newest.result
+    (λ (w : W). w.places.items)
     (Behind (λ (d : D). d.source.now) (λ (d : D). d.source.ghost_name) g.S.Source.gives) c.new-dealing.result
     c.run_workers-outcome.new.source c.staff.new.workers.items c.in-Err.refused.states.items c.staff.ensures.places
     (some_each (λ (w : W). w.places) c.staff.new.workers.items c.staff.ensures.each) c.in-Err.refused.why
@@ -104,7 +108,7 @@ pub dismiss-requires-in-Err-clause-places : goal.dismiss-requires-in-Err-clause-
 dismiss-requires-in-Err-clause-places g c =
     let W : Type 0 = Worker g.row.R.Denot g.row.T.Denot g.row.W.Denot g.row.T-Book.Denot in
     let t = g.T.NonBlocking in
-    gates_again t.incoming t.outgoing t.closes c.args.service.now (λ (w : W). w.places.items)
+    gates_again t.incoming t.outgoing t.closes c.args.service.now c.newest-newest.result (λ (w : W). w.places.items)
     c.in-Err.refused.states.items c.gather-in-Err.new.places.items c.in-Err.ensures.err.1
     c.gather-in-Err.ensures.keeps
 
@@ -113,7 +117,8 @@ dismiss-requires-in-Err-clause-room g c =
     let W : Type 0 = Worker g.row.R.Denot g.row.T.Denot g.row.W.Denot g.row.T-Book.Denot in
     let D : Type 0 = Dealing g.row.S.Denot in
     let t = g.T.NonBlocking in
-    let many = back_as_many t.incoming t.outgoing t.closes c.args.service.now (λ (w : W). w.places.items)
+    let many = back_as_many t.incoming t.outgoing t.closes c.args.service.now c.newest-newest.result
+    (λ (w : W). w.places.items)
     (Behind (λ (d : D). d.source.now) (λ (d : D). d.source.ghost_name) g.S.Source.gives) c.new-dealing.result
     c.run_workers-outcome.new.source c.staff.new.workers.items c.in-Err.refused.states.items c.staff.ensures.places
     (some_each (λ (w : W). w.places) c.staff.new.workers.items c.staff.ensures.each) c.in-Err.refused.why
@@ -140,7 +145,7 @@ source_is g c =
     let t = g.T.NonBlocking in
     let places : W → List S = λ w. w.places.items in
     let same = runs_name (λ (d : D). d.source.now) (λ (d : D). d.source.ghost_name) g.S.Source.gives
-    (Runs t.incoming t.outgoing t.closes c.args.service.now places) c.staff.new.workers.items
+    (Runs t.incoming t.outgoing t.closes c.args.service.now c.newest-newest.result places) c.staff.new.workers.items
     c.in-Ok-outcome.workers.items c.new-dealing.result c.run_workers-outcome.new.source
     c.in-Ok-outcome.ensures.ok in
     let name_is = c.into_source.ensures.same_reference ∙ (same ∙ c.new-dealing.ensures.same_reference) in
@@ -162,22 +167,24 @@ returns-in-Ok-outcome-clause-ok g c =
     let new : D = c.run_workers-outcome.new.source in
     let workers = c.staff.new.workers.items in
     let workers' = c.in-Ok-outcome.workers.items in
-    let runs = Runs t.incoming t.outgoing t.closes own places in
+    let runs = Runs t.incoming t.outgoing t.closes own c.newest-newest.result places in
     let ran = runs_behind of name g.S.Source.gives runs workers workers' old new c.in-Ok-outcome.ensures.ok in
-    let worked = all_worked t.incoming t.outgoing t.closes own places g.S.Source.gives (of old) (of new) workers
-    workers' c.gather.new.places.items c.staff.ensures.places
-    (some_each (λ (w : W). w.places) workers c.staff.ensures.each) c.gather.ensures.keeps c.gather.ensures.vacant
+    let worked = all_worked t.incoming t.outgoing t.closes own c.newest-newest.result places
+    c.each_return_can_be_left.ensures g.S.Source.gives (of old) (of new) workers workers'
+    c.gather.new.places.items c.staff.ensures.places
+    (some_each (λ (w : W). w.places) workers c.staff.ensures.each) c.gather.ensures.keeps c.gather.ensures.ended
     c.args.books.now.items c.dismiss.new.books.items c.args.pass.now c.staff.new.pass c.dismiss.new.pass
     c.staff.ensures.books
     (c.dismiss.ensures.books ∙ ap (λ l. l ++ reverse (map book c.gather.new.places.items)) c.staff.ensures.taken.0)
-    c.staff.ensures.gives c.dismiss.ensures.takes c.dismiss.result.0 c.dismiss.result.1 c.dismiss.ensures.sums
-    c.dismiss.ensures.refused ran in
-    subst (λ s. WorkedFrom t.incoming t.outgoing t.closes g.S.Source.gives false own c.args.pass.now c.args.source.now
-    c.args.books.now.items c.dismiss.result.0 c.dismiss.result.1 c.dismiss.new.pass s c.dismiss.new.books.items)
-    (source_is g c)
-    (subst (λ s. WorkedFrom t.incoming t.outgoing t.closes g.S.Source.gives false own c.args.pass.now s
-    c.args.books.now.items c.dismiss.result.0 c.dismiss.result.1 c.dismiss.new.pass (of new) c.dismiss.new.books.items)
-    c.new-dealing.ensures.source worked)
+    c.staff.ensures.gives c.dismiss.ensures.takes c.dismiss.result.0 c.dismiss.result.1 c.dismiss.result.2
+    c.dismiss.ensures.sums c.dismiss.ensures.refused c.dismiss.ensures.fates ran in
+    let Worked = λ (v : Version) (before after : g.row.S.Denot).
+    WorkedFrom t.incoming t.outgoing t.closes g.S.Source.gives false v own c.args.pass.now before
+    c.args.books.now.items c.dismiss.result.0 c.dismiss.result.1 c.dismiss.result.2 c.dismiss.new.pass after
+    c.dismiss.new.books.items in
+    subst (λ v. Worked v c.args.source.now c.source-1.given.0) c.newest-newest.ensures
+    (subst (λ s. Worked c.newest-newest.result c.args.source.now s) (source_is g c)
+    (subst (λ s. Worked c.newest-newest.result s (of new)) c.new-dealing.ensures.source worked))
 
 pub fault-requires : goal.fault-requires
 fault-requires g c bad =
@@ -208,10 +215,12 @@ returns-in-Err-clause-err g c =
     let most = c.requires.count in omega arith) in
     let leaves = leaves_behind of name g.S.Source.gives count why old new c.in-Err.ensures.asked in
     let same = leaves_name of name g.S.Source.gives count why old new c.in-Err.ensures.asked in
-    let left = all_left t.incoming t.outgoing t.closes own places g.S.Source.gives (of old) (of new) workers
-    c.in-Err.refused.states.items c.gather-in-Err.new.places.items c.staff.ensures.places
+    let left = all_left t.incoming t.outgoing t.closes own c.newest-newest.result places
+    c.each_return_can_be_left.ensures g.S.Source.gives (of old) (of new) workers
+    c.in-Err.refused.states.items c.gather-in-Err.new.places.items
+    c.staff.ensures.places
     (some_each (λ (w : W). w.places) workers c.staff.ensures.each) c.gather-in-Err.ensures.keeps
-    c.gather-in-Err.ensures.vacant c.args.books.now.items c.dismiss-in-Err.new.books.items c.args.pass.now
+    c.gather-in-Err.ensures.ended c.args.books.now.items c.dismiss-in-Err.new.books.items c.args.pass.now
     c.staff.new.pass c.dismiss-in-Err.new.pass c.staff.ensures.books
     (c.dismiss-in-Err.ensures.books
     ∙ ap (λ l. l ++ reverse (map book c.gather-in-Err.new.places.items)) c.staff.ensures.taken.0)
@@ -222,7 +231,7 @@ returns-in-Err-clause-err g c =
     subst (λ s. LeavesConnections t.incoming t.outgoing t.closes g.S.Source.gives
     (HiredFrom false own c.args.pass.now c.dismiss-in-Err.new.pass) c.args.source.now c.args.books.now.items
     c.fault.result s
-    c.dismiss-in-Err.new.books.items) (grind arith)
+    c.dismiss-in-Err.new.books.items) (sym (c.source-1.given.1 (sym name_is) ∙ back))
     (subst (λ s. LeavesConnections t.incoming t.outgoing t.closes g.S.Source.gives
     (HiredFrom false own c.args.pass.now c.dismiss-in-Err.new.pass) s c.args.books.now.items c.fault.result (of new)
     c.dismiss-in-Err.new.books.items) c.new-dealing.ensures.source left)

@@ -5,6 +5,7 @@ use Rattle.sysv_service.specs.Ran.{Pass}
 use Rattle.sysv_service.specs.Seats.{AreOf, Gates}
 use Rattle.sysv_engine.specs.declared.rows.Rows.{Rows}
 use Rattle.sysv_engine.specs.declared.seeing.Seeing.{Seeing}
+use Rattle.sysv_engine.specs.Handled.{newest_of}
 use Rattle.sysv_engine.specs.Looking.{SplitsOff, TakesBack}
 use Rattle.sysv_engine.specs.Serving.{HiredFrom, LeavesConnections, WorkedFrom}
 use Rattle.sysv_engine.proofs.Looking.{Stays, goes_on, stays}
@@ -21,6 +22,7 @@ pub close-requires : goal.close-requires
 close-requires g c =
     let D : Type 0 = Seeing g.row.S.Denot g.row.R.Denot in
     let t = g.T.NonBlocking in
+    let newest = newest_of c.args.server.now.holds in
     let own = c.args.service.now in
     let of : D → g.row.S.Denot = λ d. d.source.now in
     let old : D = c.new-seeing.result in
@@ -29,8 +31,8 @@ close-requires g c =
     let books' = c.serve_with-outcome.new.books.items in
     let result = c.serve_with-outcome.result in
     let held =
-    ran_kept t.incoming t.outgoing t.closes of Stays stays goes_on g.S.Arrivals.gives own old new books books'
-    c.open-rows.new.pass c.serve_with-outcome.new.pass result (λ told. told.0) (λ told. told.1)
+    ran_kept t.incoming t.outgoing t.closes of Stays stays goes_on g.S.Arrivals.gives newest own old new books books'
+    c.open-rows.new.pass c.serve_with-outcome.new.pass result (λ told. told.0) (λ told. told.1) (λ told. told.2)
     c.serve_with-outcome.ensures.ok c.serve_with-outcome.ensures.err in
     let at = at_service own c.open-rows.result old.rows new.rows c.into_parts-source.result.1
     c.open-rows.ensures.service c.new-seeing.ensures.rows held.1.0 c.into_parts-source.ensures.rows in
@@ -50,6 +52,7 @@ pub returns-clause-ok : goal.returns-clause-ok
 returns-clause-ok g c =
     let D : Type 0 = Seeing g.row.S.Denot g.row.R.Denot in
     let t = g.T.NonBlocking in
+    let newest = newest_of c.args.server.now.holds in
     let own = c.args.service.now in
     let of : D → g.row.S.Denot = λ d. d.source.now in
     let old : D = c.new-seeing.result in
@@ -59,13 +62,13 @@ returns-clause-ok g c =
     let result = c.serve_with-outcome.result in
     let home = c.close.new.pass in
     let held =
-    ran_kept t.incoming t.outgoing t.closes of Stays stays goes_on g.S.Arrivals.gives own old new books books'
-    c.open-rows.new.pass c.serve_with-outcome.new.pass result (λ told. told.0) (λ told. told.1)
+    ran_kept t.incoming t.outgoing t.closes of Stays stays goes_on g.S.Arrivals.gives newest own old new books books'
+    c.open-rows.new.pass c.serve_with-outcome.new.pass result (λ told. told.0) (λ told. told.1) (λ told. told.2)
     c.serve_with-outcome.ensures.ok c.serve_with-outcome.ensures.err in
     let name_is = c.into_parts-source.ensures.same_reference ∙ (held.0 ∙ c.new-seeing.ensures.same_reference) in
     let given = c.given_back.ensures ∙ c.into_parts-source.ensures.source in
     let ran =
-    ran_behind t.incoming t.outgoing t.closes of Stays stays goes_on g.S.Arrivals.gives own old new books books'
+    ran_behind t.incoming t.outgoing t.closes of Stays stays goes_on g.S.Arrivals.gives newest own old new books books'
     c.open-rows.new.pass c.serve_with-outcome.new.pass c.args.reads c.args.pass.now home old.rows.pass new.rows.pass
     (taken_from c.args.reads c.args.pass.now c.open-rows.new.pass c.open-rows.result old.rows c.new-seeing.ensures.rows
     c.open-rows.ensures.splits)
@@ -73,16 +76,17 @@ returns-clause-ok g c =
     (taken_back c.serve_with-outcome.new.pass home new.rows c.into_parts-source.result.1
     c.into_parts-source.ensures.rows
     c.close.ensures.takes)
-    result (λ told. told.0) (λ told. told.1) c.serve_with-outcome.ensures.ok in
-    subst (λ s. IfOk result (λ told. WorkedFrom t.incoming t.outgoing t.closes g.S.Arrivals.gives c.args.reads own
-    c.args.pass.now c.args.source.now books told.0 told.1 home s books')) (grind arith)
-    (subst (λ s. IfOk result (λ told. WorkedFrom t.incoming t.outgoing t.closes g.S.Arrivals.gives c.args.reads own
-    c.args.pass.now s books told.0 told.1 home (of new) books')) c.new-seeing.ensures.source ran)
+    result (λ told. told.0) (λ told. told.1) (λ told. told.2) c.serve_with-outcome.ensures.ok in
+    subst (λ s. IfOk result (λ told. WorkedFrom t.incoming t.outgoing t.closes g.S.Arrivals.gives c.args.reads newest
+    own c.args.pass.now c.args.source.now books told.0 told.1 told.2 home s books')) (grind arith)
+    (subst (λ s. IfOk result (λ told. WorkedFrom t.incoming t.outgoing t.closes g.S.Arrivals.gives c.args.reads newest
+    own c.args.pass.now s books told.0 told.1 told.2 home (of new) books')) c.new-seeing.ensures.source ran)
 
 pub returns-clause-err : goal.returns-clause-err
 returns-clause-err g c =
     let D : Type 0 = Seeing g.row.S.Denot g.row.R.Denot in
     let t = g.T.NonBlocking in
+    let newest = newest_of c.args.server.now.holds in
     let own = c.args.service.now in
     let of : D → g.row.S.Denot = λ d. d.source.now in
     let old : D = c.new-seeing.result in
@@ -92,14 +96,14 @@ returns-clause-err g c =
     let result = c.serve_with-outcome.result in
     let home = c.close.new.pass in
     let held =
-    ran_kept t.incoming t.outgoing t.closes of Stays stays goes_on g.S.Arrivals.gives own old new books books'
-    c.open-rows.new.pass c.serve_with-outcome.new.pass result (λ told. told.0) (λ told. told.1)
+    ran_kept t.incoming t.outgoing t.closes of Stays stays goes_on g.S.Arrivals.gives newest own old new books books'
+    c.open-rows.new.pass c.serve_with-outcome.new.pass result (λ told. told.0) (λ told. told.1) (λ told. told.2)
     c.serve_with-outcome.ensures.ok c.serve_with-outcome.ensures.err in
     let name_is = c.into_parts-source.ensures.same_reference ∙ (held.0 ∙ c.new-seeing.ensures.same_reference) in
     let given = c.given_back.ensures ∙ c.into_parts-source.ensures.source in
     let left =
-    all_left_behind t.incoming t.outgoing t.closes of Stays stays goes_on g.S.Arrivals.gives own old new books
-    books' c.open-rows.new.pass c.serve_with-outcome.new.pass c.args.reads c.args.pass.now home old.rows.pass
+    all_left_behind t.incoming t.outgoing t.closes of Stays stays goes_on g.S.Arrivals.gives newest own old new
+    books books' c.open-rows.new.pass c.serve_with-outcome.new.pass c.args.reads c.args.pass.now home old.rows.pass
     new.rows.pass
     (taken_from c.args.reads c.args.pass.now c.open-rows.new.pass c.open-rows.result old.rows c.new-seeing.ensures.rows
     c.open-rows.ensures.splits)
@@ -117,6 +121,7 @@ pub returns-clause-pass : goal.returns-clause-pass
 returns-clause-pass g c =
     let D : Type 0 = Seeing g.row.S.Denot g.row.R.Denot in
     let t = g.T.NonBlocking in
+    let newest = newest_of c.args.server.now.holds in
     let own = c.args.service.now in
     let of : D → g.row.S.Denot = λ d. d.source.now in
     let old : D = c.new-seeing.result in
@@ -125,8 +130,8 @@ returns-clause-pass g c =
     let books' = c.serve_with-outcome.new.books.items in
     let result = c.serve_with-outcome.result in
     let held =
-    ran_kept t.incoming t.outgoing t.closes of Stays stays goes_on g.S.Arrivals.gives own old new books books'
-    c.open-rows.new.pass c.serve_with-outcome.new.pass result (λ told. told.0) (λ told. told.1)
+    ran_kept t.incoming t.outgoing t.closes of Stays stays goes_on g.S.Arrivals.gives newest own old new books books'
+    c.open-rows.new.pass c.serve_with-outcome.new.pass result (λ told. told.0) (λ told. told.1) (λ told. told.2)
     c.serve_with-outcome.ensures.ok c.serve_with-outcome.ensures.err in
     let at = at_service own c.open-rows.result old.rows new.rows c.into_parts-source.result.1
     c.open-rows.ensures.service c.new-seeing.ensures.rows held.1.0 c.into_parts-source.ensures.rows in

@@ -36,9 +36,8 @@ loop-place-preserved g c =
 
 pub returns-clause-all : goal.returns-clause-all
 returns-clause-all g c =
-    let empty = c.in_default.ensures.cases.0 in
-    let ok = c.loop-place.own.ok in
-    all_moved c.loop-place.places.items c.loop-place.own.items _ (omega arith) c.loop-place.invariant.all
+    let none = sym c.loop-place.own.ok.0 ∙ c.in_default.ensures.cases.0 in
+    all_moved c.loop-place.places.items c.loop-place.own.items _ none c.loop-place.invariant.all
 
 pub returns-clause-room : goal.returns-clause-room
 returns-clause-room g c = c.loop-place.invariant.same

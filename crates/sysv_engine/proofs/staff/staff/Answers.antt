@@ -1,6 +1,6 @@
 -- One worker more has a place for each of the last books, as many as its kit has room for. At the end
 -- the workers are in the order of the kits.
-use Rattle.std.proofs.Common.{◌≡◌, ◌∙◌, ◌≤◌, ℕ, List, [], ◌++◌, map, reverse, ap, append-nil, append_assoc, arith}
+use Rattle.std.proofs.Common.{◌≡◌, ◌∙◌, ◌≤◌, ◌+◌, ℕ, List, [], ◌++◌, map, reverse, ap, append-nil, append_assoc, arith}
 use Rattle.std.proofs.Common.{length, refl, subst, sym, vec_capacity, vec_len}
 use Rattle.std.proofs.lemmas.List.{map-append}
 use Rattle.std.proofs.lemmas.List.Elements.{All-append, All-nil, All-push}
@@ -24,12 +24,17 @@ none_left room kits books none same =
     let empty = ap (sum_by room) (emptied kits none) in
     emptied books (omega arith)
 
+-- The books that are left are enough for the kits that are left.
+still_enough : (all rest room books less own old_len new_len own_len : ℕ) → all ≡ rest + room → all ≡ old_len →
+    old_len ≡ books → books ≡ less + own → new_len ≡ less → own_len ≡ own → own_len ≡ room → rest ≡ new_len
+still_enough all rest room books less own old_len new_len own_len split before old fewer new mine full = omega arith
+
 pub loop-kit-init : goal.loop-kit-init
 loop-kit-init g c =
     let W : Type 0 = Worker g.row.R.Denot g.row.T.Denot g.row.W.Denot g.row.T-Book.Denot in
     let S : Type 0 = Seated g.row.T-Book.Denot g.row.T.Denot in
     let Q : W → Type 0 = λ w. 1 ≤ vec_len w.places in
-    let O : S → Type 0 = IsOpened c.args.service.now in
+    let O : S → Type 0 = IsOpened c.args.service.now c.args.newest in
     let places : W → List S = λ w. w.places.items in
     let of : S → Pass = λ p. p.pass in
     let book : S → g.row.T-Book.Denot = λ p. p.book in
@@ -66,7 +71,7 @@ loop-kit-preserved g c =
     let S : Type 0 = Seated g.row.T-Book.Denot g.row.T.Denot in
     let P : K → Type 0 = λ k. (k.places.items ≡ []) × (1 ≤ vec_capacity k.places) in
     let Q : W → Type 0 = λ w. 1 ≤ vec_len w.places in
-    let O : S → Type 0 = IsOpened c.args.service.now in
+    let O : S → Type 0 = IsOpened c.args.service.now c.args.newest in
     let was = c.loop-kit.invariant in
     let is = c.in-Some.ensures.items in
     let places : W → List S = λ w. w.places.items in
@@ -87,10 +92,9 @@ loop-kit-preserved g c =
           let before = was.count in
           omega arith;
       room = let same = c.push_reserved.ensures.capacity in let before = was.room in omega arith;
-      enough = let all = fewer book c.loop-kit.books.items c.hire.new.books.items own c.hire.ensures.books in
-          let before = was.enough in let old = c.loop-kit.books.ok in let new = c.hire.new.books.ok in
-          let mine = c.hire.new.places.ok in
-          omega arith;
+      enough = still_enough _ _ _ _ _ _ _ _ _ room was.enough c.loop-kit.books.ok.0
+          (fewer book c.loop-kit.books.items c.hire.new.books.items own c.hire.ensures.books)
+          c.hire.new.books.ok.0 c.hire.new.places.ok.0 full;
       kits = but_last P c.pop.new.self.items c.loop-kit.kits.items c.in-Some.kit is was.kits;
       each = subst (All Q) (sym c.push_reserved.ensures.items)
           (All-push Q c.loop-kit.workers.items c.new.result was.each some);
@@ -121,7 +125,7 @@ returns-clause-places g c =
     let W : Type 0 = Worker g.row.R.Denot g.row.T.Denot g.row.W.Denot g.row.T-Book.Denot in
     let S : Type 0 = Seated g.row.T-Book.Denot g.row.T.Denot in
     let places : W → List S = λ w. w.places.items in
-    let O : S → Type 0 = IsOpened c.args.service.now in
+    let O : S → Type 0 = IsOpened c.args.service.now c.args.newest in
     subst (λ l. All O (flat_map places l)) (sym c.reverse.ensures.items) c.loop-kit.invariant.places
 
 pub returns-clause-gives : goal.returns-clause-gives

@@ -15,7 +15,7 @@ invariant-loop-kit g l = record {
   kits : All (λ k. (k.places.items ≡ []) × (1 ≤ vec_capacity k.places)) l.kits.items;
   each : All (λ w. 1 ≤ vec_len w.places) l.workers.items;
   pass : AreOf l.service l.pass.seats;
-  places : All (IsOpened l.service) (flat_map (λ w. w.places.items) (reverse l.workers.items));
+  places : All (IsOpened l.service l.newest) (flat_map (λ w. w.places.items) (reverse l.workers.items));
   gives : FoldsTo Gives l.fn.pass
       (reverse (map (λ p. p.pass) (flat_map (λ w. w.places.items) (reverse l.workers.items)))) l.pass;
   books : l.fn.books.items

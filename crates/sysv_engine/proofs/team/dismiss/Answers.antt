@@ -1,7 +1,8 @@
 -- The last place's pass is one of the service, its sums are added, and its book is put back.
-use Rattle.std.proofs.Common.{◌≡◌, ◌∙◌, ℕ, ◌+◌, ◌∷◌, [], ◌++◌, map, reverse, ap, append-nil, arith, length, refl, sym}
+use Rattle.std.proofs.Common.{◌≡◌, ◌∙◌, ◌≤◌, ℕ, ◌+◌, ◌∷◌, [], ◌++◌, map, reverse, ap, append-nil, arith, refl, sym}
 use Rattle.std.proofs.Common.{zero-add}
-use Rattle.std.proofs.Common.{subst, None}
+use Rattle.std.proofs.Common.{subst, true}
+use Rattle.std.specs.Prelude.{◌^◌, ◌-◌}
 use Rattle.std.proofs.lemmas.List.{map-append, reverse-append}
 use Rattle.std.proofs.lemmas.List.Sums.{sum_by_push}
 use Rattle.std.specs.List.{FoldsTo, sum_by}
@@ -10,18 +11,31 @@ use Rattle.sysv_thread_laws.specs.Hiring.{TakesIn}
 use Rattle.sysv_service.specs.Ran.{Pass}
 use Rattle.sysv_engine.specs.declared.sums.Sums.{Sums}
 use Rattle.sysv_engine.specs.Added.{added, capped}
-use Rattle.sysv_engine.specs.Places.{Seated}
+use Rattle.sysv_engine.specs.declared.fates.Fates.{Fates}
+use Rattle.sysv_engine.specs.Fated.{both}
+use Rattle.sysv_engine.specs.Places.{Seated, fates_at_end, has_ended}
+use Rattle.sysv_engine.proofs.FatesAdded.{all_gathered, gathering_none, gathering_one}
+use Rattle.sysv_engine.proofs.PlaceLists.{is_left}
 use Rattle.sysv_engine.proofs.SumsOfSessions.{adding_none, adding_one, all_counted, counting_one, emptied}
 use Rattle.sysv_engine.proofs.Shifts.{but_last, reverse_last, the_last, unpopped}
 use Rattle.sysv_engine.proofs.team.dismiss.Goals as goal
+
+stays_small : (old new : ℕ) → new ≡ capped old → new ≤ 2 ^ 64 - 1
+stays_small old new is = omega arith
+
+-- There is room for one book more, since there is one place less.
+still_room : (books places room more fewer same : ℕ) → books + places ≤ room → more ≡ books + 1 → same ≡ room →
+    fewer + 1 ≡ places → more + fewer ≤ same
+still_room books places room more fewer same fits len is less = omega arith
 
 pub loop-place-init : goal.loop-place-init
 loop-place-init g c = record {
   pass = c.requires.pass;
   places = c.requires.places;
-  vacant = c.requires.vacant;
+  ended = c.requires.ended;
   sums = adding_none _ c.open-sums.result c.open-sums.ensures;
   refused = ap capped (zero-add _);
+  fates = gathering_none _ c.open-fates.result c.open-fates.ensures;
   small = omega arith;
   takes = λ home folds. folds;
   books = refl;
@@ -30,8 +44,9 @@ loop-place-init g c = record {
 
 pub into_parts-theirs-requires : goal.into_parts-theirs-requires
 into_parts-theirs-requires g c =
-    the_last (λ (p : Seated g.row.T-Book.Denot g.row.T.Denot). p.client ≡ None) c.pop.new.self.items
-    c.loop-place.places.items c.in-Some.place c.in-Some.ensures.items c.loop-place.invariant.vacant
+    is_left c.in-Some.place
+    (the_last (λ (p : Seated g.row.T-Book.Denot g.row.T.Denot). has_ended p ≡ true) c.pop.new.self.items
+    c.loop-place.places.items c.in-Some.place c.in-Some.ensures.items c.loop-place.invariant.ended)
 
 pub join_pass-requires-clause-other : goal.join_pass-requires-clause-other
 join_pass-requires-clause-other g c =
@@ -50,6 +65,8 @@ loop-place-preserved g c =
     let missed : S → ℕ = λ p. p.refused in
     let book : S → g.row.T-Book.Denot = λ p. p.book in
     let fewer = ap (map sums) is ∙ map-append sums c.pop.new.self.items (c.in-Some.place ∷ []) in
+    let of_fates : S → Fates = λ p. fates_at_end p in
+    let fated = ap (map of_fates) is ∙ map-append of_fates c.pop.new.self.items (c.in-Some.place ∷ []) in
     let rest = reverse (map book c.pop.new.self.items) in
     let booked = ap (λ ps. reverse (map book ps)) is
     ∙ (ap reverse (map-append book c.pop.new.self.items (c.in-Some.place ∷ []))
@@ -64,8 +81,10 @@ loop-place-preserved g c =
       pass = c.join_pass.ensures.pass;
       places = but_last (λ (p : S). p.gates ≡ c.args.service.now) c.pop.new.self.items c.loop-place.places.items
           c.in-Some.place is c.loop-place.invariant.places;
-      vacant = but_last (λ (p : S). p.client ≡ None) c.pop.new.self.items c.loop-place.places.items c.in-Some.place is
-          c.loop-place.invariant.vacant;
+      ended = but_last (λ (p : S). has_ended p ≡ true) c.pop.new.self.items c.loop-place.places.items c.in-Some.place is
+          c.loop-place.invariant.ended;
+      fates = gathering_one _ _ _ _ _ _ c.loop-place.invariant.fates fated
+          (c.add-in-Some.ensures ∙ ap (both c.loop-place.fates) parts.3);
       sums = adding_one _ _ _ _ _ _ c.loop-place.invariant.sums fewer
           (c.add.ensures ∙ ap (added c.loop-place.sums) parts.1);
       refused = ap (λ n. capped (n + sum_by missed c.pop.new.self.items))
@@ -74,17 +93,16 @@ loop-place-preserved g c =
           ∙ (ap (λ n. capped (c.loop-place.refused + n))
           (sym (ap (sum_by missed) is ∙ sum_by_push missed c.pop.new.self.items c.in-Some.place))
           ∙ c.loop-place.invariant.refused));
-      small = let is = c.saturating_add-refused.ensures in omega arith;
+      small = stays_small _ _ c.saturating_add-refused.ensures;
       takes = λ home rest.
           c.loop-place.invariant.takes home
           (subst (λ ps. FoldsTo TakesIn c.loop-place.pass ps home) (sym passes) (c.join_pass.new.pass, joined, rest));
       books = ap (λ l. l ++ rest) c.push_reserved.ensures.items
-          ∙ (unpopped c.loop-place.books.items c.into_parts-theirs.result.3 rest
-          ∙ (ap (λ b. c.loop-place.books.items ++ b ∷ rest) parts.3
+          ∙ (unpopped c.loop-place.books.items c.into_parts-theirs.result.4 rest
+          ∙ (ap (λ b. c.loop-place.books.items ++ b ∷ rest) parts.4
           ∙ (ap (λ l. c.loop-place.books.items ++ l) (sym booked) ∙ c.loop-place.invariant.books)));
-      room = let room = c.loop-place.invariant.room in let len = c.push_reserved.ensures.len in
-          let same = c.push_reserved.ensures.capacity in let less = c.in-Some.ensures.cases in
-          omega arith;
+      room = still_room _ _ _ _ _ _ c.loop-place.invariant.room c.push_reserved.ensures.len
+          c.push_reserved.ensures.capacity c.in-Some.ensures.cases;
     }
 
 pub returns-clause-pass : goal.returns-clause-pass
@@ -94,9 +112,7 @@ pub returns-clause-books : goal.returns-clause-books
 returns-clause-books g c =
     let book : Seated g.row.T-Book.Denot g.row.T.Denot → g.row.T-Book.Denot = λ p. p.book in
     let books = c.loop-place.books.items in
-    let len = c.in_default.ensures.cases.0 in
-    let ok = c.loop-place.places.ok in
-    let none : length c.loop-place.places.items ≡ 0 = omega arith in
+    let none = sym c.loop-place.places.ok.0 ∙ c.in_default.ensures.cases.0 in
     sym (append-nil books)
     ∙ (ap (λ ps. books ++ reverse (map book ps)) (sym (emptied c.loop-place.places.items none))
     ∙ c.loop-place.invariant.books)
@@ -104,19 +120,22 @@ returns-clause-books g c =
 pub returns-clause-refused : goal.returns-clause-refused
 returns-clause-refused g c =
     let missed : Seated g.row.T-Book.Denot g.row.T.Denot → ℕ = λ p. p.refused in
-    let len = c.in_default.ensures.cases.0 in
-    let ok = c.loop-place.places.ok in
-    let none : length c.loop-place.places.items ≡ 0 = omega arith in
+    let none = sym c.loop-place.places.ok.0 ∙ c.in_default.ensures.cases.0 in
     let empty = ap (sum_by missed) (emptied c.loop-place.places.items none) in
     all_counted c.loop-place.refused (sum_by missed c.loop-place.places.items)
     (sum_by missed c.args.places.items) c.loop-place.invariant.small empty c.loop-place.invariant.refused
 
+pub returns-clause-fates : goal.returns-clause-fates
+returns-clause-fates g c =
+    let of_fates : Seated g.row.T-Book.Denot g.row.T.Denot → Fates = λ p. fates_at_end p in
+    let none = sym c.loop-place.places.ok.0 ∙ c.in_default.ensures.cases.0 in
+    all_gathered _ _ c.loop-place.fates c.loop-place.invariant.fates
+    (ap (map of_fates) (emptied c.loop-place.places.items none))
+
 pub returns-clause-takes : goal.returns-clause-takes
 returns-clause-takes g c =
     let of : Seated g.row.T-Book.Denot g.row.T.Denot → Pass = λ p. p.pass in
-    let len = c.in_default.ensures.cases.0 in
-    let ok = c.loop-place.places.ok in
-    let none : length c.loop-place.places.items ≡ 0 = omega arith in
+    let none = sym c.loop-place.places.ok.0 ∙ c.in_default.ensures.cases.0 in
     c.loop-place.invariant.takes c.loop-place.pass
     (subst (λ ps. FoldsTo TakesIn c.loop-place.pass (reverse (map of ps)) c.loop-place.pass)
     (sym (emptied c.loop-place.places.items none)) refl)

@@ -16,8 +16,8 @@ loop-preserved g c =
     let S : Type 0 = Seated g.row.T-Book.Denot g.row.T.Denot in
     let ok = c.in-Ok.ensures.ok in
     let made = c.new.ensures in
-    let P : S → Type 0 = IsOpened c.args.service.now in
-    let opened : P c.new.result = subst P (sym made) (refl, (ok.0, ok.2, refl, refl), refl) in
+    let P : S → Type 0 = IsOpened c.args.service.now c.args.newest in
+    let opened : P c.new.result = subst P (sym made) (refl, refl, (ok.0, ok.2, refl, refl), refl, refl, refl, refl) in
     let of : S → Pass = λ p. p.pass in
     let book : S → g.row.T-Book.Denot = λ p. p.book in
     let pass : of c.new.result ≡ c.in-Ok.theirs = ap of made in
@@ -54,7 +54,7 @@ loop-preserved g c =
 pub returns-clause-places : goal.returns-clause-places
 returns-clause-places g c =
     let S : Type 0 = Seated g.row.T-Book.Denot g.row.T.Denot in
-    let P : S → Type 0 = IsOpened c.args.service.now in
+    let P : S → Type 0 = IsOpened c.args.service.now c.args.newest in
     subst (All P) (sym c.reverse.ensures.items) (all_reverse P c.loop.places.items c.loop.invariant.places)
 
 pub returns-clause-books : goal.returns-clause-books

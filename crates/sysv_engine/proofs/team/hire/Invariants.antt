@@ -14,7 +14,7 @@ invariant-loop g l = record {
   same : vec_capacity l.places ≡ vec_capacity l.fn.places;
   left : vec_len l.books + vec_len l.places ≡ vec_len l.fn.books;
   pass : AreOf l.service l.pass.seats;
-  places : All (IsOpened l.service) l.places.items;
+  places : All (IsOpened l.service l.newest) l.places.items;
   gives : FoldsTo Gives l.fn.pass (map (λ p. p.pass) l.places.items) l.pass;
   books : l.fn.books.items ≡ l.books.items ++ reverse (map (λ p. p.book) l.places.items);
   room : vec_capacity l.books ≡ vec_capacity l.fn.books;

@@ -1,11 +1,19 @@
 -- A vacant place is given to a client, whose session begins.
-use Rattle.std.proofs.Common.{◌∙◌, ap}
-use Rattle.sysv_engine.specs.Places.{taken_by}
+use Rattle.std.proofs.Common.{◌∙◌, ap, subst}
+use Rattle.sysv_service.specs.Ran.{Pass}
+use Rattle.sysv_wire.specs.declared.frame.Version.{Version}
+use Rattle.sysv_seats.specs.Holding.{empty_handed}
+use Rattle.sysv_seats.specs.Sits.{Sits}
+use Rattle.sysv_engine.specs.Places.{Seated, taken_by}
 use Rattle.sysv_engine.proofs.PlaceLemmas.{takes}
 use Rattle.sysv_engine.proofs.place.Place.adopt.Goals as goal
 
 pub returns : goal.returns
 returns g c =
     takes g.T.NonBlocking.incoming g.T.NonBlocking.outgoing g.T.NonBlocking.closes _ c.seat.new.self
-    c.args.connection c.open.result c.requires (c.seat.ensures ∙ ap (taken_by c.open.result) c.self.view_is)
-    c.open.ensures.connection c.open.ensures.sits
+    c.args.connection c.open-client.result c.requires.0 c.requires.1
+    (c.seat.ensures ∙ ap (taken_by c.open-client.result) c.self.view_is)
+    c.open-client.ensures.connection
+    (subst (λ (v : Version). (pass : Pass) → Sits g.T.NonBlocking.incoming g.T.NonBlocking.outgoing v pass
+    c.args.connection c.open-client.result (empty_handed pass))
+    (ap (λ (p : Seated g.row.T-Book.Denot g.row.T.Denot). p.newest) c.self.view_is) c.open-client.ensures.sits)

@@ -18,6 +18,16 @@ returns g c =
     record {
       keeps = keeps_from t.incoming t.outgoing t.closes _ _ c.count.new.self c.self.view_is
           (closed_at t.incoming t.outgoing t.closes _ c.count.new.self c.in_ok-client.client c.close-served.result
-          c.close-served.new.book held (same.0, same.1, same.2, same.3 ∙ c.take.ensures.after) c.count.ensures.sums
+          c.close-served.new.book held (
+            same.0,
+            same.1,
+            same.2,
+            same.3 ∙ c.take.ensures.after,
+            same.4,
+            same.5,
+            same.6,
+            same.7,
+          )
+          c.count.ensures.sums
           c.count.ensures.refused c.close-served.ensures.over (c.close-served.ensures.cause may));
     }

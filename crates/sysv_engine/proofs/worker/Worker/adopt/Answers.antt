@@ -1,13 +1,14 @@
 -- One of the places adopts the connection, and keeps what it has had then.
 use Rattle.std.proofs.Common.{◌∙◌, ap}
-use Rattle.sysv_engine.specs.Places.{Seated}
-use Rattle.sysv_engine.proofs.PlaceLists.{adopts_at}
+use Rattle.sysv_engine.specs.Places.{Seated, is_vacant}
+use Rattle.sysv_engine.proofs.PlaceLists.{adopts_at, is_free}
 use Rattle.sysv_engine.proofs.worker.Worker.adopt.Goals as goal
 
 pub adopt-requires : goal.adopt-requires
 adopt-requires g c =
     let S : Type 0 = Seated g.row.T-Book.Denot g.row.T.Denot in
-    ap (λ (p : S). p.client) c.index_mut-there.ensures.value ∙ c.requires.1 c.index_mut-there.result.now
+    is_free c.index_mut-there.result.now
+    (ap (λ (p : S). is_vacant p) c.index_mut-there.ensures.value ∙ c.requires.1 c.index_mut-there.result.now)
 
 pub returns : goal.returns
 returns g c =

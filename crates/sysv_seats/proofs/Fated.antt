@@ -1,0 +1,156 @@
+-- Each message that a hold gave is spent or held.
+use Rattle.std.proofs.Common.{◌≡◌, ◌∙◌, ◌+◌, ℕ, ℤ, List, [], ◌∷◌, Option, None, Some, Result, Ok, Err, inl, inr}
+use Rattle.std.proofs.Common.{ap, refl, subst, sym, arith}
+use Rattle.std.specs.Prelude.{⊤}
+use Rattle.sysv_model.specs.declared.attributes.Row.{Row as Line}
+use Rattle.sysv_model.specs.declared.attributes.Stat.{Stat as Attributes}
+use Rattle.sysv_model.specs.declared.cred.Cred.{Cred}
+use Rattle.sysv_model.specs.declared.errno.Errno.{Errno}
+use Rattle.sysv_queue.specs.Delivery.{Given}
+use Rattle.sysv_session.specs.declared.handler.RequestOutcome.{RequestOutcome}
+use Rattle.sysv_session.specs.declared.handler.RequestOutcome.TheVariants.{Left}
+use Rattle.sysv_service.specs.Ran.{Pass}
+use Rattle.sysv_wire.specs.declared.frame.Op.TheVariants as op
+use Rattle.sysv_wire.specs.declared.frame.Version.{Version}
+use Rattle.sysv_wire.specs.declared.reply.ReplyContent.TheVariants as content
+use Rattle.sysv_wire.specs.declared.request.Ask.{Ask}
+use Rattle.sysv_wire.specs.declared.request.Ask.TheVariants.{Hello, Get, Snd, Rcv, Stat, Set, Rm, Row, Hold, Done, Back}
+use Rattle.sysv_seats.specs.Asked.{Asks}
+use Rattle.sysv_seats.specs.Fates.{EachMessageIsSpentOrHeld, given_by, held_count, spent_by}
+use Rattle.sysv_seats.specs.Held.{HoldAsks}
+use Rattle.sysv_seats.specs.Holding.{Holder, Message, done_outcome, held_by, hold_outcome}
+use Rattle.sysv_seats.specs.Sits.{zero_moment}
+use Rattle.sysv_seats.specs.Replies.{done_reply, given_reply, id_reply, row_reply, stat_reply}
+use Rattle.sysv_seats.proofs.HeldPieces.{none_held}
+
+-- The outcome is neither a message to hold nor the reply that one was spent.
+abbrev IsNeither : RequestOutcome → Type 0
+IsNeither outcome = (given_by outcome ≡ 0) × (spent_by outcome ≡ 0)
+
+id_is : (version : Version) (answer : Result ℤ Errno) → IsNeither (id_reply version answer)
+id_is version (Ok id) = (refl, refl)
+id_is version (Err why) = (refl, refl)
+
+sent_is : (version : Version) (answer : Result ⊤ Errno) → IsNeither (done_reply version op.Snd content.Snd answer)
+sent_is version (Ok zero) = (refl, refl)
+sent_is version (Err why) = (refl, refl)
+
+set_is : (version : Version) (answer : Result ⊤ Errno) → IsNeither (done_reply version op.Set content.Set answer)
+set_is version (Ok zero) = (refl, refl)
+set_is version (Err why) = (refl, refl)
+
+removed_is : (version : Version) (answer : Result ⊤ Errno) → IsNeither (done_reply version op.Rm content.Rm answer)
+removed_is version (Ok zero) = (refl, refl)
+removed_is version (Err why) = (refl, refl)
+
+got_is : (version : Version) (answer : Result Given Errno) → IsNeither (given_reply version answer)
+got_is version (Ok delivery) = (refl, refl)
+got_is version (Err why) = (refl, refl)
+
+stat_is : (version : Version) (answer : Result Attributes Errno) → IsNeither (stat_reply version answer)
+stat_is version (Ok stat) = (refl, refl)
+stat_is version (Err why) = (refl, refl)
+
+row_is : (version : Version) (answer : Result (Option Line) Errno) → IsNeither (row_reply version answer)
+row_is version (Ok row) = (refl, refl)
+row_is version (Err why) = (refl, refl)
+
+module _ (may : ℕ → Type 0) (may_leave : Type 0) (version : Version) (cred : Cred) where
+  -- Any other call has neither.
+  neither : (ask : Ask) (text : List ℕ) (before : Pass) (outcome : RequestOutcome) (given : List ℕ) (after : Pass) →
+      (ask ≡ Done → ⊥) → Asks may may_leave version cred ask text before outcome given after → IsNeither outcome
+  neither (Hello other) text before outcome given after unspent asked = absurd asked
+  neither (Get key flags) text before outcome given after unspent (inl over, none) =
+      subst IsNeither (sym over.4) (id_is version over.0)
+  neither (Get key flags) text before outcome given after unspent (inr left, none) = subst IsNeither (sym left.1)
+      (refl, refl)
+  neither (Snd id mtype flags) text before outcome given after unspent ((released, mid, read, inl over), none) =
+      subst IsNeither (sym over.4) (sent_is version over.0)
+  neither (Snd id mtype flags) text before outcome given after unspent ((released, mid, read, inr left), none) =
+      subst IsNeither (sym left.1) (refl, refl)
+  neither (Rcv id size mtype flags) text before outcome given after unspent (inl over) =
+      subst IsNeither (sym over.4) (got_is version over.0)
+  neither (Rcv id size mtype flags) text before outcome given after unspent (inr left) =
+      subst IsNeither (sym left.2) (refl, refl)
+  neither (Stat id) text before outcome given after unspent asked =
+      subst IsNeither (sym asked.0.4) (stat_is version asked.0.0)
+  neither (Set id to) text before outcome given after unspent asked =
+      subst IsNeither (sym asked.0.4) (set_is version asked.0.0)
+  neither (Rm id) text before outcome given after unspent asked =
+      subst IsNeither (sym asked.0.4) (removed_is version asked.0.0)
+  neither (Row slot) text before outcome given after unspent asked =
+      subst IsNeither (sym asked.0.2) (row_is version asked.0.0)
+  neither (Hold id size mtype flags seconds) text before outcome given after unspent asked =
+      subst IsNeither (sym asked.0.1) (refl, refl)
+  neither Done text before outcome given after unspent asked = absurd (unspent refl)
+  neither Back text before outcome given after unspent asked = subst IsNeither (sym asked.0.1) (refl, refl)
+
+  -- What a hold takes is held.
+  holds_one : (id : ℤ) (answer : Result Given Errno) (given : List ℕ) →
+      given_by (hold_outcome version (given_reply version answer))
+      ≡ spent_by (hold_outcome version (given_reply version answer))
+      + held_count (held_by cred id (given_reply version answer) given)
+  holds_one id (Ok delivery) given = refl
+  holds_one id (Err why) given = refl
+
+  spends_one : (message : Option Message) → held_count message + given_by (done_outcome version message)
+      ≡ spent_by (done_outcome version message)
+  spends_one None = refl
+  spends_one (Some message) = refl
+
+  -- After a call that neither gave nor spent a message the same is held.
+  same_count : (outcome : RequestOutcome) (old new : Option Message) → IsNeither outcome → new ≡ old →
+      held_count old + given_by outcome ≡ spent_by outcome + held_count new
+  same_count outcome old new is same = omega (arith, is.0, is.1, ap held_count same)
+
+  one : (ask : Ask) (text : List ℕ) (old : Holder Pass) (outcome : RequestOutcome) (given : List ℕ)
+      (new : Holder Pass) → HoldAsks may may_leave version cred ask text old outcome given new →
+      held_count old.message + given_by outcome ≡ spent_by outcome + held_count new.message
+  one (Hold id size mtype flags seconds) text old outcome given new (inl refused) =
+      same_count outcome old.message new.message (subst IsNeither (sym refused.2) (refl, refl))
+      (ap (λ (h : Holder Pass). h.message) refused.0)
+  one (Hold id size mtype flags seconds) text old outcome given new (inr (can, came, inl over, is, held)) =
+      let none = none_held flags seconds old.message can in
+      let whole : came ≡ given_reply version over.0 = over.4 in
+      let counts = subst (λ (o : RequestOutcome). given_by (hold_outcome version o)
+      ≡ spent_by (hold_outcome version o) + held_count (held_by cred id o given)) (sym whole)
+      (holds_one id over.0 given) in
+      omega (
+        arith,
+        counts,
+        ap held_count none,
+        ap held_count held,
+        ap given_by is,
+        ap spent_by is,
+      )
+  one (Hold id size mtype flags seconds) text old outcome given new (inr (can, came, inr left, is, held)) =
+      let none = none_held flags seconds old.message can in
+      let gone : outcome ≡ Left = is ∙ ap (hold_outcome version) left.2 in
+      let nothing : new.message ≡ None =
+      held ∙ ap (λ (o : RequestOutcome). held_by cred id o given) left.2 in
+      omega (arith, ap held_count none, ap held_count nothing, ap given_by gone, ap spent_by gone)
+  one Done text old outcome given new asked =
+      let none : new.message ≡ None = ap (λ (h : Holder Pass). h.message) asked.0 in
+      omega (
+        arith,
+        spends_one old.message,
+        ap held_count none,
+        ap given_by asked.1,
+        ap spent_by asked.1,
+      )
+  one Back text old outcome given new asked =
+      same_count outcome old.message new.message (subst IsNeither (sym asked.1) (refl, refl))
+      (ap (λ (h : Holder Pass). h.message) asked.0)
+  one ask text old outcome given new asked =
+      same_count outcome old.message new.message
+      (neither ask text old.at outcome given new.at (λ is. cc is) asked.0) asked.1
+
+pub each_message : EachMessageIsSpentOrHeld
+each_message cred old [] new is = omega (arith, ap (λ (h : Holder Pass). held_count h.message) is)
+each_message cred old (call ∷ calls) new leads =
+    omega (
+      arith,
+      one zero_moment ⊤ call.request.version cred call.request.ask call.text old call.outcome call.given leads.0
+          leads.1,
+      each_message cred leads.0 calls new leads.2,
+    )

@@ -1,0 +1,282 @@
+-- The pieces of a request of a session that may hold a message, one after another, are the request.
+use Rattle.std.proofs.Common.{◌≡◌, ◌∙◌, ℕ, ℤ, Bool, true, false, List, [], Option, None, Some, inl, inr, refl, sym}
+use Rattle.std.proofs.Common.{subst, length, arith, ap}
+use Rattle.std.specs.Prelude.{◌≤◌, ◌&&◌, ◌==◌, not, cond, Result}
+use Rattle.sysv_model.specs.declared.cred.Cred.{Cred}
+use Rattle.sysv_model.specs.declared.errno.Errno.{Errno}
+use Rattle.sysv_model.specs.declared.errno.Errno.TheVariants.{EAGAIN, EINVAL}
+use Rattle.sysv_model.specs.declared.flags.Flags.{Flags}
+use Rattle.sysv_model.specs.declared.flags.TheConstants.Flags.{MSG_NOERROR}
+use Rattle.sysv_model.specs.declared.limits.TheConstants.{MESSAGE_BYTES}
+use Rattle.sysv_model.specs.HasFlag.{has_flag}
+use Rattle.sysv_queue.specs.Delivery.{Given}
+use Rattle.sysv_session.specs.declared.handler.RequestOutcome.{RequestOutcome}
+use Rattle.sysv_session.specs.declared.handler.RequestOutcome.TheVariants.{Reply, Got, Left}
+use Rattle.sysv_session.specs.Answers.{MayAnswer, is_received}
+use Rattle.sysv_service.specs.declared.progress.Progress.{Progress}
+use Rattle.sysv_service.specs.declared.progress.Progress.TheVariants as progress
+use Rattle.sysv_service.specs.Pending.{ReceivesOn}
+use Rattle.sysv_service.specs.Ran.{Pass}
+use Rattle.sysv_steps.specs.declared.receive.ReceiveWait.{ReceiveWait}
+use Rattle.sysv_steps.specs.Call.{Receives}
+use Rattle.sysv_steps.specs.State.{State}
+use Rattle.sysv_wire.specs.declared.frame.Op.TheVariants as op
+use Rattle.sysv_wire.specs.declared.frame.Version.{Version}
+use Rattle.sysv_wire.specs.declared.reply.ReplyContent.{ReplyContent}
+use Rattle.sysv_wire.specs.declared.reply.ReplyContent.TheVariants as content
+use Rattle.sysv_wire.specs.declared.request.Ask.{Ask}
+use Rattle.sysv_wire.specs.declared.request.Ask.TheVariants.{Rcv, Hold, Done, Back}
+use Rattle.sysv_wire.specs.Frames.{op_number}
+use Rattle.sysv_wire.specs.Replies.{IsAnswer}
+use Rattle.sysv_seats.specs.declared.waiting.Waiting.{Waiting}
+use Rattle.sysv_seats.specs.declared.waiting.Waiting.TheVariants.{Send, Receive, Get}
+use Rattle.sysv_seats.specs.Held.{AnyGoesOn, GoesOnBeside, HoldAsks, HoldBegun, HoldParked, HoldProgress, held_at}
+use Rattle.sysv_seats.specs.Held.{hold_progress}
+use Rattle.sysv_seats.specs.Holding.{Holder, Message, can_hold, received}
+use Rattle.sysv_seats.specs.InPieces.{asks_any, left}
+use Rattle.sysv_seats.specs.Parked.{GoesOn, HasBegun, IsParked, IsWaitOf, MayProgress, receive_progress}
+use Rattle.sysv_seats.specs.Replies.{reply as the_reply}
+
+-- A request that is no hold, no done and no back.
+abbrev pub IsNoHold : Ask → Type 0
+IsNoHold ask = (id : ℤ) (size : ℕ) (mtype : ℤ) (flags : Flags)
+    (seconds : ℕ) → ask ≡ Hold id size mtype flags seconds → ⊥
+
+-- ---- what may be held
+
+two_of : (a b : Bool) → (a && (b && false)) ≡ true → ⊥
+two_of true true is = cc is
+two_of true false is = cc is
+two_of false b is = cc is
+
+-- A session that may hold a message holds none.
+pub none_held : (flags : Flags) (seconds : ℕ) (message : Option Message) → can_hold flags seconds message ≡ true →
+    message ≡ None
+none_held flags seconds None can = refl
+none_held flags seconds (Some message) can =
+    absurd (two_of (seconds == 0) (not (has_flag MSG_NOERROR flags)) can)
+
+module _ (may : ℕ → Type 0) (version : Version) (cred : Cred) where
+  -- ---- the end
+
+  -- What a caller that does not leave may be told, any caller may be told.
+  pub hold_asks_any : (may_leave : Type 0) (ask : Ask) (text : List ℕ) (before : Holder Pass) (outcome : RequestOutcome)
+      (given : List ℕ) (after : Holder Pass) → HoldAsks may ⊥ version cred ask text before outcome given after →
+      HoldAsks may may_leave version cred ask text before outcome given after
+  hold_asks_any may_leave (Hold id size mtype flags seconds) text before outcome given after (inl refused) = inl refused
+  hold_asks_any may_leave (Hold id size mtype flags seconds) text before outcome given after
+      (inr (can, came, inl over, is, held)) = inr (can, came, inl over, is, held)
+  hold_asks_any may_leave (Hold id size mtype flags seconds) text before outcome given after
+      (inr (can, came, inr leaves, is, held)) = absurd leaves.0.0
+  hold_asks_any may_leave Done text before outcome given after asked = asked
+  hold_asks_any may_leave Back text before outcome given after asked = asked
+  hold_asks_any may_leave ask text before outcome given after asked =
+      (asks_any may version cred may_leave ask text before.at outcome given after.at asked.0, asked.1)
+
+  -- A parked call can be left, if its caller may leave.
+  pub hold_left : (may_leave : Type 0) (ask : Ask) (text : List ℕ) (before : Holder Pass) (waiting : Waiting)
+      (after : Holder Pass) → may_leave → HoldParked may cred ask text before waiting after →
+      HoldAsks may may_leave version cred ask text before Left [] after
+  hold_left may_leave (Hold id size mtype flags seconds) text before waiting after leaves parked = inr (
+    parked.0,
+    Left,
+    left may version cred may_leave (Rcv id size mtype flags) text before.at waiting after.at leaves parked.1,
+    refl,
+    parked.2 ∙ none_held flags seconds before.message parked.0,
+  )
+  hold_left may_leave Done text before waiting after leaves parked = absurd parked.1
+  hold_left may_leave Back text before waiting after leaves parked = absurd parked.1
+  hold_left may_leave ask text before waiting after leaves parked =
+      (left may version cred may_leave ask text before.at waiting after.at leaves parked.1, parked.2)
+
+  -- ---- the beginning
+
+  parked_beside : (ask : Ask) (text : List ℕ) (before : Holder Pass) (waiting : Waiting) (after : Holder Pass) →
+      IsNoHold ask → IsParked may cred ask text before.at waiting after.at → after.message ≡ before.message →
+      HoldParked may cred ask text before waiting after
+  parked_beside (Hold id size mtype flags seconds) text before waiting after not parked same =
+      absurd (not id size mtype flags seconds refl)
+  parked_beside ask text before waiting after not parked same = (refl, parked, same)
+
+  asks_beside : (ask : Ask) (text : List ℕ) (before : Holder Pass) (outcome : RequestOutcome) (given : List ℕ)
+      (after : Holder Pass) → IsNoHold ask → (ask ≡ Done → ⊥) → (ask ≡ Back → ⊥) →
+      HasBegun may version cred ask text before.at (progress.Over outcome) given after.at →
+      after.message ≡ before.message →
+      HoldAsks may ⊥ version cred ask text before outcome given after
+  asks_beside (Hold id size mtype flags seconds) text before outcome given after not no_done no_back asked same =
+      absurd (not id size mtype flags seconds refl)
+  asks_beside Done text before outcome given after not no_done no_back asked same = absurd (no_done refl)
+  asks_beside Back text before outcome given after not no_done no_back asked same = absurd (no_back refl)
+  asks_beside ask text before outcome given after not no_done no_back asked same = (asked, same)
+
+  -- Any other request is one of the handler.
+  pub begun_beside : (ask : Ask) (text : List ℕ) (before : Holder Pass) (came : Progress Waiting RequestOutcome)
+      (given : List ℕ) (after : Holder Pass) → IsNoHold ask → (ask ≡ Done → ⊥) → (ask ≡ Back → ⊥) →
+      HasBegun may version cred ask text before.at came given after.at → after.message ≡ before.message →
+      HoldBegun may version cred ask text before came given after
+  begun_beside ask text before (progress.Waits waiting) given after not no_done no_back begun same =
+      (parked_beside ask text before waiting after not begun.0 same, begun.1)
+  begun_beside ask text before (progress.Over outcome) given after not no_done no_back begun same =
+      asks_beside ask text before outcome given after not no_done no_back begun same
+
+  -- A hold was refused, and no call was made.
+  pub hold_refused : (id : ℤ) (size : ℕ) (mtype : ℤ) (flags : Flags) (seconds : ℕ) (text : List ℕ)
+      (before : Holder Pass) (can : Bool) (given : List ℕ) → can ≡ can_hold flags seconds before.message →
+      given ≡ [] →
+      HoldBegun may version cred (Hold id size mtype flags seconds) text before
+      (progress.Over (the_reply version op.Hold (content.Refused (cond can EAGAIN EINVAL)))) given before
+  hold_refused id size mtype flags seconds text before can given is none =
+      inl (refl, none, ap (λ (b : Bool). the_reply version op.Hold (content.Refused (cond b EAGAIN EINVAL))) is)
+
+  -- A hold has come as far as its receive.
+  pub hold_begun : (id : ℤ) (size : ℕ) (mtype : ℤ) (flags : Flags) (seconds : ℕ) (text : List ℕ) (before : Holder Pass)
+      (came : Progress Waiting RequestOutcome) (given : List ℕ) (after : Holder Pass) →
+      can_hold flags seconds before.message ≡ true →
+      HasBegun may version cred (Rcv id size mtype flags) text before.at came given after.at →
+      after.message ≡ held_at cred id came given →
+      HoldBegun may version cred (Hold id size mtype flags seconds) text before (hold_progress version came) given after
+  hold_begun id size mtype flags seconds text before (progress.Waits waiting) given after can begun held = (
+    (can, begun.0, held ∙ sym (none_held flags seconds before.message can)),
+    begun.1,
+  )
+  hold_begun id size mtype flags seconds text before (progress.Over outcome) given after can begun held =
+      inr (can, outcome, begun, refl, held)
+
+  -- ---- a parked call goes on
+
+  -- The call of any other request has gone on.
+  pub on_beside : (ask : Ask) (text : List ℕ) (start : Holder Pass) (waiting : Waiting) (before : Holder Pass)
+      (came : Progress Waiting RequestOutcome) (given : List ℕ) (after : Holder Pass) → IsNoHold ask →
+      (IsParked may cred ask text start.at waiting before.at →
+      HasBegun may version cred ask text start.at came given after.at) → after.message ≡ before.message →
+      HoldParked may cred ask text start waiting before → HoldBegun may version cred ask text start came given after
+  on_beside (Hold id size mtype flags seconds) text start waiting before came given after not on same parked =
+      absurd (not id size mtype flags seconds refl)
+  on_beside Done text start waiting before came given after not on same parked = absurd parked.1
+  on_beside Back text start waiting before came given after not on same parked = absurd parked.1
+  on_beside ask text start waiting before came given after not on same parked =
+      begun_beside ask text start came given after not (λ is. cc is) (λ is. cc is) (on parked.1) (same ∙ parked.2)
+
+  -- The receive of a hold has gone on.
+  pub hold_on : (id : ℤ) (size : ℕ) (mtype : ℤ) (flags : Flags) (seconds : ℕ) (text : List ℕ) (start : Holder Pass)
+      (waiting : Waiting) (before : Holder Pass) (came : Progress Waiting RequestOutcome) (given : List ℕ)
+      (after : Holder Pass) →
+      (IsParked may cred (Rcv id size mtype flags) text start.at waiting before.at →
+      HasBegun may version cred (Rcv id size mtype flags) text start.at came given after.at) →
+      after.message ≡ held_at cred id came given →
+      HoldParked may cred (Hold id size mtype flags seconds) text start waiting before →
+      HoldBegun may version cred (Hold id size mtype flags seconds) text start (hold_progress version came) given after
+  hold_on id size mtype flags seconds text start waiting before came given after on held parked =
+      hold_begun id size mtype flags seconds text start came given after parked.0 (on parked.1) held
+
+-- ---- what is received is short
+
+given_short : (version : Version) (ask : Ask) (outcome : RequestOutcome) (given : List ℕ) →
+    MayAnswer version ask outcome given → length given ≤ MESSAGE_BYTES
+given_short version ask (Reply reply) given answers = answers.4
+given_short version ask (Got delivery) given answers = answers.2
+given_short version ask Left given answers = rw answers (omega arith)
+
+-- What was received by a request that was begun.
+pub begun_short : (may : ℕ → Type 0) (version : Version) (cred : Cred) (ask : Ask) (text : List ℕ) (before : Pass)
+    (came : Progress Waiting RequestOutcome) (given : List ℕ) (after : Pass) →
+    HasBegun may version cred ask text before came given after → MayProgress version ask came given →
+    length given ≤ MESSAGE_BYTES
+begun_short may version cred ask text before (progress.Waits waiting) given after begun answers =
+    rw begun.1 (omega arith)
+begun_short may version cred ask text before (progress.Over outcome) given after begun answers =
+    given_short version ask outcome given answers
+
+-- A receive that waits has no body.
+waits_empty : (may : ℕ → Type 0) (version : Version) (from : State Receives) (before : Pass) (waiting : Waiting)
+    (came : Progress ReceiveWait (Result Given Errno)) (given : List ℕ) (after : Pass) →
+    ReceivesOn may from before came given after → progress.Waits waiting ≡ receive_progress version came → given ≡ []
+waits_empty may version from before waiting (progress.Waits w) given after on is = on.1
+waits_empty may version from before waiting (progress.Over told) given after on is = absurd (cc is)
+
+-- What was received by a receive that has gone on.
+pub goes_short : (may : ℕ → Type 0) (version : Version) (id : ℤ) (size : ℕ) (mtype : ℤ) (flags : Flags)
+    (waiting : Waiting) (text : List ℕ) (before : Pass) (came : Progress Waiting RequestOutcome) (given : List ℕ)
+    (after : Pass) → IsWaitOf (Rcv id size mtype flags) waiting →
+    GoesOn may version waiting text before came given after → MayProgress version (Rcv id size mtype flags) came given →
+    length given ≤ MESSAGE_BYTES
+goes_short may version id size mtype flags waiting text before (progress.Over outcome) given after is goes answers =
+    given_short version (Rcv id size mtype flags) outcome given answers
+goes_short may version id size mtype flags waiting text before (progress.Waits still) given after is (inl stays)
+    answers = rw stays.2 (omega arith)
+goes_short may version id size mtype flags (Receive w) text before (progress.Waits still) given after is (inr went)
+    answers =
+    let none : given ≡ [] = waits_empty may version _ _ still went.3.0 given after went.3.1 went.3.2 in
+    rw none (omega arith)
+goes_short may version id size mtype flags (Send w) text before (progress.Waits still) given after is (inr went)
+    answers = absurd is
+goes_short may version id size mtype flags (Get w) text before (progress.Waits still) given after is (inr went)
+    answers = absurd is
+
+-- The call of any other request looked at its count once.
+pub looks_beside : (may : ℕ → Type 0) (version : Version) (cred : Cred) (ask : Ask) (waiting : Waiting) (text : List ℕ)
+    (before : Holder Pass) (came : Progress Waiting RequestOutcome) (given : List ℕ) (after : Holder Pass) →
+    IsNoHold ask → GoesOnBeside may version waiting text before came given after →
+    AnyGoesOn may version cred ask waiting text before came given after
+looks_beside may version cred (Hold id size mtype flags seconds) waiting text before came given after not looks =
+    absurd (not id size mtype flags seconds refl)
+looks_beside may version cred ask waiting text before came given after not looks = looks
+
+-- A wait of the call of any other request is one of that request.
+pub wait_beside : (ask : Ask) (waiting : Waiting) → IsNoHold ask → IsWaitOf (received ask) waiting →
+    IsWaitOf ask waiting
+wait_beside (Hold id size mtype flags seconds) waiting not is = absurd (not id size mtype flags seconds refl)
+wait_beside ask waiting not is = is
+
+-- ---- what a handler may return
+
+-- What a receive may be refused with, a hold may be refused with.
+refusal_fits : (version : Version) (number : ℕ) (answer : ReplyContent) → number ≡ op_number op.Rcv →
+    is_received answer ≡ false → IsAnswer version number answer → IsAnswer version (op_number op.Hold) answer
+refusal_fits version number (content.Refused why) is none fits = omega arith
+refusal_fits version number content.Hello is none fits = absurd (omega (arith, is, fits.1))
+refusal_fits version number (content.HelloSlots slots) is none fits = absurd (omega (arith, is, fits.1))
+refusal_fits version number (content.Get id) is none fits = absurd (omega (arith, is, fits))
+refusal_fits version number content.Snd is none fits = absurd (omega (arith, is, fits))
+refusal_fits version number (content.Rcv mtype) is none fits = absurd (cc none)
+refusal_fits version number (content.Stat stat) is none fits = absurd (omega (arith, is, fits.0))
+refusal_fits version number content.Set is none fits = absurd (omega (arith, is, fits))
+refusal_fits version number content.Rm is none fits = absurd (omega (arith, is, fits))
+refusal_fits version number (content.Row None) is none fits = absurd (omega (arith, is, fits))
+refusal_fits version number (content.Row (Some row)) is none fits = absurd (omega (arith, is, fits.0))
+refusal_fits version number (content.Hold mtype) is none fits = absurd (omega (arith, is, fits))
+refusal_fits version number content.Done is none fits = absurd (omega (arith, is, fits))
+refusal_fits version number content.Back is none fits = absurd (omega (arith, is, fits))
+
+pub hold_answers : (version : Version) (id : ℤ) (size : ℕ) (mtype : ℤ) (flags : Flags) (seconds : ℕ)
+    (came : Progress Waiting RequestOutcome) (given : List ℕ) →
+    MayProgress version (Rcv id size mtype flags) came given →
+    HoldProgress version (Hold id size mtype flags seconds) (hold_progress version came) given
+hold_answers version id size mtype flags seconds (progress.Waits waiting) given answers = answers
+hold_answers version id size mtype flags seconds (progress.Over (Reply reply)) given answers = (
+  refl,
+  refl,
+  refusal_fits version reply.op reply.result answers.1 answers.3
+      (subst (λ (v : Version). IsAnswer v reply.op reply.result) answers.0 answers.2),
+  answers.3,
+  answers.4,
+)
+hold_answers version id size mtype flags seconds (progress.Over (Got delivery)) given answers =
+    (refl, refl, refl, refl, answers.2)
+hold_answers version id size mtype flags seconds (progress.Over Left) given answers = answers
+
+-- A hold may be refused with any error.
+pub refused_answers : (version : Version) (id : ℤ) (size : ℕ) (mtype : ℤ) (flags : Flags) (seconds : ℕ) (why : Errno)
+    (given : List ℕ) → given ≡ [] →
+    HoldProgress version (Hold id size mtype flags seconds)
+    (progress.Over (the_reply version op.Hold (content.Refused why))) given
+refused_answers version id size mtype flags seconds why given none =
+    (refl, refl, omega arith, refl, rw none (omega arith))
+
+-- What a handler may return for any other request.
+pub answers_beside : (version : Version) (ask : Ask) (came : Progress Waiting RequestOutcome) (given : List ℕ) →
+    IsNoHold ask → MayProgress version ask came given → HoldProgress version ask came given
+answers_beside version ask (progress.Over outcome) given not answers = answers
+answers_beside version (Hold id size mtype flags seconds) (progress.Waits waiting) given not answers =
+    absurd (not id size mtype flags seconds refl)
+answers_beside version ask (progress.Waits waiting) given not answers = answers

@@ -1,0 +1,5 @@
+use Rattle.sysv_seats.proofs.Fated.{each_message}
+use Rattle.sysv_seats.proofs.laws.each_message_is_spent_or_held.Goals as goal
+
+pub returns : goal.returns
+returns c = each_message

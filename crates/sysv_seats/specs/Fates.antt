@@ -1,0 +1,54 @@
+-- What becomes of the messages that holds give (this project's profile). Each is spent by a done, or it is held at the
+-- end of the session, and is then given back.
+use Rattle.std.specs.Prelude.{◌≡◌, ◌+◌, ⊤, ℕ, List, [], ◌∷◌, Option, None, Some}
+use Rattle.sysv_model.specs.declared.cred.Cred.{Cred}
+use Rattle.sysv_session.specs.declared.handler.RequestOutcome.{RequestOutcome}
+use Rattle.sysv_session.specs.declared.handler.RequestOutcome.TheVariants.{Reply, Got, Left}
+use Rattle.sysv_session.specs.Calls.{Call, Leads}
+use Rattle.sysv_service.specs.Ran.{Pass}
+use Rattle.sysv_wire.specs.declared.reply.ReplyContent.{ReplyContent}
+use Rattle.sysv_wire.specs.declared.reply.ReplyContent.TheVariants as content
+use Rattle.sysv_seats.specs.Held.{holds_with}
+use Rattle.sysv_seats.specs.Holding.{Holder, Message}
+use Rattle.sysv_seats.specs.Sits.{zero_moment}
+
+-- 1 for the reply of a hold with a message.
+abbrev pub gives : ReplyContent → ℕ
+gives (content.Hold mtype) = 1
+gives answer = 0
+
+-- 1 for the reply that a message was spent.
+abbrev pub spends : ReplyContent → ℕ
+spends content.Done = 1
+spends answer = 0
+
+abbrev pub given_by : RequestOutcome → ℕ
+given_by (Reply answer) = gives answer.result
+given_by (Got delivery) = 0
+given_by Left = 0
+
+abbrev pub spent_by : RequestOutcome → ℕ
+spent_by (Reply answer) = spends answer.result
+spent_by (Got delivery) = 0
+spent_by Left = 0
+
+-- The number of messages that holds gave in these calls, and of those that were spent.
+abbrev pub given_in : List Call → ℕ
+given_in [] = 0
+given_in (call ∷ calls) = given_by call.outcome + given_in calls
+
+abbrev pub spent_in : List Call → ℕ
+spent_in [] = 0
+spent_in (call ∷ calls) = spent_by call.outcome + spent_in calls
+
+-- 1 if a message is held.
+abbrev pub held_count : Option Message → ℕ
+held_count None = 0
+held_count (Some message) = 1
+
+-- Each message that was held before these calls, or that a hold of them gave, was spent by one of them, or is held
+-- after them. These are the calls of a client: every time is 0, and the client may leave.
+abbrev pub EachMessageIsSpentOrHeld : Type 0
+EachMessageIsSpentOrHeld = (cred : Cred) (old : Holder Pass) (calls : List Call) (new : Holder Pass) →
+    Leads (holds_with zero_moment ⊤) cred old calls new →
+    held_count old.message + given_in calls ≡ spent_in calls + held_count new.message

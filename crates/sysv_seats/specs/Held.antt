@@ -1,0 +1,104 @@
+-- What a handler that may hold a message does to its pass and its message (this project's profile). These
+-- are the definitions of `Holding`, for a pass, and the pieces of a request, as in `Parked`.
+use Rattle.std.specs.Prelude.{◌≡◌, ◌⊎◌, ℕ, ℤ, true, List, [], Option, None}
+use Rattle.sysv_keys.specs.declared.identifier.TheConstants.{SLOTS}
+use Rattle.sysv_model.specs.declared.cred.Cred.{Cred}
+use Rattle.sysv_session.specs.declared.handler.RequestOutcome.{RequestOutcome}
+use Rattle.sysv_session.specs.declared.served.Served.{Served}
+use Rattle.sysv_session.specs.Answers.{MayAnswer}
+use Rattle.sysv_session.specs.Calls.{Meaning}
+use Rattle.sysv_session.specs.Together.{ServesTogether}
+use Rattle.sysv_service.specs.declared.progress.Progress.{Progress}
+use Rattle.sysv_service.specs.declared.progress.Progress.TheVariants as progress
+use Rattle.sysv_service.specs.Ran.{Pass}
+use Rattle.sysv_service.specs.Told.{TellsRow}
+use Rattle.sysv_steps.specs.declared.clock.Clock.{Ghosts as ClockGhosts}
+use Rattle.sysv_wire.specs.declared.frame.Version.{Version}
+use Rattle.sysv_wire.specs.declared.request.Ask.{Ask}
+use Rattle.sysv_wire.specs.declared.request.Ask.TheVariants.{Hold}
+use Rattle.sysv_seats.specs.declared.keeper.Keeper.{Keeper}
+use Rattle.sysv_seats.specs.declared.waiting.Waiting.{Waiting}
+use Rattle.sysv_seats.specs.Asked.{ComesFrom, ReadsReleased}
+use Rattle.sysv_seats.specs.Holding as holding
+use Rattle.sysv_seats.specs.Holding.{Holder, empty_handed, held_by, hold_outcome, may_call, received}
+use Rattle.sysv_seats.specs.Parked.{GoesOn, IsParked, IsWaitOf}
+
+-- The pass of the handler, and the message that its session holds.
+abbrev pub holder_of : {C R : Type 0} {clock : ClockGhosts C} → Keeper C R clock → Holder Pass
+holder_of keeper = record { at = keeper.handler.pass; message = keeper.message }
+
+-- Request by request, for a pass.
+abbrev pub HoldAsks : (ℕ → Type 0) → Type 0 → Version → Cred → Ask → List ℕ → Holder Pass → RequestOutcome → List ℕ →
+    Holder Pass → Type 0
+HoldAsks = holding.HoldAsks ComesFrom ReadsReleased TellsRow
+
+-- What was held is spent.
+abbrev pub Spends : Version → Holder Pass → RequestOutcome → List ℕ → Holder Pass → Type 0
+Spends = holding.Spends ComesFrom ReadsReleased TellsRow
+
+-- What the calls of a session mean that may hold a message.
+abbrev pub holds_with : (ℕ → Type 0) → Type 0 → Meaning (Holder Pass)
+holds_with may may_leave old cred request text outcome given new =
+    HoldAsks may may_leave request.version cred request.ask text old outcome given new
+
+-- What a session that read versions up to the newest one did to its pass, and what it held at its end.
+-- Its replies were gathered, and it held nothing at its start.
+abbrev pub ServesHolding : Version → (ℕ → Type 0) → Type 0 → Served → (old : Pass) → (new : Holder Pass) →
+    (left rest taken more : Option (List ℕ)) → Type 0
+ServesHolding newest may may_leave served old new left rest taken more =
+    ServesTogether newest (holds_with may may_leave) SLOTS served (empty_handed old) new left rest taken more
+
+-- ---- requests in pieces
+
+-- A request was begun, and its call is parked. That of a hold is a receive, and the session may hold its
+-- message. What is held stays.
+abbrev pub HoldParked : (ℕ → Type 0) → Cred → Ask → List ℕ → Holder Pass → Waiting → Holder Pass → Type 0
+HoldParked may cred ask text before waiting after = (may_call ask before.message ≡ true)
+    × IsParked may cred (received ask) text before.at waiting after.at × (after.message ≡ before.message)
+
+-- A request was begun. It is over, as a request of a caller that does not leave, or it is parked and has
+-- no body.
+abbrev pub HoldBegun : (ℕ → Type 0) → Version → Cred → Ask → List ℕ → Holder Pass →
+    Progress Waiting RequestOutcome → List ℕ → Holder Pass → Type 0
+HoldBegun may version cred ask text before (progress.Waits waiting) given after =
+    HoldParked may cred ask text before waiting after × (given ≡ [])
+HoldBegun may version cred ask text before (progress.Over outcome) given after =
+    HoldAsks may ⊥ version cred ask text before outcome given after
+
+-- If the request is over, a handler may return its outcome. If it waits, the wait is one of its call.
+abbrev pub HoldProgress : Version → Ask → Progress Waiting RequestOutcome → List ℕ → Type 0
+HoldProgress version ask (progress.Waits waiting) given = IsWaitOf (received ask) waiting
+HoldProgress version ask (progress.Over outcome) given = MayAnswer version ask outcome given
+
+-- How far a hold has come, by how far its receive has come.
+abbrev pub hold_progress : Version → Progress Waiting RequestOutcome → Progress Waiting RequestOutcome
+hold_progress version (progress.Waits waiting) = progress.Waits waiting
+hold_progress version (progress.Over outcome) = progress.Over (hold_outcome version outcome)
+
+-- What is held once the receive of a hold has come so far. While it waits, nothing is held.
+abbrev pub held_at : Cred → ℤ → Progress Waiting RequestOutcome → List ℕ → Option holding.Message
+held_at cred id (progress.Waits waiting) given = None
+held_at cred id (progress.Over outcome) given = held_by cred id outcome given
+
+-- A parked hold was left at its wait, since memory for its message was refused or a message is held; or its receive
+-- looked at its count once, and what it took is held.
+abbrev pub HoldGoesOn : (ℕ → Type 0) → Version → Cred → ℤ → Waiting → List ℕ → Holder Pass →
+    Progress Waiting RequestOutcome → List ℕ → Holder Pass → Type 0
+HoldGoesOn may version cred id waiting text before result given after =
+    ((result ≡ progress.Waits waiting) × (after ≡ before) × (given ≡ []))
+    ⊎ ((came : Progress Waiting RequestOutcome) × GoesOn may version waiting text before.at came given after.at
+    × (result ≡ hold_progress version came) × (after.message ≡ held_at cred id came given))
+
+-- The parked call of any other request looked at its count once. What is held stays.
+abbrev pub GoesOnBeside : (ℕ → Type 0) → Version → Waiting → List ℕ → Holder Pass → Progress Waiting RequestOutcome →
+    List ℕ → Holder Pass → Type 0
+GoesOnBeside may version waiting text before result given after =
+    GoesOn may version waiting text before.at result given after.at × (after.message ≡ before.message)
+
+-- The parked call of a request looked at its count once, or is a hold without memory.
+abbrev pub AnyGoesOn : (ℕ → Type 0) → Version → Cred → Ask → Waiting → List ℕ → Holder Pass →
+    Progress Waiting RequestOutcome → List ℕ → Holder Pass → Type 0
+AnyGoesOn may version cred (Hold id size mtype flags seconds) waiting text before result given after =
+    HoldGoesOn may version cred id waiting text before result given after
+AnyGoesOn may version cred ask waiting text before result given after =
+    GoesOnBeside may version waiting text before result given after

@@ -1,0 +1,148 @@
+-- Messages that sessions hold (this project's profile). A hold is a receive whose message the session
+-- remembers, and a done spends it. A session holds one message at most. If the session ends before the
+-- message is spent, a `msgsnd` gives it back: of the same body, with the same type, to the same queue,
+-- without flags and with the session's credentials.
+use Rattle.std.specs.Prelude.{◌≡◌, ◌⊎◌, ◌&&◌, ◌==◌, ⊤, ℕ, ℤ, Bool, true, not, List, [], Option, None, Some, Result}
+use Rattle.std.specs.Prelude.{cond, is_some}
+use Rattle.sysv_model.specs.declared.attributes.Row.{Row as Line}
+use Rattle.sysv_model.specs.declared.cred.Cred.{Cred}
+use Rattle.sysv_model.specs.declared.errno.Errno.{Errno}
+use Rattle.sysv_model.specs.declared.errno.Errno.TheVariants.{EAGAIN, EINVAL}
+use Rattle.sysv_model.specs.declared.flags.Flags.{Flags}
+use Rattle.sysv_model.specs.declared.flags.TheConstants.Flags.{MSG_NOERROR}
+use Rattle.sysv_model.specs.HasFlag.{has_flag}
+use Rattle.sysv_session.specs.declared.handler.RequestOutcome.{RequestOutcome}
+use Rattle.sysv_session.specs.declared.handler.RequestOutcome.TheVariants.{Reply, Got, Left}
+use Rattle.sysv_wire.specs.declared.frame.Op.TheVariants as op
+use Rattle.sysv_wire.specs.declared.frame.Version.{Version}
+use Rattle.sysv_wire.specs.declared.frame.Version.TheVariants.{Three}
+use Rattle.sysv_wire.specs.declared.reply.ReplyContent.TheVariants as content
+use Rattle.sysv_wire.specs.declared.request.Ask.{Ask}
+use Rattle.sysv_wire.specs.declared.request.Ask.TheVariants.{Rcv, Hold, Done, Back}
+use Rattle.sysv_seats.specs.Replies.{reply}
+use Rattle.sysv_seats.specs.Requests.{Going, Asks, Receives, Sends}
+
+-- A message that a session holds, and how it is given back: by a send with these credentials to this
+-- queue.
+pub record Message : Type 0 where
+  pub cred : Cred
+  pub id : ℤ
+  pub mtype : ℤ
+  pub text : List ℕ
+
+-- What makes the calls of a session, and the message that the session holds.
+pub record Holder (K : Type 0) : Type 0 where
+  pub at : K
+  pub message : Option Message
+
+-- Nothing is held.
+abbrev pub empty_handed : {K : Type 0} → K → Holder K
+empty_handed at = record { at = at; message = None }
+
+-- A session may hold one more message: it holds none, its message has to be whole, so that it can come
+-- back, and there is no limit of time.
+abbrev pub can_hold : Flags → (seconds : ℕ) → Option Message → Bool
+can_hold flags seconds message = (seconds == 0) && (not (has_flag MSG_NOERROR flags) && not (is_some message))
+
+-- Why a hold is refused that makes no call. If the session may hold a message, there is no memory for it.
+abbrev pub why_refused : Flags → (seconds : ℕ) → Option Message → Errno
+why_refused flags seconds message = cond (can_hold flags seconds message) EAGAIN EINVAL
+
+-- The outcome of a hold, by that of its receive. Its reply has the message, which the session holds, so
+-- that it is neither written nor lost.
+abbrev pub hold_outcome : Version → RequestOutcome → RequestOutcome
+hold_outcome version (Reply answer) = reply version op.Hold answer.result
+hold_outcome version (Got delivery) = reply version op.Hold (content.Hold delivery.mtype)
+hold_outcome version Left = Left
+
+-- The message that is held after a receive from this queue with this outcome.
+abbrev pub held_by : Cred → ℤ → RequestOutcome → List ℕ → Option Message
+held_by cred id (Reply answer) given = None
+held_by cred id (Got delivery) given = Some (record { cred = cred; id = id; mtype = delivery.mtype; text = given })
+held_by cred id Left given = None
+
+-- The reply to a done: 0 if a message was held.
+abbrev pub done_outcome : Version → Option Message → RequestOutcome
+done_outcome version None = reply version op.Done (content.Refused EINVAL)
+done_outcome version (Some message) = reply version op.Done content.Done
+
+-- The receive that a hold makes, and any other request itself.
+abbrev pub received : Ask → Ask
+received (Hold id size mtype flags seconds) = Rcv id size mtype flags
+received ask = ask
+
+-- The request may make its call if this is held.
+abbrev pub may_call : Ask → Option Message → Bool
+may_call (Hold id size mtype flags seconds) message = can_hold flags seconds message
+may_call ask message = true
+
+-- The flags of the send that gives a message back.
+abbrev pub no_flags : Flags
+no_flags = record { 0 = 0 }
+
+-- The definitions hold for any meaning of a call, of reading the released count, and of requesting
+-- the row of a slot.
+module _ {K : Type 0} (Comes : Going K) (ReadsReleased : ℕ → K → K → Type 0)
+    (TellsRow : ℕ → K → Result (Option Line) Errno → K → Type 0) where
+  -- A hold was refused, and no call was made.
+  abbrev pub HoldIsRefused : Version → Flags → (seconds : ℕ) → Holder K → RequestOutcome → List ℕ → Holder K → Type 0
+  HoldIsRefused version flags seconds before outcome given after = (after ≡ before) × (given ≡ [])
+      × (outcome ≡ reply version op.Hold (content.Refused (why_refused flags seconds before.message)))
+
+  -- A receive of the same fields ended or was left. The session holds its message, if it took one.
+  abbrev pub HoldReceives : (ℕ → Type 0) → Type 0 → Version → Cred → ℤ → ℕ → ℤ → Flags → (seconds : ℕ) → Holder K →
+      RequestOutcome → List ℕ → Holder K → Type 0
+  HoldReceives may may_leave version cred id size mtype flags seconds before outcome given after =
+      (can_hold flags seconds before.message ≡ true) × (came : RequestOutcome)
+      × Receives Comes ReadsReleased TellsRow may may_leave version cred id size mtype flags before.at came given
+      after.at
+      × (outcome ≡ hold_outcome version came) × (after.message ≡ held_by cred id came given)
+
+  -- A hold was refused, or its receive ended or was left.
+  abbrev pub Holds : (ℕ → Type 0) → Type 0 → Version → Cred → ℤ → ℕ → ℤ → Flags → (seconds : ℕ) → Holder K →
+      RequestOutcome → List ℕ → Holder K → Type 0
+  Holds may may_leave version cred id size mtype flags seconds before outcome given after =
+      HoldIsRefused version flags seconds before outcome given after
+      ⊎ HoldReceives may may_leave version cred id size mtype flags seconds before outcome given after
+
+  -- What was held is spent. No call was made. If nothing was held, the reply is EINVAL.
+  abbrev pub Spends : Version → Holder K → RequestOutcome → List ℕ → Holder K → Type 0
+  Spends version before outcome given after =
+      (after ≡ empty_handed before.at) × (outcome ≡ done_outcome version before.message) × (given ≡ [])
+
+  -- A back is refused: to give a message back, a client ends its session. No call was made.
+  abbrev pub BackIsRefused : Version → Holder K → RequestOutcome → List ℕ → Holder K → Type 0
+  BackIsRefused version before outcome given after =
+      (after ≡ before) × (outcome ≡ reply version op.Back (content.Refused EINVAL)) × (given ≡ [])
+
+  -- Any other request is one of what makes the calls. What is held stays.
+  abbrev pub AsksBeside : (ℕ → Type 0) → Type 0 → Version → Cred → Ask → List ℕ → Holder K → RequestOutcome → List ℕ →
+      Holder K → Type 0
+  AsksBeside may may_leave version cred ask text before outcome given after =
+      Asks Comes ReadsReleased TellsRow may may_leave version cred ask text before.at outcome given after.at
+      × (after.message ≡ before.message)
+
+  -- Request by request, as `Requests.Asks`, for a session that may hold a message.
+  abbrev pub HoldAsks : (ℕ → Type 0) → Type 0 → Version → Cred → Ask → List ℕ → Holder K → RequestOutcome → List ℕ →
+      Holder K → Type 0
+  HoldAsks may may_leave version cred (Hold id size mtype flags seconds) text before outcome given after =
+      Holds may may_leave version cred id size mtype flags seconds before outcome given after
+  HoldAsks may may_leave version cred Done text before outcome given after = Spends version before outcome given after
+  HoldAsks may may_leave version cred Back text before outcome given after =
+      BackIsRefused version before outcome given after
+  HoldAsks may may_leave version cred ask text before outcome given after =
+      AsksBeside may may_leave version cred ask text before outcome given after
+
+  -- ---- the end of a session
+
+  -- The message was sent again, and that send ended with this outcome, or was left at a wait.
+  abbrev pub IsReturn : (ℕ → Type 0) → Message → K → RequestOutcome → K → Type 0
+  IsReturn may message before outcome after =
+      Sends Comes ReadsReleased TellsRow may ⊤ Three message.cred message.id message.mtype no_flags message.text before
+      outcome after
+
+  -- What follows a session: nothing if it held nothing at its end, or the return of what it held.
+  abbrev pub GivesBack : (ℕ → Type 0) → Holder K → Option RequestOutcome → K → Type 0
+  GivesBack may before None after = (before.message ≡ None) × (after ≡ before.at)
+  GivesBack may before (Some outcome) after =
+      (message : Message) × (before.message ≡ Some message) × IsReturn may message before.at outcome after

@@ -1,0 +1,307 @@
+//! The handler of sessions that may hold a message.
+ghost use Rattle.std.specs.Prelude.{◌≡◌, ◌≢◌, ◌≤◌, ℕ, List, [], None, IfSome, is_some, length, vec_capacity};
+ghost use Rattle.sysv_model.specs.declared.limits.TheConstants.{MESSAGE_BYTES};
+ghost use Rattle.sysv_service.specs.Ran.{Pass as Seen};
+ghost use Rattle.sysv_service.specs.Seats.{AreOf};
+ghost use Rattle.sysv_wire.specs.Requests.{op_of};
+ghost use Rattle.sysv_session.specs.Answers.{MayAnswer};
+ghost use Rattle.sysv_seats.specs.HandlesKept.{KeepsHandles};
+ghost use Rattle.sysv_seats.specs.Holding.{Holder, can_hold as may_hold, received as the_received};
+ghost use Rattle.sysv_seats.specs.Held.{AnyGoesOn, HoldBegun, HoldParked, HoldProgress, Spends, held_at, hold_progress, holder_of};
+ghost use Rattle.sysv_seats.specs.Parked.{IsWaitOf, MayProgress};
+ghost use Rattle.sysv_seats.specs.Replies.{reply as the_reply};
+
+use crate::handler::{ServiceHandler, reply};
+use crate::holding::HeldMessage;
+use crate::waiting::Waiting;
+use bitflags::Flags as _;
+use std::alloc::Global;
+use std::sync::Wait;
+use sysv_model::{Body, Cred, Errno, Flags, MESSAGE_BYTES};
+use sysv_queue::{Delivery, Tally};
+use sysv_service::{Clock, Pass, Progress};
+use sysv_session::RequestOutcome;
+use sysv_wire::{Ask, Op, ReplyContent, Request, Version};
+
+/// The handler of one session after another over a service, of which each may hold a message.
+///
+/// It makes the calls of a session as its `ServiceHandler` does, in pieces. A hold is a receive
+/// whose message the keeper keeps, and a done spends it. A session that ends with a message is
+/// followed by its return.
+pub struct Keeper<'a, C: Clock, R: Wait> {
+    pub(crate) handler: ServiceHandler<'a, C, R>,
+    /// The message that the session holds.
+    pub(crate) message: Option<HeldMessage>,
+    /// Memory for messages, if the session may hold one more.
+    pub(crate) memory: Option<Global>,
+}
+
+impl<'a, C: Clock, R: Wait> Keeper<'a, C, R> {
+    /// Creates a keeper of no message, whose sessions may hold none.
+    pub fn new(handler: ServiceHandler<'a, C, R>) -> Keeper<'a, C, R>
+        ensures handler { result.handler ≡ handler.entry }
+        ensures none { result.message ≡ None }
+    {
+        Keeper {
+            handler,
+            message: None,
+            memory: None,
+        }
+    }
+
+    /// Ends the keeper and returns its pass. A message that it holds is discarded.
+    pub fn into_pass(self) -> Pass
+        ensures pass { result ≡ self.entry.handler.pass }
+        ensures fits { AreOf self.entry.handler.service.now result.seats }
+    {
+        let Keeper {
+            handler,
+            message: _,
+            memory: _,
+        } = self;
+        handler.into_pass()
+    }
+
+    /// Returns whether a message is held.
+    pub fn has_message(&self) -> bool
+        ensures { result ≡ is_some self.now.message }
+    {
+        self.message.is_some()
+    }
+
+    /// Returns the number of blocks in use, as `ServiceHandler::blocks_in_use` does.
+    pub fn blocks_in_use(&self) -> u64 {
+        self.handler.blocks_in_use()
+    }
+
+    /// Has the session hold messages in this memory from now on, or no further message.
+    pub fn set_memory(&mut self, memory: Option<Global>)
+        ensures { (self.new.handler ≡ self.old.handler) × (self.new.message ≡ self.old.message) }
+    {
+        self.memory = memory;
+    }
+
+    /// Begins a request, as `ServiceHandler::begin` does. A hold makes the steps of its receive.
+    ///
+    /// If memory for a message is refused, a hold is refused with `EAGAIN`, and nothing is taken.
+    ///
+    /// # Conditions
+    ///
+    /// - `request` is not a hello.
+    /// - `given` is empty.
+    #[inline(always)]
+    pub fn begin(
+        &mut self,
+        cred: Cred,
+        request: &Request,
+        text: &Body,
+        given: &mut Body,
+    ) -> Progress<Waiting, RequestOutcome>
+        requires asked { op_of request.now.ask ≢ Op.Hello }
+        requires empty { given.old ≡ [] }
+        ensures begun { HoldBegun (C.may self.old.handler.clock.now) request.now.version cred
+            request.now.ask text.now (holder_of self.old) result given.new (holder_of self.new) }
+        ensures answer { HoldProgress request.now.version request.now.ask result given.new }
+        ensures handles { KeepsHandles self.old.handler self.new.handler }
+    {
+        match request.ask {
+            Ask::Hold {
+                id,
+                size,
+                mtype,
+                flags,
+                seconds,
+            } => self.begin_hold(
+                request.version,
+                cred,
+                id,
+                size,
+                mtype,
+                flags,
+                seconds,
+                given,
+            ),
+            Ask::Done => Progress::Over(self.spend(request.version)),
+            Ask::Back => Progress::Over(refusal(request.version, Op::Back, Errno::EINVAL)),
+            _beside => self.handler.begin(cred, request, text, given),
+        }
+    }
+
+    /// Begins a hold: refuses it, or begins its receive.
+    fn begin_hold(
+        &mut self,
+        version: Version,
+        cred: Cred,
+        id: i32,
+        size: u32,
+        mtype: i64,
+        flags: Flags,
+        seconds: u32,
+        given: &mut Body,
+    ) -> Progress<Waiting, RequestOutcome>
+        requires empty { given.old ≡ [] }
+        ensures begun { (text : List ℕ) → HoldBegun (C.may self.old.handler.clock.now) version cred
+            (Ask.Hold id size mtype flags seconds) text (holder_of self.old) result given.new
+            (holder_of self.new) }
+        ensures answer { HoldProgress version (Ask.Hold id size mtype flags seconds) result
+            given.new }
+        ensures handles { KeepsHandles self.old.handler self.new.handler }
+        // Without memory nothing is taken.
+        ensures none { self.old.memory ≡ None → holder_of self.new ≡ holder_of self.old }
+    {
+        if !self.can_hold(flags, seconds) {
+            return Progress::Over(refusal(version, Op::Hold, Errno::EINVAL));
+        }
+        let Some(memory) = self.room() else {
+            return Progress::Over(refusal(version, Op::Hold, Errno::EAGAIN));
+        };
+        let came = self
+            .handler
+            .begin_receive(version, cred, id, size, mtype, flags, given);
+        self.keep(version, cred, id, came, given, memory)
+    }
+
+    /// Continues a request that waits, as `ServiceHandler::go_on` does. If memory for a message is
+    /// refused or a message is held, a hold is left at its wait, and the count is not read.
+    ///
+    /// # Conditions
+    ///
+    /// - Those of `ServiceHandler::go_on`. `cred` is the credentials with which the request was
+    ///   begun.
+    pub fn go_on(
+        &mut self,
+        cred: Cred,
+        request: &Request,
+        text: &Body,
+        given: &mut Body,
+        waiting: Waiting,
+    ) -> Progress<Waiting, RequestOutcome>
+        requires kind { IsWaitOf (the_received request.now.ask) waiting }
+        requires short { length text.now ≤ MESSAGE_BYTES }
+        requires empty { given.old ≡ [] }
+        ensures begun { (start : Holder Seen) →
+            HoldParked (C.may self.old.handler.clock.now) cred request.now.ask text.now start
+            waiting (holder_of self.old) →
+            HoldBegun (C.may self.old.handler.clock.now) request.now.version cred request.now.ask
+            text.now start result given.new (holder_of self.new) }
+        ensures looks { AnyGoesOn (C.may self.old.handler.clock.now) request.now.version cred
+            request.now.ask waiting text.now (holder_of self.old) result given.new
+            (holder_of self.new) }
+        ensures answer { HoldProgress request.now.version request.now.ask result given.new }
+        ensures handles { KeepsHandles self.old.handler self.new.handler }
+    {
+        let Ask::Hold { id, .. } = request.ask else {
+            return self.handler.go_on(request, text, given, waiting);
+        };
+        let Some(memory) = self.room() else {
+            return Progress::Waits(waiting);
+        };
+        let came = self.handler.go_on(&received(request), text, given, waiting);
+        self.keep(request.version, cred, id, came, given, memory)
+    }
+
+    /// Keeps the message of a receive that has come so far, if it took one, in `memory`. Returns
+    /// how far its hold has come.
+    fn keep(
+        &mut self,
+        version: Version,
+        cred: Cred,
+        id: i32,
+        came: Progress<Waiting, RequestOutcome>,
+        given: &Body,
+        memory: Vec<u8>,
+    ) -> Progress<Waiting, RequestOutcome>
+        requires empty { memory.items ≡ [] }
+        requires room { MESSAGE_BYTES ≤ vec_capacity memory }
+        requires short { length given.now ≤ MESSAGE_BYTES }
+        requires none { self.old.message ≡ None }
+        ensures progress { result ≡ hold_progress version came }
+        ensures message { self.new.message ≡ held_at cred id came given.now }
+        ensures handler { self.new.handler ≡ self.old.handler }
+    {
+        match came {
+            Progress::Waits(waiting) => Progress::Waits(waiting),
+            Progress::Over(RequestOutcome::Got(delivery)) => {
+                let mtype = delivery.mtype();
+                spend(delivery);
+                self.message = Some(HeldMessage::new(cred, id, mtype, given, memory));
+                Progress::Over(reply(version, Op::Hold, ReplyContent::Hold { mtype }))
+            }
+            Progress::Over(RequestOutcome::Reply(told)) => {
+                Progress::Over(reply(version, Op::Hold, told.result))
+            }
+            Progress::Over(RequestOutcome::Left) => Progress::Over(RequestOutcome::Left),
+        }
+    }
+
+    /// Spends the message that is held, and returns the reply.
+    fn spend(&mut self, version: Version) -> RequestOutcome
+        ensures spends { Spends version (holder_of self.old) result [] (holder_of self.new) }
+        ensures answer { MayAnswer version Ask.Done result [] }
+        ensures handler { self.new.handler ≡ self.old.handler }
+    {
+        match self.message.take() {
+            Some(_spent) => reply(version, Op::Done, ReplyContent::Done),
+            None => refusal(version, Op::Done, Errno::EINVAL),
+        }
+    }
+
+    /// Returns whether the session may hold a message that it receives with these flags.
+    fn can_hold(&self, flags: Flags, seconds: u32) -> bool
+        ensures { result ≡ may_hold flags seconds self.now.message }
+    {
+        seconds == 0 && !flags.contains(Flags::MSG_NOERROR) && self.message.is_none()
+    }
+
+    /// Returns memory for a message, or `None` if one is held or memory is refused.
+    fn room(&self) -> Option<Vec<u8>>
+        ensures room { IfSome result (λ memory. (memory.items ≡ [])
+            × (MESSAGE_BYTES ≤ vec_capacity memory)) }
+        ensures free { IfSome result (λ _. self.now.message ≡ None) }
+        ensures none { self.now.memory ≡ None → result ≡ None }
+    {
+        if self.message.is_some() {
+            return None;
+        }
+        Vec::with_capacity(self.memory?, MESSAGE_BYTES).ok()
+    }
+}
+
+/// Returns the receive that a hold makes, or another request itself.
+fn received(request: &Request) -> Request
+    ensures ask { result.ask ≡ the_received request.now.ask }
+    ensures version { result.version ≡ request.now.version }
+{
+    let ask = match request.ask {
+        Ask::Hold {
+            id,
+            size,
+            mtype,
+            flags,
+            seconds: _,
+        } => Ask::Rcv {
+            id,
+            size,
+            mtype,
+            flags,
+        },
+        ask => ask,
+    };
+    Request {
+        version: request.version,
+        ask,
+    }
+}
+
+/// Uses up the receipt of a message that is held: it is neither written nor lost yet.
+fn spend(delivery: Delivery) {
+    let mut tally = Tally::open();
+    delivery.written(&mut tally);
+}
+
+/// Returns the reply that refuses an operation with this error.
+fn refusal(version: Version, op: Op, why: Errno) -> RequestOutcome
+    ensures { result ≡ the_reply version op (ReplyContent.Refused why) }
+{
+    reply(version, op, ReplyContent::Refused(why))
+}

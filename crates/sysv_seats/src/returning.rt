@@ -1,0 +1,142 @@
+//! Messages that are given back, and what became of them.
+ghost use Rattle.std.specs.Prelude.{◌≡◌, false, true};
+ghost use Rattle.sysv_session.specs.Answers.{is_message};
+ghost use Rattle.sysv_seats.specs.GivingBack.{GoesBack, GoesBackOn, IsOfSend, fate_of, held_after, held_length, return_by, waits_to_send};
+ghost use Rattle.sysv_seats.specs.HandlesKept.{KeepsHandles};
+ghost use Rattle.sysv_seats.specs.Held.{holder_of};
+
+use crate::keeper::Keeper;
+use crate::notification::Told;
+use crate::tools::Tools;
+use crate::waiting::Waiting;
+use crate::zero::Zero;
+use std::sync::Wait;
+use sysv_model::Errno;
+use sysv_service::{Progress, SendWait};
+use sysv_session::RequestOutcome;
+use sysv_wire::{ReplyContent, Request};
+
+/// What became of a message that was sent again.
+#[derive(Clone, Copy, PartialEq, Eq, Debug)]
+pub enum Fate {
+    /// Its queue accepted it.
+    Sent,
+    /// Its queue was removed.
+    Discarded,
+    /// It was refused for another reason, as a permission that was taken away.
+    Refused,
+}
+
+/// How far the return of a message has come.
+#[derive(Clone, Copy)]
+pub enum Return {
+    /// No message is held.
+    Nothing,
+    /// The send waits.
+    Waits(SendWait),
+    /// The send is over.
+    Over(Fate),
+}
+
+impl<'a, R: Wait> Keeper<'a, Zero, R> {
+    /// Begins to give back the message that is held, if there is one: sends it again, without flags
+    /// and with the credentials of its session. Once that send is over, nothing is held.
+    pub fn give_back(&mut self, tools: &mut Tools) -> Return
+        ensures goes { GoesBack (holder_of self.old) result (holder_of self.new) }
+        ensures handles { KeepsHandles self.old.handler self.new.handler }
+    {
+        let Some(message) = &self.message else {
+            return Return::Nothing;
+        };
+        let (cred, request) = (message.cred(), message.send());
+        message.recall(&mut tools.text);
+        tools.given.clear();
+        let progress = self
+            .handler
+            .begin(cred, &request, &tools.text, &mut tools.given);
+        self.settle_return(&request, progress, tools)
+    }
+
+    /// Looks whether the send that gives back the message may go on, and continues it if so.
+    ///
+    /// The contract says what becomes of the message if `wait` is that of the send that gives it
+    /// back.
+    pub fn give_back_on(&mut self, wait: SendWait, tools: &mut Tools) -> Return
+        ensures goes { GoesBackOn (holder_of self.old) wait result (holder_of self.new) }
+        ensures handles { KeepsHandles self.old.handler self.new.handler }
+    {
+        let Some(message) = &self.message else {
+            return Return::Nothing;
+        };
+        let request = message.send();
+        message.recall(&mut tools.text);
+        tools.given.clear();
+        let waiting = Waiting::Send(wait);
+        let progress = self
+            .handler
+            .go_on(&request, &tools.text, &mut tools.given, waiting);
+        self.settle_return(&request, progress, tools)
+    }
+
+    /// Returns the number of bytes in the frame of a send of the message that is held, or 0.
+    pub fn return_length(&self) -> usize
+        ensures { result ≡ held_length self.now.message }
+    {
+        match &self.message {
+            Some(message) => message.length(),
+            None => 0,
+        }
+    }
+
+    /// Takes note that the send of this request, which gives back the message, has come so far.
+    fn settle_return(
+        &mut self,
+        request: &Request,
+        progress: Progress<Waiting, RequestOutcome>,
+        tools: &mut Tools,
+    ) -> Return
+        requires { IsOfSend progress }
+        ensures came { result ≡ return_by progress }
+        ensures message { self.new.message ≡ held_after self.old.message progress }
+        ensures handler { self.new.handler ≡ self.old.handler }
+    {
+        match progress {
+            Progress::Over(outcome) => {
+                tools.tell(Told::by_end(request, &outcome));
+                self.message = None;
+                Return::Over(fate_after(outcome))
+            }
+            Progress::Waits(waiting) => {
+                tools.tell(Told::by_wait(&waiting));
+                Return::Waits(send_wait(waiting))
+            }
+        }
+    }
+}
+
+/// Returns the wait, which is one of a send.
+fn send_wait(waiting: Waiting) -> SendWait
+    requires { waits_to_send waiting ≡ true }
+    ensures { waiting ≡ Waiting.Send result }
+{
+    match waiting {
+        Waiting::Send(wait) => wait,
+        Waiting::Receive(_) | Waiting::Get(_) => unreachable!(),
+    }
+}
+
+/// Returns what became of a message whose send has this outcome, which is no message.
+fn fate_after(outcome: RequestOutcome) -> Fate
+    requires { is_message outcome ≡ false }
+    ensures { result ≡ fate_of outcome }
+{
+    match outcome {
+        RequestOutcome::Got(_delivery) => unreachable!(),
+        RequestOutcome::Left => Fate::Refused,
+        RequestOutcome::Reply(reply) => match reply.result {
+            ReplyContent::Refused(Errno::EINVAL | Errno::EIDRM) => Fate::Discarded,
+            ReplyContent::Refused(_) => Fate::Refused,
+            _ => Fate::Sent,
+        },
+    }
+}
