@@ -16,7 +16,7 @@ import os
 import random
 import warnings
 from contextlib import contextmanager
-from typing import Dict, Iterator, Optional, Tuple, Type, Union, cast
+from typing import Dict, Iterator, Optional, Tuple, Union, cast
 
 from ._connection import Connection, connect
 from ._errors import Denied, Exists, Invalid, NoMessage, NoQueue, NoRoom, NotPermitted, Removed
@@ -48,13 +48,23 @@ class BusyError(Error):
     """The call would wait."""
 
 
+class NotAttachedError(Error):
+    """Nothing raises this error, which is for shared memory."""
+
+
+class _InvalidError(ExistentialError, OSError):
+    """EINVAL, for which some calls of `sysv_ipc` raise the one and some the other."""
+
+
 @contextmanager
 def _translated() -> Iterator[None]:
     """Raises the errors of `sysv_ipc` in place of those of `sysvmsg`."""
     try:
         yield
-    except (NoQueue, Exists, Invalid, Removed) as error:
+    except (NoQueue, Exists, Removed) as error:
         raise ExistentialError(str(error)) from error
+    except Invalid as error:
+        raise _InvalidError(error.errno, str(error)) from error
     except (Denied, NotPermitted) as error:
         raise PermissionsError(str(error)) from error
     except (NoRoom, NoMessage) as error:
@@ -94,22 +104,18 @@ def remove_message_queue(id: int) -> None:
         _server().rm(id)
 
 
-class _Attribute:
+def _attribute(name: str, is_writable: bool = False) -> property:
     """An attribute of a queue, as the server has it now."""
 
-    def __init__(self, name: str, is_writable: bool = False) -> None:
-        self._name = name
-        self._is_writable = is_writable
-
-    def __get__(self, queue: MessageQueue, kind: Optional[Type[MessageQueue]] = None) -> int:
+    def get(queue: MessageQueue) -> int:
         with _translated():
-            return cast(int, getattr(_server().stat(queue.id), self._name))
+            return cast(int, getattr(_server().stat(queue.id), name))
 
-    def __set__(self, queue: MessageQueue, value: int) -> None:
-        if not self._is_writable:
-            raise AttributeError("the attribute cannot be set")
+    def put(queue: MessageQueue, value: int) -> None:
         with _translated():
-            _server().set(queue.id, **{self._name: value})
+            _server().set(queue.id, **{name: value})
+
+    return property(get, put if is_writable else None)
 
 
 class MessageQueue:
@@ -163,6 +169,12 @@ class MessageQueue:
         """Removes the queue."""
         remove_message_queue(self._id)
 
+    def __repr__(self) -> str:
+        return "sysv_ipc.MessageQueue(%d)" % self._key
+
+    def __str__(self) -> str:
+        return "Key=%d, id=%d" % (self._key, self._id)
+
     @property
     def key(self) -> int:
         return self._key
@@ -171,15 +183,15 @@ class MessageQueue:
     def id(self) -> int:
         return self._id
 
-    uid = _Attribute("uid", is_writable=True)
-    gid = _Attribute("gid", is_writable=True)
-    mode = _Attribute("mode", is_writable=True)
-    max_size = _Attribute("qbytes", is_writable=True)
-    cuid = _Attribute("cuid")
-    cgid = _Attribute("cgid")
-    current_messages = _Attribute("qnum")
-    last_send_pid = _Attribute("lspid")
-    last_receive_pid = _Attribute("lrpid")
-    last_send_time = _Attribute("stime")
-    last_receive_time = _Attribute("rtime")
-    last_change_time = _Attribute("ctime")
+    uid = _attribute("uid", is_writable=True)
+    gid = _attribute("gid", is_writable=True)
+    mode = _attribute("mode", is_writable=True)
+    max_size = _attribute("qbytes", is_writable=True)
+    cuid = _attribute("cuid")
+    cgid = _attribute("cgid")
+    current_messages = _attribute("qnum")
+    last_send_pid = _attribute("lspid")
+    last_receive_pid = _attribute("lrpid")
+    last_send_time = _attribute("stime")
+    last_receive_time = _attribute("rtime")
+    last_change_time = _attribute("ctime")
