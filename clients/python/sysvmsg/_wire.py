@@ -221,7 +221,7 @@ def hold_request(queue: int, type: int, size: int, flags: int, all_but: bool) ->
 def set_request(queue: int, uid: Optional[int], gid: Optional[int], mode: Optional[int], qbytes: Optional[int],
                 stat: Optional[Stat]) -> Optional[Request[None]]:
     """A request to set the attributes that are given, and the others as they are. None if those are not known."""
-    values = (uid, gid, mode, qbytes)
+    values: Tuple[Optional[int], ...] = (uid, gid, mode, qbytes)
     if stat is not None:
         before = (stat.uid, stat.gid, stat.mode, stat.qbytes)
         values = tuple(old if new is None else new for new, old in zip(values, before))

@@ -2,10 +2,6 @@
 
     import sysvmsg.sysv_ipc as sysv_ipc
 
-    queue = sysv_ipc.MessageQueue(7, sysv_ipc.IPC_CREAT)
-    queue.send(b"hello", type=5)
-    body, type = queue.receive()
-
 It has no semaphores and no shared memory. The times of a queue are 0. Threads may share a queue, and a child of fork
 may use its parent's.
 """
@@ -25,7 +21,7 @@ IPC_CREAT, IPC_EXCL = 0o1000, 0o2000
 IPC_CREX = IPC_CREAT | IPC_EXCL
 IPC_PRIVATE = 0
 KEY_MIN, KEY_MAX = -(2**31), 2**31 - 1
-QUEUE_MESSAGE_SIZE_MAX_DEFAULT = 2048
+QUEUE_MESSAGE_SIZE_MAX_DEFAULT, QBYTES_MAX = 2048, 65536
 
 
 class Error(Exception):
@@ -112,6 +108,10 @@ def _attribute(name: str, is_writable: bool = False) -> property:
             return cast(int, getattr(_server().stat(queue.id), name))
 
     def put(queue: MessageQueue, value: int) -> None:
+        if not isinstance(value, int):
+            raise TypeError("the attribute must be an integer")
+        if name == "qbytes" and value > QBYTES_MAX:
+            raise PermissionsError("max_size can be at most %d" % QBYTES_MAX)
         with _translated():
             _server().set(queue.id, **{name: value})
 
@@ -121,10 +121,14 @@ def _attribute(name: str, is_writable: bool = False) -> property:
 class MessageQueue:
     """A queue. Without IPC_CREAT among the flags it must exist, and with IPC_CREX it must not."""
 
+    __slots__ = ("_key", "_id", "_size")
+
     def __init__(self, key: Optional[int], flags: int = 0, mode: int = 0o600,
                  max_message_size: int = QUEUE_MESSAGE_SIZE_MAX_DEFAULT) -> None:
-        if key is None and flags & IPC_CREX != IPC_CREX:
-            raise ValueError("the key can be None only with IPC_CREX")
+        if not isinstance(key, (int, type(None))):
+            raise TypeError("the key must be an integer or None")
+        if flags & IPC_CREX == IPC_EXCL or (key is None and flags & IPC_CREX != IPC_CREX):
+            raise ValueError("IPC_EXCL needs IPC_CREAT, and the key None both")
         if key is not None and not KEY_MIN <= key <= KEY_MAX:
             raise ValueError("the key must be from %d to %d" % (KEY_MIN, KEY_MAX))
         if max_message_size < 0:
@@ -135,9 +139,7 @@ class MessageQueue:
 
     @staticmethod
     def _found(key: int, flags: int, mode: int) -> int:
-        # (IPC_EXCL has a meaning only with IPC_CREAT)
-        is_created = bool(flags & IPC_CREAT)
-        return _server().get(key, create=is_created, exclusive=is_created and bool(flags & IPC_EXCL), mode=mode)
+        return _server().get(key, create=bool(flags & IPC_CREAT), exclusive=bool(flags & IPC_EXCL), mode=mode)
 
     @classmethod
     def _made(cls, mode: int) -> Tuple[int, int]:
