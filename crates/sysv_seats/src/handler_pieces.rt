@@ -80,7 +80,7 @@ impl<'a, C: Clock, R: Wait> ServiceHandler<'a, C, R> {
 
     /// Begins a `msgsnd` of the body.
     #[inline(always)]
-    fn begin_send(
+    pub(crate) fn begin_send(
         &mut self,
         version: Version,
         cred: Cred,
@@ -179,7 +179,7 @@ impl<'a, C: Clock, R: Wait> ServiceHandler<'a, C, R> {
     }
 
     /// Continues a `msgsnd` of the body.
-    fn send_on(
+    pub(crate) fn send_on(
         &mut self,
         version: Version,
         text: &Body,
