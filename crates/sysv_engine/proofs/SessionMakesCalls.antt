@@ -241,12 +241,21 @@ module _ (may : ℕ → Type 0) (may_leave : Type 0) (any : EachRunIsAtAnyMoment
     works = λ start made works. still start old.at new.at made (ap (λ (h : Holder Pass). h.at) asked.0) works;
     asks = λ made. (same_held (empty_handed old.at) new made asked.0, asked.1, asked.2);
   }
-  hold_makes Back text old outcome given new asked = record {
+  hold_makes Back text old outcome given new (inl (none, same, told, empty)) = record {
     calls = [];
     rests = tt;
-    works = λ start made works. still start old.at new.at made (ap (λ (h : Holder Pass). h.at) asked.0) works;
-    asks = λ made. (same_held old new made asked.0, asked.1, asked.2);
+    works = λ start made works. still start old.at new.at made (ap (λ (h : Holder Pass). h.at) same) works;
+    asks = λ made. inl (none, same_held old new made same, told, empty);
   }
+  hold_makes Back text old outcome given new (inr (message, is, came, sends, told, held, empty)) =
+      let one = makes may may_leave any unstamped Three message.cred (Snd message.id message.mtype no_flags) message.text
+      old.at came [] new.at (sends, refl) in
+      record {
+        calls = one.calls;
+        rests = one.rests;
+        works = one.works;
+        asks = λ made. inr (message, is, came, (one.asks made).0, told, held, empty);
+      }
   hold_makes ask text old outcome given new asked =
       let one = beside ask text old outcome given new asked.0 in
       record {

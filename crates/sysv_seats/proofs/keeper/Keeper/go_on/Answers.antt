@@ -12,7 +12,7 @@ use Rattle.sysv_seats.proofs.keeper.Keeper.go_on.Goals as goal
 -- ---- any other request
 
 pub go_on-requires-clause-kind : goal.go_on-requires-clause-kind
-go_on-requires-clause-kind g c = wait_beside _ _ c.in_default.not-Hold c.requires.kind
+go_on-requires-clause-kind g c = wait_beside _ _ c.in_default.not-Hold c.in_default.not-Back c.requires.kind
 
 pub returns-in_default-clause-begun : goal.returns-in_default-clause-begun
 returns-in_default-clause-begun g c = λ start parked.
