@@ -25,6 +25,7 @@ use Rattle.sysv_seats.specs.Asked.{Asks}
 use Rattle.sysv_seats.specs.Held.{HoldAsks, holds_with}
 use Rattle.sysv_seats.specs.Holding as holding
 use Rattle.sysv_seats.specs.Holding.{Holder, empty_handed, no_flags}
+use Rattle.sysv_seats.specs.Replies.{stat_reply}
 use Rattle.sysv_seats.specs.Sits.{zero_moment}
 use Rattle.sysv_wire.specs.declared.frame.Version.TheVariants.{Three}
 use Rattle.sysv_engine.specs.Made.{log, held_in, MakesCall, ReadsBeside, ShowsBeside, makes_with}
@@ -227,13 +228,35 @@ module _ (may : ℕ → Type 0) (may_leave : Type 0) (any : EachRunIsAtAnyMoment
     works = λ start made works. still start old.at new.at made (ap (λ (h : Holder Pass). h.at) refused.0) works;
     asks = λ made. inl (same_held old new made refused.0, refused.1, refused.2);
   }
-  hold_makes (Hold id size mtype flags seconds) text old outcome given new (inr (can, came, receives, is, held)) =
-      let one = beside (Rcv id size mtype flags) text old came given new receives in
+  hold_makes (Hold id size mtype flags seconds) text old outcome given new
+      (inr (inl (can, why, (answer, ending, ends, tells, grants), is, same, none))) =
+      let one = makes may may_leave any unstamped version cred (Stat id) text old.at (stat_reply version answer) [] new.at
+      ((answer, ending, ends, tells, refl), refl) in
       record {
         calls = one.calls;
         rests = one.rests;
         works = one.works;
-        asks = λ made. inr (can, came, one.asks made, is, held);
+        asks = λ made. let did = (one.asks made).0 in
+            inr (inl (can, why, (answer, ending, did.2, tells, grants), is, same, none));
+      }
+  hold_makes (Hold id size mtype flags seconds) text old outcome given new
+      (inr (inr (can, came, granted, (answer, ending, ends, tells, grants), receives, is, held))) =
+      let one = makes may may_leave any unstamped version cred (Stat id) text old.at (stat_reply version answer) [] granted
+      ((answer, ending, ends, tells, refl), refl) in
+      let two = makes may may_leave any unstamped version cred (Rcv id size mtype flags) text granted came given new.at
+      receives in
+      record {
+        calls = one.calls ++ two.calls;
+        rests = both one.calls two.calls one.rests two.rests;
+        works = λ start made works.
+            subst (λ calls. Works start calls new.at) (append_assoc made one.calls two.calls)
+            (two.works start (made ++ one.calls) (one.works start made works));
+        asks = λ made. let did = (one.asks made).0 in
+            inr (inr (can, came, log granted (made ++ one.calls), (answer, ending, did.2, tells, grants),
+            subst (λ calls. requests.Asks MakesCall ReadsBeside ShowsBeside may may_leave version cred
+                (Rcv id size mtype flags) text (log granted (made ++ one.calls)) came given (log new.at calls))
+                (append_assoc made one.calls two.calls) (two.asks (made ++ one.calls)),
+            is, held));
       }
   hold_makes Done text old outcome given new asked = record {
     calls = [];

@@ -256,9 +256,11 @@ hold_asks_replied : (may : ℕ → Type 0) (version : Version) (cred : Cred) (as
 hold_asks_replied may version cred (kind.Hold id size mtype flags seconds) text before outcome given after
     (inl refused) = subst HasReply (sym refused.2) tt
 hold_asks_replied may version cred (kind.Hold id size mtype flags seconds) text before outcome given after
-    (inr (can, came, receives, is, held)) =
+    (inr (inl (can, why, asks, is, same, none))) = subst HasReply (sym is) tt
+hold_asks_replied may version cred (kind.Hold id size mtype flags seconds) text before outcome given after
+    (inr (inr (can, came, granted, asks, receives, is, held))) =
     subst HasReply (sym is) (hold_has version came
-    (asks_replied may version cred (kind.Rcv id size mtype flags) text before.at came given after.at receives))
+    (asks_replied may version cred (kind.Rcv id size mtype flags) text granted came given after.at receives))
 hold_asks_replied may version cred kind.Done text before outcome given after asked =
     subst HasReply (sym asked.1) (spent_has version before.message)
 hold_asks_replied may version cred kind.Back text before outcome given after (inl refused) =

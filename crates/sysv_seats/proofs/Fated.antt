@@ -144,7 +144,10 @@ module _ (may : ℕ → Type 0) (may_leave : Type 0) (version : Version) (cred :
   one (Hold id size mtype flags seconds) text old outcome given new (inl refused) =
       same_count outcome old.message new.message (subst IsNeither (sym refused.2) (refl, refl))
       (ap (λ (h : Holder Pass). h.message) refused.0)
-  one (Hold id size mtype flags seconds) text old outcome given new (inr (can, came, inl over, is, held)) =
+  one (Hold id size mtype flags seconds) text old outcome given new (inr (inl (can, why, asks, is, same, none))) =
+      same_count outcome old.message new.message (subst IsNeither (sym is) (refl, refl)) same
+  one (Hold id size mtype flags seconds) text old outcome given new
+      (inr (inr (can, came, granted, asks, inl over, is, held))) =
       let none = none_held flags seconds old.message can in
       let whole : came ≡ given_reply version over.0 = over.4 in
       let counts = subst (λ (o : RequestOutcome). given_by (hold_outcome version o)
@@ -158,7 +161,8 @@ module _ (may : ℕ → Type 0) (may_leave : Type 0) (version : Version) (cred :
         ap given_by is,
         ap spent_by is,
       )
-  one (Hold id size mtype flags seconds) text old outcome given new (inr (can, came, inr left, is, held)) =
+  one (Hold id size mtype flags seconds) text old outcome given new
+      (inr (inr (can, came, granted, asks, inr left, is, held))) =
       let none = none_held flags seconds old.message can in
       let gone : outcome ≡ Left = is ∙ ap (hold_outcome version) left.2 in
       let nothing : new.message ≡ None =

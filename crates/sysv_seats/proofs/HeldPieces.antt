@@ -35,6 +35,7 @@ use Rattle.sysv_seats.specs.declared.waiting.Waiting.TheVariants.{Send, Receive,
 use Rattle.sysv_seats.specs.Asked.{ComesFrom, ReadsReleased}
 use Rattle.sysv_service.specs.Told.{TellsRow}
 use Rattle.sysv_seats.specs.GivingBack.{waits_to_send}
+use Rattle.sysv_seats.specs.Held.{AsksForWriting}
 use Rattle.sysv_seats.specs.Held.{AnyGoesOn, BackParked, GoesOnBeside, HoldAsks, HoldBegun, HoldParked, HoldProgress}
 use Rattle.sysv_seats.specs.Held.{IsHoldWaitOf, back_progress, held_after, held_at, hold_progress}
 use Rattle.sysv_seats.specs.Holding as holding
@@ -70,10 +71,12 @@ module _ (may : ℕ → Type 0) (version : Version) (cred : Cred) where
       (given : List ℕ) (after : Holder Pass) → HoldAsks may ⊥ version cred ask text before outcome given after →
       HoldAsks may may_leave version cred ask text before outcome given after
   hold_asks_any may_leave (Hold id size mtype flags seconds) text before outcome given after (inl refused) = inl refused
+  hold_asks_any may_leave (Hold id size mtype flags seconds) text before outcome given after (inr (inl denied)) =
+      inr (inl denied)
   hold_asks_any may_leave (Hold id size mtype flags seconds) text before outcome given after
-      (inr (can, came, inl over, is, held)) = inr (can, came, inl over, is, held)
+      (inr (inr (can, came, granted, asks, inl over, is, held))) = inr (inr (can, came, granted, asks, inl over, is, held))
   hold_asks_any may_leave (Hold id size mtype flags seconds) text before outcome given after
-      (inr (can, came, inr leaves, is, held)) = absurd leaves.0.0
+      (inr (inr (can, came, granted, asks, inr leaves, is, held))) = absurd leaves.0.0
   hold_asks_any may_leave Done text before outcome given after asked = asked
   hold_asks_any may_leave Back text before outcome given after (inl refused) = inl refused
   hold_asks_any may_leave Back text before outcome given after (inr (message, is, came, sends, told, held, none)) = inr (
@@ -93,14 +96,17 @@ module _ (may : ℕ → Type 0) (version : Version) (cred : Cred) where
   pub hold_left : (may_leave : Type 0) (ask : Ask) (text : List ℕ) (before : Holder Pass) (waiting : Waiting)
       (after : Holder Pass) → may_leave → HoldParked may cred ask text before waiting after →
       HoldAsks may may_leave version cred ask text before Left [] after
-  hold_left may_leave (Hold id size mtype flags seconds) text before waiting after leaves parked = inr (
-    parked.0,
+  hold_left may_leave (Hold id size mtype flags seconds) text before waiting after leaves
+      (can, granted, asks, parked, same) = inr (inr (
+    can,
     Left,
-    left may version cred may_leave (Rcv id size mtype flags) text before.at waiting after.at leaves parked.1,
+    granted,
+    asks,
+    left may version cred may_leave (Rcv id size mtype flags) text granted waiting after.at leaves parked,
     refl,
-    parked.2 ∙ none_held flags seconds before.message parked.0,
-  )
-  hold_left may_leave Done text before waiting after leaves parked = absurd parked.1
+    same ∙ none_held flags seconds before.message can,
+  ))
+  hold_left may_leave Done text before waiting after leaves parked = absurd parked.0
   hold_left may_leave Back text before waiting after leaves (message, is, parked, same) = inr (
     message,
     is,
@@ -112,7 +118,7 @@ module _ (may : ℕ → Type 0) (version : Version) (cred : Cred) where
     refl,
   )
   hold_left may_leave ask text before waiting after leaves parked =
-      (left may version cred may_leave ask text before.at waiting after.at leaves parked.1, parked.2)
+      (left may version cred may_leave ask text before.at waiting after.at leaves parked.0, parked.1)
 
   -- ---- the beginning
 
@@ -122,7 +128,7 @@ module _ (may : ℕ → Type 0) (version : Version) (cred : Cred) where
   parked_beside (Hold id size mtype flags seconds) text before waiting after not parked same =
       absurd (not id size mtype flags seconds refl)
   parked_beside Back text before waiting after not parked same = absurd parked
-  parked_beside ask text before waiting after not parked same = (refl, parked, same)
+  parked_beside ask text before waiting after not parked same = (parked, same)
 
   asks_beside : (ask : Ask) (text : List ℕ) (before : Holder Pass) (outcome : RequestOutcome) (given : List ℕ)
       (after : Holder Pass) → IsNoHold ask → (ask ≡ Done → ⊥) → (ask ≡ Back → ⊥) →
@@ -154,19 +160,29 @@ module _ (may : ℕ → Type 0) (version : Version) (cred : Cred) where
   hold_refused id size mtype flags seconds text before can given is none =
       inl (refl, none, ap (λ (b : Bool). the_reply version op.Hold (content.Refused (cond b EAGAIN EINVAL))) is)
 
+  -- A hold was refused, since its caller may not send to the queue.
+  pub hold_denied : (id : ℤ) (size : ℕ) (mtype : ℤ) (flags : Flags) (seconds : ℕ) (text : List ℕ)
+      (before : Holder Pass) (why : Errno) (given : List ℕ) (after : Holder Pass) →
+      can_hold flags seconds before.message ≡ true → AsksForWriting cred id before.at (Err why) after.at →
+      after.message ≡ before.message → given ≡ [] →
+      HoldBegun may version cred (Hold id size mtype flags seconds) text before
+      (progress.Over (the_reply version op.Hold (content.Refused why))) given after
+  hold_denied id size mtype flags seconds text before why given after can asks same none =
+      inr (inl (can, why, asks, refl, same, none))
+
   -- A hold has come as far as its receive.
   pub hold_begun : (id : ℤ) (size : ℕ) (mtype : ℤ) (flags : Flags) (seconds : ℕ) (text : List ℕ) (before : Holder Pass)
-      (came : Progress Waiting RequestOutcome) (given : List ℕ) (after : Holder Pass) →
-      can_hold flags seconds before.message ≡ true →
-      HasBegun may version cred (Rcv id size mtype flags) text before.at came given after.at →
+      (granted : Pass) (came : Progress Waiting RequestOutcome) (given : List ℕ) (after : Holder Pass) →
+      can_hold flags seconds before.message ≡ true → AsksForWriting cred id before.at (Ok tt) granted →
+      HasBegun may version cred (Rcv id size mtype flags) text granted came given after.at →
       after.message ≡ held_at cred id came given →
       HoldBegun may version cred (Hold id size mtype flags seconds) text before (hold_progress version came) given after
-  hold_begun id size mtype flags seconds text before (progress.Waits waiting) given after can begun held = (
-    (can, begun.0, held ∙ sym (none_held flags seconds before.message can)),
+  hold_begun id size mtype flags seconds text before granted (progress.Waits waiting) given after can asks begun held = (
+    (can, granted, asks, begun.0, held ∙ sym (none_held flags seconds before.message can)),
     begun.1,
   )
-  hold_begun id size mtype flags seconds text before (progress.Over outcome) given after can begun held =
-      inr (can, outcome, begun, refl, held)
+  hold_begun id size mtype flags seconds text before granted (progress.Over outcome) given after can asks begun held =
+      inr (inr (can, outcome, granted, asks, begun, refl, held))
 
   -- ---- a parked call goes on
 
@@ -178,22 +194,23 @@ module _ (may : ℕ → Type 0) (version : Version) (cred : Cred) where
       HoldParked may cred ask text start waiting before → HoldBegun may version cred ask text start came given after
   on_beside (Hold id size mtype flags seconds) text start waiting before came given after not no_back on same parked =
       absurd (not id size mtype flags seconds refl)
-  on_beside Done text start waiting before came given after not no_back on same parked = absurd parked.1
+  on_beside Done text start waiting before came given after not no_back on same parked = absurd parked.0
   on_beside Back text start waiting before came given after not no_back on same parked = absurd (no_back refl)
   on_beside ask text start waiting before came given after not no_back on same parked =
-      begun_beside ask text start came given after not (λ is. cc is) (λ is. cc is) (on parked.1) (same ∙ parked.2)
+      begun_beside ask text start came given after not (λ is. cc is) (λ is. cc is) (on parked.0) (same ∙ parked.1)
 
   -- The receive of a hold has gone on.
   pub hold_on : (id : ℤ) (size : ℕ) (mtype : ℤ) (flags : Flags) (seconds : ℕ) (text : List ℕ) (start : Holder Pass)
       (waiting : Waiting) (before : Holder Pass) (came : Progress Waiting RequestOutcome) (given : List ℕ)
       (after : Holder Pass) →
-      (IsParked may cred (Rcv id size mtype flags) text start.at waiting before.at →
-      HasBegun may version cred (Rcv id size mtype flags) text start.at came given after.at) →
+      ((granted : Pass) → IsParked may cred (Rcv id size mtype flags) text granted waiting before.at →
+      HasBegun may version cred (Rcv id size mtype flags) text granted came given after.at) →
       after.message ≡ held_at cred id came given →
       HoldParked may cred (Hold id size mtype flags seconds) text start waiting before →
       HoldBegun may version cred (Hold id size mtype flags seconds) text start (hold_progress version came) given after
-  hold_on id size mtype flags seconds text start waiting before came given after on held parked =
-      hold_begun id size mtype flags seconds text start came given after parked.0 (on parked.1) held
+  hold_on id size mtype flags seconds text start waiting before came given after on held
+      (can, granted, asks, parked, same) =
+      hold_begun id size mtype flags seconds text start granted came given after can asks (on granted parked) held
 
 -- ---- the send of what is held
 

@@ -1,8 +1,10 @@
 -- What a handler that may hold a message does to its pass and its message (this project's profile). These
 -- are the definitions of `Holding`, for a pass, and the pieces of a request, as in `Parked`.
-use Rattle.std.specs.Prelude.{◌≡◌, ◌⊎◌, ⊤, ℕ, ℤ, true, List, [], Option, Some, None}
+use Rattle.std.specs.Prelude.{◌≡◌, ◌⊎◌, ⊤, ℕ, ℤ, true, List, [], Option, Some, None, Result, Ok}
 use Rattle.sysv_keys.specs.declared.identifier.TheConstants.{SLOTS}
 use Rattle.sysv_model.specs.declared.cred.Cred.{Cred}
+use Rattle.sysv_model.specs.declared.errno.Errno.{Errno}
+use Rattle.sysv_model.specs.declared.flags.Flags.{Flags}
 use Rattle.sysv_session.specs.declared.handler.RequestOutcome.{RequestOutcome}
 use Rattle.sysv_session.specs.declared.served.Served.{Served}
 use Rattle.sysv_session.specs.Answers.{MayAnswer}
@@ -16,14 +18,14 @@ use Rattle.sysv_steps.specs.declared.clock.Clock.{Ghosts as ClockGhosts}
 use Rattle.sysv_wire.specs.declared.frame.Version.{Version}
 use Rattle.sysv_wire.specs.declared.request.Ask.{Ask}
 use Rattle.sysv_wire.specs.declared.frame.Version.TheVariants.{Three}
-use Rattle.sysv_wire.specs.declared.request.Ask.TheVariants.{Snd, Hold, Back}
+use Rattle.sysv_wire.specs.declared.request.Ask.TheVariants.{Snd, Rcv, Hold, Back}
 use Rattle.sysv_seats.specs.declared.keeper.Keeper.{Keeper}
 use Rattle.sysv_seats.specs.declared.waiting.Waiting.{Waiting}
 use Rattle.sysv_seats.specs.declared.waiting.Waiting.TheVariants.{Send, Receive}
 use Rattle.sysv_seats.specs.Asked.{ComesFrom, ReadsReleased}
 use Rattle.sysv_seats.specs.Holding as holding
-use Rattle.sysv_seats.specs.Holding.{Holder, Message, back_outcome, empty_handed, held_by, hold_outcome, may_call}
-use Rattle.sysv_seats.specs.Holding.{no_flags, received}
+use Rattle.sysv_seats.specs.Holding.{Holder, Message, back_outcome, can_hold, empty_handed, held_by, hold_outcome}
+use Rattle.sysv_seats.specs.Holding.{no_flags}
 use Rattle.sysv_seats.specs.Parked.{GoesOn, IsParked, IsWaitOf}
 
 -- The pass of the handler, and the message that its session holds.
@@ -59,18 +61,31 @@ IsHoldWaitOf (Hold id size mtype flags seconds) (Receive wait) = ⊤
 IsHoldWaitOf Back (Send wait) = ⊤
 IsHoldWaitOf ask waiting = IsWaitOf ask waiting
 
+-- The attributes of the queue were requested, and the caller may send to it, or not for this reason.
+abbrev pub AsksForWriting : Cred → ℤ → Pass → Result ⊤ Errno → Pass → Type 0
+AsksForWriting = holding.AsksForWriting ComesFrom ReadsReleased TellsRow
+
+-- The session may hold a message of the queue, and the receive of its hold is parked.
+abbrev pub ReceiveParked : (ℕ → Type 0) → Cred → ℤ → ℕ → ℤ → Flags → (seconds : ℕ) → List ℕ → Holder Pass → Waiting →
+    Holder Pass → Type 0
+ReceiveParked may cred id size mtype flags seconds text before waiting after =
+    (can_hold flags seconds before.message ≡ true) × (granted : Pass) × AsksForWriting cred id before.at (Ok tt) granted
+    × IsParked may cred (Rcv id size mtype flags) text granted waiting after.at × (after.message ≡ before.message)
+
 -- The send of what is held is parked.
 abbrev pub BackParked : (ℕ → Type 0) → Holder Pass → Waiting → Holder Pass → Type 0
 BackParked may before waiting after = (message : Message) × (before.message ≡ Some message)
     × IsParked may message.cred (Snd message.id message.mtype no_flags) message.text before.at waiting after.at
     × (after.message ≡ before.message)
 
--- A request was begun, and its call is parked. That of a hold is a receive, and the session may hold its
--- message. That of a back is a send of what is held. What is held stays.
+-- A request was begun, and its call is parked: that of a hold is a receive, and that of a back is a send of what is
+-- held. What is held stays.
 abbrev pub HoldParked : (ℕ → Type 0) → Cred → Ask → List ℕ → Holder Pass → Waiting → Holder Pass → Type 0
+HoldParked may cred (Hold id size mtype flags seconds) text before waiting after =
+    ReceiveParked may cred id size mtype flags seconds text before waiting after
 HoldParked may cred Back text before waiting after = BackParked may before waiting after
-HoldParked may cred ask text before waiting after = (may_call ask before.message ≡ true)
-    × IsParked may cred (received ask) text before.at waiting after.at × (after.message ≡ before.message)
+HoldParked may cred ask text before waiting after =
+    IsParked may cred ask text before.at waiting after.at × (after.message ≡ before.message)
 
 -- A request was begun. It is over, as a request of a caller that does not leave, or it is parked and has
 -- no body.

@@ -3,14 +3,19 @@
 -- type, to the same queue, without flags and with the session's credentials. A session holds one message
 -- at most. If it ends before the message is spent or given back, such a `msgsnd` follows it.
 use Rattle.std.specs.Prelude.{◌≡◌, ◌⊎◌, ◌&&◌, ◌==◌, ⊤, ℕ, ℤ, Bool, true, not, List, [], Option, None, Some, Result}
+use Rattle.std.specs.Prelude.{Ok, Err}
 use Rattle.std.specs.Prelude.{cond, is_some}
 use Rattle.sysv_model.specs.declared.attributes.Row.{Row as Line}
+use Rattle.sysv_model.specs.declared.attributes.Stat.{Stat as Attributes}
 use Rattle.sysv_model.specs.declared.cred.Cred.{Cred}
 use Rattle.sysv_model.specs.declared.errno.Errno.{Errno}
-use Rattle.sysv_model.specs.declared.errno.Errno.TheVariants.{EAGAIN, EINVAL}
+use Rattle.sysv_model.specs.declared.errno.Errno.TheVariants.{EACCES, EAGAIN, EINVAL}
 use Rattle.sysv_model.specs.declared.flags.Flags.{Flags}
 use Rattle.sysv_model.specs.declared.flags.TheConstants.Flags.{MSG_NOERROR}
 use Rattle.sysv_model.specs.HasFlag.{has_flag}
+use Rattle.sysv_rules.specs.declared.permission.Want.TheVariants.{Write}
+use Rattle.sysv_rules.specs.Permission.{IsPermitted}
+use Rattle.sysv_service.specs.Told.{TellsStat}
 use Rattle.sysv_session.specs.declared.handler.RequestOutcome.{RequestOutcome}
 use Rattle.sysv_session.specs.declared.handler.RequestOutcome.TheVariants.{Reply, Got, Left}
 use Rattle.sysv_wire.specs.declared.frame.Op.TheVariants as op
@@ -21,7 +26,10 @@ use Rattle.sysv_wire.specs.declared.reply.ReplyContent.TheVariants as content
 use Rattle.sysv_wire.specs.declared.request.Ask.{Ask}
 use Rattle.sysv_wire.specs.declared.request.Ask.TheVariants.{Rcv, Hold, Done, Back}
 use Rattle.sysv_seats.specs.Replies.{reply}
-use Rattle.sysv_seats.specs.Requests.{Going, Asks, Receives, Sends}
+use Rattle.sysv_seats.specs.Requests.{Going, Asks, Ends, Receives, Sends}
+use Rattle.sysv_steps.specs.Call.{MsgctlStat}
+use Rattle.sysv_steps.specs.State.{Ending}
+use Rattle.sysv_steps.specs.Stepping.{no_moment}
 
 -- A message that a session holds, and how it is given back: by a send with these credentials to this
 -- queue.
@@ -88,10 +96,12 @@ abbrev pub received : Ask → Ask
 received (Hold id size mtype flags seconds) = Rcv id size mtype flags
 received ask = ask
 
--- The request may make its call if this is held.
-abbrev pub may_call : Ask → Option Message → Bool
-may_call (Hold id size mtype flags seconds) message = can_hold flags seconds message
-may_call ask message = true
+-- Whether a caller may send to the queue of which `IPC_STAT` says this, and if not, why.
+abbrev pub Grants : Cred → Result Attributes Errno → Result ⊤ Errno → Type 0
+Grants cred (Ok stat) (Ok yes) = IsPermitted cred stat.perm Write
+Grants cred (Ok stat) (Err why) = (IsPermitted cred stat.perm Write → ⊥) × (why ≡ EACCES)
+Grants cred (Err refusal) (Ok yes) = ⊥
+Grants cred (Err refusal) (Err why) = why ≡ refusal
 
 -- The flags of the send that gives a message back.
 abbrev pub no_flags : Flags
@@ -106,20 +116,36 @@ module _ {K : Type 0} (Comes : Going K) (ReadsReleased : ℕ → K → K → Typ
   HoldIsRefused version flags seconds before outcome given after = (after ≡ before) × (given ≡ [])
       × (outcome ≡ reply version op.Hold (content.Refused (why_refused flags seconds before.message)))
 
+  -- The attributes of the queue were requested, and the caller may send to it, or not for this reason. Who
+  -- may not send to a queue cannot give a message back to it.
+  abbrev pub AsksForWriting : Cred → ℤ → K → Result ⊤ Errno → K → Type 0
+  AsksForWriting cred id before granted after = (answer : Result Attributes Errno) × (ending : Ending)
+      × Ends Comes ReadsReleased TellsRow no_moment cred (MsgctlStat id) 0 before ending after
+      × TellsStat ending answer × Grants cred answer granted
+
+  -- The caller may not send to the queue, and the hold was refused for this reason.
+  abbrev pub HoldIsDenied : Version → Cred → ℤ → Flags → (seconds : ℕ) → Holder K → RequestOutcome → List ℕ → Holder K →
+      Type 0
+  HoldIsDenied version cred id flags seconds before outcome given after =
+      (can_hold flags seconds before.message ≡ true) × (why : Errno)
+      × AsksForWriting cred id before.at (Err why) after.at × (outcome ≡ reply version op.Hold (content.Refused why))
+      × (after.message ≡ before.message) × (given ≡ [])
+
   -- A receive of the same fields ended or was left. The session holds its message, if it took one.
   abbrev pub HoldReceives : (ℕ → Type 0) → Type 0 → Version → Cred → ℤ → ℕ → ℤ → Flags → (seconds : ℕ) → Holder K →
       RequestOutcome → List ℕ → Holder K → Type 0
   HoldReceives may may_leave version cred id size mtype flags seconds before outcome given after =
-      (can_hold flags seconds before.message ≡ true) × (came : RequestOutcome)
-      × Receives Comes ReadsReleased TellsRow may may_leave version cred id size mtype flags before.at came given
-      after.at
+      (can_hold flags seconds before.message ≡ true) × (came : RequestOutcome) × (granted : K)
+      × AsksForWriting cred id before.at (Ok tt) granted
+      × Receives Comes ReadsReleased TellsRow may may_leave version cred id size mtype flags granted came given after.at
       × (outcome ≡ hold_outcome version came) × (after.message ≡ held_by cred id came given)
 
-  -- A hold was refused, or its receive ended or was left.
+  -- A hold was refused, before or after the attributes of its queue were requested; or its receive ended or was left.
   abbrev pub Holds : (ℕ → Type 0) → Type 0 → Version → Cred → ℤ → ℕ → ℤ → Flags → (seconds : ℕ) → Holder K →
       RequestOutcome → List ℕ → Holder K → Type 0
   Holds may may_leave version cred id size mtype flags seconds before outcome given after =
       HoldIsRefused version flags seconds before outcome given after
+      ⊎ HoldIsDenied version cred id flags seconds before outcome given after
       ⊎ HoldReceives may may_leave version cred id size mtype flags seconds before outcome given after
 
   -- What was held is spent. No call was made. If nothing was held, the reply is EINVAL.

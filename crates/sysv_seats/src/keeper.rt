@@ -88,7 +88,8 @@ impl<'a, C: Clock, R: Wait> Keeper<'a, C, R> {
 
     /// Begins a request, as `ServiceHandler::begin` does. A hold makes the steps of its receive.
     ///
-    /// If memory for a message is refused, a hold is refused with `EAGAIN`, and nothing is taken.
+    /// If memory for a message is refused, a hold is refused with `EAGAIN`, and nothing is taken. If
+    /// the caller may not send to the queue, it is refused with `EACCES`.
     ///
     /// # Conditions
     ///
@@ -160,6 +161,9 @@ impl<'a, C: Clock, R: Wait> Keeper<'a, C, R> {
         let Some(memory) = self.room() else {
             return Progress::Over(refusal(version, Op::Hold, Errno::EAGAIN));
         };
+        if let Err(why) = self.handler.ask_for_writing(cred, id) {
+            return Progress::Over(refusal(version, Op::Hold, why));
+        }
         let came = self
             .handler
             .begin_receive(version, cred, id, size, mtype, flags, given);

@@ -14,7 +14,7 @@ keep-requires-clause-short g c =
     let begun = simp to_z-of_z at c.begin_receive-came.ensures.begun in
     let answer = simp to_z-of_z at c.begin_receive-came.ensures.answer in
     begun_short (g.C.Clock.may c.args.self.now.handler.clock.now) c.args.version c.args.cred
-    (Rcv c.args.id c.args.size c.args.mtype c.args.flags) [] c.args.self.now.handler.pass c.begin_receive-came.result
+    (Rcv c.args.id c.args.size c.args.mtype c.args.flags) [] _ c.begin_receive-came.result
     c.begin_receive-came.new.given c.begin_receive-came.new.self.pass (begun []) answer
 
 pub returns-clause-begun : goal.returns-clause-begun
@@ -26,8 +26,8 @@ returns-clause-begun g c = λ text.
     let can : can_hold c.args.flags c.args.seconds c.args.self.now.message ≡ true = search rules in
     rw c.keep.ensures.progress
     (hold_begun _ c.args.version c.args.cred c.args.id c.args.size c.args.mtype c.args.flags c.args.seconds text
-    (holder_of c.args.self.now) c.begin_receive-came.result c.begin_receive-came.new.given (holder_of c.keep.new.self)
-    can (rw c.keep.ensures.handler (begun text)) held)
+    (holder_of c.args.self.now) _ c.begin_receive-came.result c.begin_receive-came.new.given
+    (holder_of c.keep.new.self) can _ (rw c.keep.ensures.handler (begun text)) held)
 
 pub returns-clause-answer : goal.returns-clause-answer
 returns-clause-answer g c =

@@ -50,7 +50,7 @@ returns-clause-begun g c =
     rw c.keep.ensures.progress (rw c.in-Hold.is (λ start parked.
     hold_on _ _ c.args.cred c.in-Hold.id c.in-Hold.size c.in-Hold.mtype c.in-Hold.flags c.in-Hold.seconds
     c.args.text.now start c.args.waiting (holder_of c.args.self.now) c.go_on-came.result c.go_on-came.new.given
-    (holder_of c.keep.new.self) (rw c.keep.ensures.handler (on start.at c.args.cred)) held parked))
+    (holder_of c.keep.new.self) (rw c.keep.ensures.handler (λ granted. on granted c.args.cred)) held parked))
 
 pub returns-clause-looks : goal.returns-clause-looks
 returns-clause-looks g c =
