@@ -98,9 +98,9 @@ received ask = ask
 
 -- Whether a caller may send to the queue of which `IPC_STAT` says this, and if not, why.
 abbrev pub Grants : Cred → Result Attributes Errno → Result ⊤ Errno → Type 0
-Grants cred (Ok stat) (Ok yes) = IsPermitted cred stat.perm Write
+Grants cred (Ok stat) (Ok granted) = IsPermitted cred stat.perm Write
 Grants cred (Ok stat) (Err why) = (IsPermitted cred stat.perm Write → ⊥) × (why ≡ EACCES)
-Grants cred (Err refusal) (Ok yes) = ⊥
+Grants cred (Err refusal) (Ok granted) = ⊥
 Grants cred (Err refusal) (Err why) = why ≡ refusal
 
 -- The flags of the send that gives a message back.

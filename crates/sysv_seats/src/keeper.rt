@@ -1,5 +1,5 @@
 //! The handler of sessions that may hold a message.
-ghost use Rattle.std.specs.Prelude.{◌≡◌, ◌≢◌, ◌≤◌, ℕ, List, [], None, IfSome, is_some, length, vec_capacity};
+ghost use Rattle.std.specs.Prelude.{◌≡◌, ◌≢◌, ◌≤◌, ℕ, List, [], None, IfSome, false, is_some, length, true, vec_capacity};
 ghost use Rattle.sysv_model.specs.declared.limits.TheConstants.{MESSAGE_BYTES};
 ghost use Rattle.sysv_service.specs.Ran.{Pass as Seen};
 ghost use Rattle.sysv_service.specs.Seats.{AreOf};
