@@ -1,8 +1,10 @@
 /* N senders and N receivers on one queue of a server, each a process with a connection of its own to a Unix socket.
  *   jobs_client WAY PATH PAIRS MILLISECONDS PID
- * WAY is sysvmsg (a send; a receive that waits), hold (a send; a done of the last message and a hold that waits, at once),
- * redis (LPUSH; BRPOP) or beanstalkd (put; reserve and delete). PAIRS is
- * N, 1 to 1000. PID is the process of the server. Its queue must be new or empty.
+ * WAY is a way to send and to receive: sysvmsg (a send; a receive that waits), redis (LPUSH; BRPOP), or one of those that
+ * give a message again if its receiver dies before it is done: hold (a send; a hold that waits, then a done), lmove
+ * (LPUSH; BLMOVE to a list of the receiver, then LREM) or beanstalkd (put; reserve, then delete). What spends a message is
+ * sent together with the request for the next one. PAIRS is N, 1 to 1000. PID is the process of the server. Its queue must
+ * be new or empty.
  *
  * The receivers wait before the first send. The senders send messages of 64 bytes for the given time, each as soon as
  * it has the reply to its last message. Then one message per receiver, behind all others, ends the receivers. It prints
@@ -29,8 +31,6 @@
 #define BODY 64
 #define MOST 1000
 #define GRACE 15
-/* The number of bytes of a done. */
-#define DONE 6
 #define STOP UINT32_MAX
 #define BROKEN (UINT32_MAX - 1)
 
@@ -55,23 +55,24 @@ struct shared {
     struct receipt receipts[];
 };
 
-/* A connection: its request to send, with the place of the body, its request to receive, and the reply to the last. If it
- * holds a message, its request to receive begins with a done. */
+/* A connection: its request to send, with the place of the body, its request to receive, what spends the message that is
+ * held, if one is, and the reply to the last. */
 struct peer {
-    int fd, holds;
-    char send[160], take[64], reply[512];
-    size_t body, send_count, take_count, count;
+    int fd;
+    char send[160], take[96], done[256], reply[512];
+    size_t body, send_count, take_count, done_count, count;
 };
 
-/* A kind of server. `sent` and `took` read a reply; `took` returns the place of the body in it. `asks` writes a request to
- * receive, if that is not always the same. */
+/* A way to send and to receive. `sent`, `took` and `spent` read a reply. `took` is given its place, and returns that of
+ * the body; `spent` returns the length of the reply. `keep` prepares what spends the message with this body, whose reply
+ * has this place; without it a message that was received is gone. */
 struct way {
     const char *name;
     void (*open)(struct peer *);
     void (*sent)(struct peer *);
-    size_t (*took)(struct peer *);
-    int deletes;
-    void (*asks)(struct peer *);
+    size_t (*took)(struct peer *, size_t at);
+    void (*keep)(struct peer *, size_t at, const char *body);
+    size_t (*spent)(struct peer *);
 };
 
 static const char *doing;
@@ -110,17 +111,17 @@ static void read_to(struct peer *peer, size_t wanted) {
     }
 }
 
-/* Reads the first line of the reply, which must begin like this, and returns its length. */
-static size_t read_line(struct peer *peer, const char *wanted) {
-    char *end;
-    read_to(peer, 1);
-    while ((end = memchr(peer->reply, '\n', peer->count)) == NULL) read_to(peer, peer->count + 1);
-    size_t count = (size_t)(end - peer->reply) + 1;
-    if (count < strlen(wanted) || memcmp(peer->reply, wanted, strlen(wanted)) != 0) {
-        *(end > peer->reply && end[-1] == '\r' ? end - 1 : end) = '\0';
-        fail(peer->reply);
+/* Reads the line of the reply at this place, which must begin like this, and returns the place after it. */
+static size_t read_line(struct peer *peer, size_t at, const char *wanted) {
+    char *line = peer->reply + at, *end;
+    read_to(peer, at + 1);
+    while ((end = memchr(line, '\n', peer->count - at)) == NULL) read_to(peer, peer->count + 1);
+    size_t count = (size_t)(end - line) + 1;
+    if (count < strlen(wanted) || memcmp(line, wanted, strlen(wanted)) != 0) {
+        *(end > line && end[-1] == '\r' ? end - 1 : end) = '\0';
+        fail(line);
     }
-    return count;
+    return at + count;
 }
 
 /* The frames of sysvmsg: see docs/wire.md. */
@@ -133,10 +134,12 @@ static char *begin(char *frame, int operation, uint32_t fields) {
     return number(number(number(frame, fields + 2, 4), 1, 1), (uint64_t)operation, 1);
 }
 
-static void read_frame(struct peer *peer, size_t wanted) {
-    read_to(peer, 7);
-    if (peer->reply[6] != 0) fail("the server's reply is an error");
-    read_to(peer, wanted);
+/* Reads a frame of so many bytes at this place of the reply, and returns the place after it. */
+static size_t read_frame(struct peer *peer, size_t at, size_t wanted) {
+    read_to(peer, at + 7);
+    if (peer->reply[at + 6] != 0) fail("the server's reply is an error");
+    read_to(peer, at + wanted);
+    return at + wanted;
 }
 
 static void sysvmsg_open_as(struct peer *peer, char version) {
@@ -145,11 +148,11 @@ static void sysvmsg_open_as(struct peer *peer, char version) {
     frame[4] = version;
     at = number(number(number(at, 1000, 4), 1000, 4), (uint64_t)getpid(), 4);
     ask(peer, frame, (size_t)(at - frame));
-    read_frame(peer, version == 1 ? 7 : 11);
+    read_frame(peer, 0, version == 1 ? 7 : 11);
     at = number(number(begin(frame, 1, 8), 7, 4), 01000 + 0600, 4);
     frame[4] = version;
     ask(peer, frame, (size_t)(at - frame));
-    read_frame(peer, 11);
+    read_frame(peer, 0, 11);
     const char *id = peer->reply + 7;
 
     at = begin(peer->send, 2, 16 + BODY);
@@ -163,37 +166,27 @@ static void sysvmsg_open_as(struct peer *peer, char version) {
 
 static void sysvmsg_open(struct peer *peer) { sysvmsg_open_as(peer, 1); }
 
-static void sysvmsg_sent(struct peer *peer) { read_frame(peer, 7); }
+static void sysvmsg_sent(struct peer *peer) { read_frame(peer, 0, 7); }
 
-static size_t sysvmsg_took(struct peer *peer) {
-    read_frame(peer, 15 + BODY);
-    return 15;
-}
-
-/* Writes the request to receive: from the second one on it spends the message that is held. */
-static void hold_ask(struct peer *peer) {
-    size_t from = peer->holds ? 0 : DONE;
-    ask(peer, peer->take + from, peer->take_count - from);
-}
+static size_t sysvmsg_took(struct peer *peer, size_t at) { return read_frame(peer, at, 15 + BODY) - BODY; }
 
 static void hold_open(struct peer *peer) {
     sysvmsg_open_as(peer, 3);
     char id[4], *at;
     memcpy(id, peer->send + 6, 4);
-    peer->send[4] = 3;
-    at = begin(peer->take, 9, 0);
-    at = number(number(number((char *)mempcpy(begin(at, 8, 24), id, 4), BODY, 4), 0, 8), 0, 8);
-    peer->take[4] = peer->take[DONE + 4] = 3;
+    at = begin(peer->take, 8, 24);
+    at = number(number(number((char *)mempcpy(at, id, 4), BODY, 4), 0, 8), 0, 8);
+    peer->send[4] = peer->take[4] = 3;
     peer->take_count = (size_t)(at - peer->take);
 }
 
-static size_t hold_took(struct peer *peer) {
-    size_t done = peer->holds ? 7 : 0;
-    read_frame(peer, done + 15 + BODY);
-    if (peer->reply[done + 6] != 0) fail("the server's reply to a hold is an error");
-    peer->holds = 1;
-    return done + 15;
+static void hold_keep(struct peer *peer, size_t at, const char *body) {
+    (void)at, (void)body;
+    peer->done_count = (size_t)(begin(peer->done, 9, 0) - peer->done);
+    peer->done[4] = 3;
 }
+
+static size_t hold_spent(struct peer *peer) { return read_frame(peer, 0, 7); }
 
 /* Prepares requests that are text: what is before the body, and CR and LF behind it. */
 static void open_text(struct peer *peer, const char *send, const char *take) {
@@ -209,32 +202,64 @@ static void redis_open(struct peer *peer) {
     open_text(peer, "*3\r\n$5\r\nLPUSH\r\n$4\r\njobs\r\n$64\r\n", "*3\r\n$5\r\nBRPOP\r\n$4\r\njobs\r\n$1\r\n0\r\n");
 }
 
-static void redis_sent(struct peer *peer) { read_line(peer, ":"); }
+static void redis_sent(struct peer *peer) { read_line(peer, 0, ":"); }
 
-static size_t redis_took(struct peer *peer) {
+static size_t redis_took(struct peer *peer, size_t at) {
     static const char head[] = "*2\r\n$4\r\njobs\r\n$64\r\n";
-    size_t body = sizeof head - 1;
-    read_line(peer, "*2\r\n");
+    size_t body = at + sizeof head - 1;
+    read_line(peer, at, "*2\r\n");
     read_to(peer, body + BODY + 2);
-    if (memcmp(peer->reply, head, body) != 0) fail("the reply is no message of 64 bytes");
+    if (memcmp(peer->reply + at, head, sizeof head - 1) != 0) fail("the reply is no message of 64 bytes");
     return body;
 }
+
+/* Each receiver moves its message to a list of its own, whose name has ten digits. */
+static void lmove_open(struct peer *peer) {
+    char take[96];
+    snprintf(take, sizeof take, "*6\r\n$6\r\nBLMOVE\r\n$4\r\njobs\r\n$10\r\n%010d\r\n$5\r\nRIGHT\r\n$4\r\nLEFT\r\n$1\r\n0\r\n",
+             (int)getpid());
+    open_text(peer, "*3\r\n$5\r\nLPUSH\r\n$4\r\njobs\r\n$64\r\n", take);
+}
+
+static size_t lmove_took(struct peer *peer, size_t at) {
+    size_t body = read_line(peer, at, "$64\r\n");
+    read_to(peer, body + BODY + 2);
+    return body;
+}
+
+static void lmove_keep(struct peer *peer, size_t at, const char *body) {
+    (void)at;
+    int head = snprintf(peer->done, sizeof peer->done, "*4\r\n$4\r\nLREM\r\n$10\r\n%010d\r\n$1\r\n1\r\n$64\r\n", (int)getpid());
+    memcpy(mempcpy(peer->done + head, body, BODY), "\r\n", 2);
+    peer->done_count = (size_t)head + BODY + 2;
+}
+
+static size_t lmove_spent(struct peer *peer) { return read_line(peer, 0, ":1"); }
 
 static void beanstalkd_open(struct peer *peer) { open_text(peer, "put 0 0 600 64\r\n", "reserve\r\n"); }
 
-static void beanstalkd_sent(struct peer *peer) { read_line(peer, "INSERTED "); }
+static void beanstalkd_sent(struct peer *peer) { read_line(peer, 0, "INSERTED "); }
 
-static size_t beanstalkd_took(struct peer *peer) {
-    size_t body = read_line(peer, "RESERVED ");
+static size_t beanstalkd_took(struct peer *peer, size_t at) {
+    size_t body = read_line(peer, at, "RESERVED ");
     read_to(peer, body + BODY + 2);
     return body;
 }
 
+static void beanstalkd_keep(struct peer *peer, size_t at, const char *body) {
+    (void)body;
+    unsigned long long id = strtoull(peer->reply + at + strlen("RESERVED "), NULL, 10);
+    peer->done_count = (size_t)snprintf(peer->done, sizeof peer->done, "delete %llu\r\n", id);
+}
+
+static size_t beanstalkd_spent(struct peer *peer) { return read_line(peer, 0, "DELETED"); }
+
 static const struct way WAYS[] = {
-    {"sysvmsg", sysvmsg_open, sysvmsg_sent, sysvmsg_took, 0, NULL},
-    {"hold", hold_open, sysvmsg_sent, hold_took, 0, hold_ask},
-    {"redis", redis_open, redis_sent, redis_took, 0, NULL},
-    {"beanstalkd", beanstalkd_open, beanstalkd_sent, beanstalkd_took, 1, NULL},
+    {"sysvmsg", sysvmsg_open, sysvmsg_sent, sysvmsg_took, NULL, NULL},
+    {"hold", hold_open, sysvmsg_sent, sysvmsg_took, hold_keep, hold_spent},
+    {"redis", redis_open, redis_sent, redis_took, NULL, NULL},
+    {"lmove", lmove_open, redis_sent, lmove_took, lmove_keep, lmove_spent},
+    {"beanstalkd", beanstalkd_open, beanstalkd_sent, beanstalkd_took, beanstalkd_keep, beanstalkd_spent},
 };
 
 static void open_peer(const struct way *way, struct peer *peer, const char *path) {
@@ -254,21 +279,17 @@ static void send_job(const struct way *way, struct peer *peer, const struct job 
     way->sent(peer);
 }
 
-/* Receives a message, and returns the time of its receipt. */
+/* Spends the message that is held, if one is, and receives the next one. Returns the time of its receipt. */
 static int64_t receive_job(const struct way *way, struct peer *peer, struct job *job) {
-    if (way->asks)
-        way->asks(peer);
-    else
-        ask(peer, peer->take, peer->take_count);
-    memcpy(job, peer->reply + way->took(peer), BODY);
-    int64_t at = now();
-    if (way->deletes) {
-        char line[64];
-        unsigned long long id = strtoull(peer->reply + strlen("RESERVED "), NULL, 10);
-        ask(peer, line, (size_t)snprintf(line, sizeof line, "delete %llu\r\n", id));
-        read_line(peer, "DELETED");
-    }
-    return at;
+    char both[sizeof peer->done + sizeof peer->take];
+    memcpy(mempcpy(both, peer->done, peer->done_count), peer->take, peer->take_count);
+    ask(peer, both, peer->done_count + peer->take_count);
+    size_t at = peer->done_count ? way->spent(peer) : 0;
+    const char *body = peer->reply + way->took(peer, at);
+    int64_t time = now();
+    memcpy(job, body, BODY);
+    if (way->keep) way->keep(peer, at, body);
+    return time;
 }
 
 static void fill(struct job *job) { memset(job->fill, 'x', sizeof job->fill); }
@@ -302,9 +323,9 @@ static void receive_all(const struct way *way, struct peer *peer, uint32_t me) {
         receipts[count++] = (struct receipt){sender, job.number, at - job.sent};
         shared->last[me] = at;
     }
-    if (peer->holds) {
-        ask(peer, peer->take, DONE);
-        read_frame(peer, 7);
+    if (peer->done_count) {
+        ask(peer, peer->done, peer->done_count);
+        way->spent(peer);
     }
     shared->received[me] = count;
 }
@@ -432,7 +453,7 @@ int main(int argc, char **argv) {
     while (argc == 6 && way < end && strcmp(way->name, argv[1]) != 0) way++;
     int pairs = argc == 6 ? atoi(argv[3]) : 0, milliseconds = argc == 6 ? atoi(argv[4]) : 0;
     if (argc != 6 || way == end || pairs < 1 || pairs > MOST || milliseconds < 1 || milliseconds > 60000) {
-        fputs("jobs_client sysvmsg|redis|beanstalkd PATH PAIRS MILLISECONDS PID\n", stderr);
+        fputs("jobs_client sysvmsg|hold|redis|lmove|beanstalkd PATH PAIRS MILLISECONDS PID\n", stderr);
         return 2;
     }
     char named[64];
