@@ -195,8 +195,9 @@ module _ (may : ℕ → Type 0) (may_leave : Type 0) (version : Version) (cred :
       (subst (λ (o : RequestOutcome). 1 ≡ returned_by Back (back_outcome version o) (Some message)
       + held_count (kept_by (Some message) o)) (sym gone) refl)
   one ask text old outcome given new asked =
-      same_count outcome old.message new.message
-      (neither ask text old.at outcome given new.at (λ is. cc is) asked.0) asked.1
+      let counts = same_count outcome old.message new.message
+      (neither ask text old.at outcome given new.at (λ is. cc is) asked.0) asked.1 in
+      omega (arith, counts)
 
 pub each_message : EachMessageIsSpentOrHeld
 each_message cred old [] new is = omega (arith, ap (λ (h : Holder Pass). held_count h.message) is)

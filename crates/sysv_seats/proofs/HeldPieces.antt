@@ -39,7 +39,7 @@ use Rattle.sysv_seats.specs.Held.{AsksForWriting}
 use Rattle.sysv_seats.specs.Held.{AnyGoesOn, BackParked, GoesOnBeside, HoldAsks, HoldBegun, HoldParked, HoldProgress}
 use Rattle.sysv_seats.specs.Held.{IsHoldWaitOf, back_progress, held_after, held_at, hold_progress}
 use Rattle.sysv_seats.specs.Holding as holding
-use Rattle.sysv_seats.specs.Holding.{Holder, Message, back_content, can_hold, kept_by, no_flags, received}
+use Rattle.sysv_seats.specs.Holding.{Holder, Message, back_content, can_hold, kept_by, no_flags}
 use Rattle.sysv_seats.specs.InPieces.{asks_any, goes_on, left}
 use Rattle.sysv_seats.specs.Parked.{GoesOn, HasBegun, IsParked, IsWaitOf, MayProgress, receive_progress}
 use Rattle.sysv_seats.specs.Replies.{done_reply, reply as the_reply}

@@ -91,11 +91,6 @@ kept_by held (Reply answer) = None
 kept_by held (Got delivery) = None
 kept_by held Left = held
 
--- The receive that a hold makes, and any other request itself.
-abbrev pub received : Ask → Ask
-received (Hold id size mtype flags seconds) = Rcv id size mtype flags
-received ask = ask
-
 -- Whether a caller may send to the queue of which `IPC_STAT` says this, and if not, why.
 abbrev pub Grants : Cred → Result Attributes Errno → Result ⊤ Errno → Type 0
 Grants cred (Ok stat) (Ok granted) = IsPermitted cred stat.perm Write

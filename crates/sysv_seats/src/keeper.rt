@@ -7,7 +7,7 @@ ghost use Rattle.sysv_wire.specs.Requests.{op_of};
 ghost use Rattle.sysv_session.specs.Answers.{MayAnswer};
 ghost use Rattle.sysv_seats.specs.HandlesKept.{KeepsHandles};
 ghost use Rattle.sysv_session.specs.Answers.{is_message};
-ghost use Rattle.sysv_seats.specs.Holding.{Holder, can_hold as may_hold, received as the_received};
+ghost use Rattle.sysv_seats.specs.Holding.{Holder, can_hold as may_hold};
 ghost use Rattle.sysv_seats.specs.Holding.{back_content as the_back_content, back_outcome as the_back_outcome};
 ghost use Rattle.sysv_seats.specs.Held.{AnyGoesOn, HoldBegun, HoldParked, HoldProgress, IsHoldWaitOf, Spends};
 ghost use Rattle.sysv_seats.specs.Held.{back_progress, held_after, held_at, hold_progress, holder_of};
@@ -161,13 +161,15 @@ impl<'a, C: Clock, R: Wait> Keeper<'a, C, R> {
         let Some(memory) = self.room() else {
             return Progress::Over(refusal(version, Op::Hold, Errno::EAGAIN));
         };
-        if let Err(why) = self.handler.ask_for_writing(cred, id) {
-            return Progress::Over(refusal(version, Op::Hold, why));
+        match self.handler.ask_for_writing(cred, id) {
+            Err(why) => Progress::Over(refusal(version, Op::Hold, why)),
+            Ok(()) => {
+                let came = self
+                    .handler
+                    .begin_receive(version, cred, id, size, mtype, flags, given);
+                self.keep(version, cred, id, came, given, memory)
+            }
         }
-        let came = self
-            .handler
-            .begin_receive(version, cred, id, size, mtype, flags, given);
-        self.keep(version, cred, id, came, given, memory)
     }
 
     /// Begins to give back the message that is held, if there is one: sends it again.
@@ -224,17 +226,74 @@ impl<'a, C: Clock, R: Wait> Keeper<'a, C, R> {
         ensures answer { HoldProgress request.now.version request.now.ask result given.new }
         ensures handles { KeepsHandles self.old.handler self.new.handler }
     {
-        if let Ask::Back = request.ask {
-            return self.back_on(request.version, given, waiting);
+        match request.ask {
+            Ask::Hold {
+                id,
+                size,
+                mtype,
+                flags,
+                seconds,
+            } => self.hold_on(
+                request.version,
+                cred,
+                id,
+                size,
+                mtype,
+                flags,
+                seconds,
+                text,
+                given,
+                waiting,
+            ),
+            Ask::Back => self.back_on(request.version, given, waiting),
+            _beside => self.handler.go_on(request, text, given, waiting),
         }
-        let Ask::Hold { id, .. } = request.ask else {
-            return self.handler.go_on(request, text, given, waiting);
-        };
+    }
+
+    /// Continues a hold that waits: its receive.
+    fn hold_on(
+        &mut self,
+        version: Version,
+        cred: Cred,
+        id: i32,
+        size: u32,
+        mtype: i64,
+        flags: Flags,
+        seconds: u32,
+        text: &Body,
+        given: &mut Body,
+        waiting: Waiting,
+    ) -> Progress<Waiting, RequestOutcome>
+        requires kind { IsHoldWaitOf (Ask.Hold id size mtype flags seconds) waiting }
+        requires short { length text.now ≤ MESSAGE_BYTES }
+        requires empty { given.old ≡ [] }
+        ensures begun { (start : Holder Seen) →
+            HoldParked (C.may self.old.handler.clock.now) cred
+            (Ask.Hold id size mtype flags seconds) text.now start waiting (holder_of self.old) →
+            HoldBegun (C.may self.old.handler.clock.now) version cred
+            (Ask.Hold id size mtype flags seconds) text.now start result given.new
+            (holder_of self.new) }
+        ensures looks { AnyGoesOn (C.may self.old.handler.clock.now) version cred
+            (Ask.Hold id size mtype flags seconds) waiting text.now (holder_of self.old) result
+            given.new (holder_of self.new) }
+        ensures answer { HoldProgress version (Ask.Hold id size mtype flags seconds) result
+            given.new }
+        ensures handles { KeepsHandles self.old.handler self.new.handler }
+    {
         let Some(memory) = self.room() else {
             return Progress::Waits(waiting);
         };
-        let came = self.handler.go_on(&received(request), text, given, waiting);
-        self.keep(request.version, cred, id, came, given, memory)
+        let receive = Request {
+            version,
+            ask: Ask::Rcv {
+                id,
+                size,
+                mtype,
+                flags,
+            },
+        };
+        let came = self.handler.go_on(&receive, text, given, waiting);
+        self.keep(version, cred, id, came, given, memory)
     }
 
     /// Continues a back that waits: the send of the message that is held.
@@ -385,32 +444,6 @@ fn back_content(answer: ReplyContent) -> ReplyContent
     match answer {
         ReplyContent::Snd => ReplyContent::Back,
         answer => answer,
-    }
-}
-
-/// Returns the receive that a hold makes, or another request itself.
-fn received(request: &Request) -> Request
-    ensures ask { result.ask ≡ the_received request.now.ask }
-    ensures version { result.version ≡ request.now.version }
-{
-    let ask = match request.ask {
-        Ask::Hold {
-            id,
-            size,
-            mtype,
-            flags,
-            seconds: _,
-        } => Ask::Rcv {
-            id,
-            size,
-            mtype,
-            flags,
-        },
-        ask => ask,
-    };
-    Request {
-        version: request.version,
-        ask,
     }
 }
 
