@@ -142,10 +142,12 @@ module _ (may : ℕ → Type 0) (may_leave : Type 0) (version : Version) (cred :
       held_count old.message + given_by outcome
       ≡ spent_by outcome + returned_by ask outcome old.message + held_count new.message
   one (Hold id size mtype flags seconds) text old outcome given new (inl refused) =
-      same_count outcome old.message new.message (subst IsNeither (sym refused.2) (refl, refl))
-      (ap (λ (h : Holder Pass). h.message) refused.0)
+      let counts = same_count outcome old.message new.message (subst IsNeither (sym refused.2) (refl, refl))
+      (ap (λ (h : Holder Pass). h.message) refused.0) in
+      omega (arith, counts)
   one (Hold id size mtype flags seconds) text old outcome given new (inr (inl (can, why, asks, is, same, none))) =
-      same_count outcome old.message new.message (subst IsNeither (sym is) (refl, refl)) same
+      let counts = same_count outcome old.message new.message (subst IsNeither (sym is) (refl, refl)) same in
+      omega (arith, counts)
   one (Hold id size mtype flags seconds) text old outcome given new
       (inr (inr (can, came, granted, asks, inl over, is, held))) =
       let none = none_held flags seconds old.message can in

@@ -1,7 +1,7 @@
 -- The pieces of a request of a session that may hold a message, one after another, are the request.
 use Rattle.std.proofs.Common.{◌≡◌, ◌∙◌, ℕ, ℤ, Bool, true, false, List, [], Option, None, Some, inl, inr, refl, sym}
 use Rattle.std.proofs.Common.{Ok, Err}
-use Rattle.std.proofs.Common.{subst, length, arith, ap}
+use Rattle.std.proofs.Common.{subst, subst₂, length, arith, ap}
 use Rattle.std.specs.Prelude.{⊤, ◌≤◌, ◌&&◌, ◌==◌, not, cond, Result}
 use Rattle.sysv_model.specs.declared.cred.Cred.{Cred}
 use Rattle.sysv_model.specs.declared.errno.Errno.{Errno}
@@ -19,6 +19,7 @@ use Rattle.sysv_service.specs.declared.progress.Progress.TheVariants as progress
 use Rattle.sysv_service.specs.Pending.{ReceivesOn}
 use Rattle.sysv_service.specs.Ran.{Pass}
 use Rattle.sysv_steps.specs.declared.receive.ReceiveWait.{ReceiveWait}
+use Rattle.sysv_steps.specs.declared.send.SendWait.{SendWait}
 use Rattle.sysv_steps.specs.Call.{Receives}
 use Rattle.sysv_steps.specs.State.{State}
 use Rattle.sysv_wire.specs.declared.frame.Op.TheVariants as op
@@ -265,6 +266,60 @@ module _ (may : ℕ → Type 0) (version : Version) (cred : Cred) where
       before.at came [] after.at there looks in
       back_begun text message start came after (sym parked.3 ∙ is) begun
       (held ∙ ap (λ (h : Option Message). held_after h came) parked.3)
+
+-- No flags are set.
+none_set : (flags : Flags) → flags.0 ≡ 0 → flags ≡ no_flags
+none_set flags none = cc
+
+module _ (may : ℕ → Type 0) (version : Version) (cred : Cred) where
+  -- The send of what is held was begun, by the parts of the message.
+  pub back_came : (text : List ℕ) (message : Message) (who : Cred) (id mtype : ℤ) (flags : Flags) (body : List ℕ)
+      (before : Holder Pass) (came : Progress Waiting RequestOutcome) (after : Holder Pass)
+      (result : Progress Waiting RequestOutcome) (given : List ℕ) → before.message ≡ Some message →
+      who ≡ message.cred → id ≡ message.id → mtype ≡ message.mtype → flags.0 ≡ 0 → body ≡ message.text →
+      HasBegun may Three who (Snd id mtype flags) body before.at came [] after.at →
+      after.message ≡ held_after before.message came → result ≡ back_progress version came → given ≡ [] →
+      HoldBegun may version cred Back text before result given after
+  back_came text message who id mtype flags body before came after result given is same_cred same_id same_type none
+      same_body begun held told empty =
+      let one = subst (λ (c : Cred). HasBegun may Three c (Snd id mtype flags) body before.at came [] after.at) same_cred
+      begun in
+      let two = subst (λ (i : ℤ). HasBegun may Three message.cred (Snd i mtype flags) body before.at came [] after.at)
+      same_id one in
+      let three = subst (λ (t : ℤ). HasBegun may Three message.cred (Snd message.id t flags) body before.at came []
+      after.at) same_type two in
+      let four = subst (λ (f : Flags). HasBegun may Three message.cred (Snd message.id message.mtype f) body before.at
+      came [] after.at) (none_set flags none) three in
+      let five = subst (λ (b : List ℕ). HasBegun may Three message.cred (Snd message.id message.mtype no_flags) b
+      before.at came [] after.at) same_body four in
+      subst₂ (λ (r : Progress Waiting RequestOutcome) (g : List ℕ). HoldBegun may version cred Back text before r g after)
+      (sym told) (sym empty) (back_begun may version cred text message before came after is five held)
+
+  -- It looked at its count once.
+  pub back_looked : (text : List ℕ) (message : Message) (waiting : Waiting) (wait : SendWait) (body : List ℕ)
+      (before : Holder Pass) (came : Progress Waiting RequestOutcome) (after : Holder Pass)
+      (result : Progress Waiting RequestOutcome) (given : List ℕ) → before.message ≡ Some message →
+      body ≡ message.text → waiting ≡ Send wait → GoesOn may Three (Send wait) body before.at came [] after.at →
+      after.message ≡ held_after before.message came → result ≡ back_progress version came → given ≡ [] →
+      AnyGoesOn may version cred Back waiting text before result given after
+  back_looked text message waiting wait body before came after result given is same_body by_send goes held told empty =
+      let one = subst (λ (w : Waiting). GoesOn may Three w body before.at came [] after.at) (sym by_send) goes in
+      let two = subst (λ (b : List ℕ). GoesOn may Three waiting b before.at came [] after.at) same_body one in
+      inr (message, is, came, two, told, held, empty)
+
+  -- And it has gone on from where it was begun.
+  pub back_came_on : (text : List ℕ) (message : Message) (start : Holder Pass) (waiting : Waiting) (wait : SendWait)
+      (body : List ℕ) (before : Holder Pass) (came : Progress Waiting RequestOutcome) (after : Holder Pass)
+      (result : Progress Waiting RequestOutcome) (given : List ℕ) → before.message ≡ Some message →
+      body ≡ message.text → waiting ≡ Send wait → GoesOn may Three (Send wait) body before.at came [] after.at →
+      after.message ≡ held_after before.message came → result ≡ back_progress version came → given ≡ [] →
+      HoldParked may cred Back text start waiting before → HoldBegun may version cred Back text start result given after
+  back_came_on text message start waiting wait body before came after result given is same_body by_send goes held told
+      empty parked =
+      let one = subst (λ (w : Waiting). GoesOn may Three w body before.at came [] after.at) (sym by_send) goes in
+      let two = subst (λ (b : List ℕ). GoesOn may Three waiting b before.at came [] after.at) same_body one in
+      subst₂ (λ (r : Progress Waiting RequestOutcome) (g : List ℕ). HoldBegun may version cred Back text start r g after)
+      (sym told) (sym empty) (back_on may version cred text message start waiting before came after is two held parked)
 
 -- ---- what is received is short
 

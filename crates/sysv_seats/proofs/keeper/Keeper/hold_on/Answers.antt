@@ -6,19 +6,27 @@ use Rattle.sysv_seats.proofs.HeldPieces.{goes_short, hold_answers, hold_on, wait
 use Rattle.sysv_seats.proofs.keeper.Keeper.hold_on.Goals as goal
 
 pub go_on-came-requires-clause-kind : goal.go_on-came-requires-clause-kind
-go_on-came-requires-clause-kind g c = wait_of_hold _ _ _ _ _ _ c.requires.kind
+go_on-came-requires-clause-kind g c =
+    let id = c.ranges.id in
+    let mtype = c.ranges.mtype in
+    simp to_z-of_z
+    (wait_of_hold c.args.id c.args.size c.args.mtype c.args.flags c.args.seconds c.args.waiting c.requires.kind)
 
 pub keep-requires-clause-short : goal.keep-requires-clause-short
 keep-requires-clause-short g c =
+    let id = c.ranges.id in
+    let mtype = c.ranges.mtype in
+    let answer = simp to_z-of_z at c.go_on-came.ensures.answer in
     goes_short _ _ c.args.id c.args.size c.args.mtype c.args.flags _ _ _ _ _ _
     (wait_of_hold c.args.id c.args.size c.args.mtype c.args.flags c.args.seconds c.args.waiting c.requires.kind)
-    c.go_on-came.ensures.looks c.go_on-came.ensures.answer
+    c.go_on-came.ensures.looks answer
 
 pub returns-clause-begun : goal.returns-clause-begun
 returns-clause-begun g c =
     let id = c.ranges.id in
+    let mtype = c.ranges.mtype in
     let held = simp to_z-of_z at c.keep.ensures.message in
-    let on = c.go_on-came.ensures.begun in
+    let on = simp to_z-of_z at c.go_on-came.ensures.begun in
     rw c.keep.ensures.progress (λ start parked.
     hold_on _ _ c.args.cred c.args.id c.args.size c.args.mtype c.args.flags c.args.seconds c.args.text.now start
     c.args.waiting (holder_of c.args.self.now) c.go_on-came.result c.go_on-came.new.given (holder_of c.keep.new.self)
@@ -32,6 +40,9 @@ returns-clause-looks g c =
 
 pub returns-clause-answer : goal.returns-clause-answer
 returns-clause-answer g c =
+    let id = c.ranges.id in
+    let mtype = c.ranges.mtype in
+    let answer = simp to_z-of_z at c.go_on-came.ensures.answer in
     rw c.keep.ensures.progress
     (hold_answers c.args.version c.args.id c.args.size c.args.mtype c.args.flags c.args.seconds c.go_on-came.result
-    c.go_on-came.new.given c.go_on-came.ensures.answer)
+    c.go_on-came.new.given answer)
