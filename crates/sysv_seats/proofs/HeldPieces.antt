@@ -269,7 +269,7 @@ module _ (may : ℕ → Type 0) (version : Version) (cred : Cred) where
 
 -- No flags are set.
 none_set : (flags : Flags) → flags.0 ≡ 0 → flags ≡ no_flags
-none_set flags none = cc
+none_set flags none = ap (λ (n : ℕ). let f : Flags = record { 0 = n } in f) none
 
 module _ (may : ℕ → Type 0) (version : Version) (cred : Cred) where
   -- The send of what is held was begun, by the parts of the message.

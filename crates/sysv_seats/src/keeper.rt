@@ -283,15 +283,7 @@ impl<'a, C: Clock, R: Wait> Keeper<'a, C, R> {
         let Some(memory) = self.room() else {
             return Progress::Waits(waiting);
         };
-        let receive = Request {
-            version,
-            ask: Ask::Rcv {
-                id,
-                size,
-                mtype,
-                flags,
-            },
-        };
+        let receive = receive_of(version, id, size, mtype, flags);
         let came = self.handler.go_on(&receive, text, given, waiting);
         self.keep(version, cred, id, came, given, memory)
     }
@@ -444,6 +436,22 @@ fn back_content(answer: ReplyContent) -> ReplyContent
     match answer {
         ReplyContent::Snd => ReplyContent::Back,
         answer => answer,
+    }
+}
+
+/// Returns a receive with these fields.
+fn receive_of(version: Version, id: i32, size: u32, mtype: i64, flags: Flags) -> Request
+    ensures ask { result.ask ≡ Ask.Rcv id size mtype flags }
+    ensures version { result.version ≡ version }
+{
+    Request {
+        version,
+        ask: Ask::Rcv {
+            id,
+            size,
+            mtype,
+            flags,
+        },
     }
 }
 

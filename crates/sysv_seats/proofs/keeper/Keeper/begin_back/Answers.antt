@@ -1,5 +1,5 @@
 -- A back has come as far as its send.
-use Rattle.std.proofs.Common.{◌≡◌, [], refl, rules, subst, sym, tt, FitsSigned, w32, w64}
+use Rattle.std.proofs.Common.{◌≡◌, [], refl, rules, subst, sym, FitsSigned, w32, w64}
 use Rattle.std.proofs.lemmas.Int.{to_z-of_z}
 use Rattle.sysv_service.specs.Ran.{Pass}
 use Rattle.sysv_wire.specs.declared.frame.Version.TheVariants.{Three}
