@@ -1,6 +1,8 @@
 -- A session served with a pass makes calls of the service.
-use Rattle.std.proofs.Common.{◌≡◌, ◌∙◌, ℕ, List, [], ◌∷◌, ◌++◌, None, Some, ap, sym, subst, refl, inl, inr}
+use Rattle.std.proofs.Common.{◌≡◌, ◌∙◌, ℕ, ℤ, List, [], ◌∷◌, ◌++◌, None, Some, Result, Ok, Err, ap, sym, subst, refl}
+use Rattle.std.proofs.Common.{inl, inr}
 use Rattle.std.specs.Prelude.{⊤}
+use Rattle.sysv_model.specs.declared.errno.Errno.{Errno}
 use Rattle.std.proofs.lemmas.List.{append-nil, append_assoc}
 use Rattle.sysv_model.specs.declared.cred.Cred.{Cred}
 use Rattle.sysv_model.specs.Turn.{Op}
@@ -22,10 +24,9 @@ use Rattle.sysv_service.specs.Ran.{Pass, Ran}
 use Rattle.sysv_thread_laws.specs.Working as working
 use Rattle.sysv_thread_laws.specs.Working.{Works}
 use Rattle.sysv_seats.specs.Asked.{Asks}
-use Rattle.sysv_seats.specs.Held.{HoldAsks, holds_with}
+use Rattle.sysv_seats.specs.Held.{AsksForWriting, HoldAsks, holds_with}
 use Rattle.sysv_seats.specs.Holding as holding
 use Rattle.sysv_seats.specs.Holding.{Holder, empty_handed, no_flags}
-use Rattle.sysv_seats.specs.Replies.{stat_reply}
 use Rattle.sysv_seats.specs.Sits.{zero_moment}
 use Rattle.sysv_wire.specs.declared.frame.Version.TheVariants.{Three}
 use Rattle.sysv_engine.specs.Made.{log, held_in, MakesCall, ReadsBeside, ShowsBeside, makes_with}
@@ -212,6 +213,24 @@ module _ (may : ℕ → Type 0) (may_leave : Type 0) (any : EachRunIsAtAnyMoment
         holding.HoldAsks MakesCall ReadsBeside ShowsBeside may may_leave version cred ask text (held_in made old)
         outcome given (held_in (made ++ calls) new)
 
+  -- The call that a hold makes before its receive.
+  record AsksMakes (id : ℤ) (old : Pass) (granted : Result ⊤ Errno) (new : Pass) : Type 0 where
+    calls : List Called
+    rests : AllByRecursion Resting calls
+    works : (start : Pass) (made : List Called) → Works start made old → Works start (made ++ calls) new
+    asks : (made : List Called) →
+        holding.AsksForWriting MakesCall ReadsBeside ShowsBeside cred id (log old made) granted (log new (made ++ calls))
+
+  asks_makes : (id : ℤ) (old : Pass) (granted : Result ⊤ Errno) (new : Pass) → AsksForWriting cred id old granted new →
+      AsksMakes id old granted new
+  asks_makes id old granted new (answer, ending, ends, tells, grants) = record {
+    calls = call_of old cred (MsgctlStat id) 0 ends.0 (Over ending) ∷ [];
+    rests = (tt, tt);
+    works = λ start made. one_call no_moment unstamped cred (MsgctlStat id) 0 start old made ends.0 (Over ending) new
+        ends.1;
+    asks = λ made. (answer, ending, (ends.0, ends.1, refl), tells, grants);
+  }
+
   -- The calls of any other request.
   beside : (ask : Ask) (text : List ℕ) (old : Holder Pass) (outcome : RequestOutcome) (given : List ℕ)
       (new : Holder Pass) → Asks may may_leave version cred ask text old.at outcome given new.at →
@@ -229,20 +248,17 @@ module _ (may : ℕ → Type 0) (may_leave : Type 0) (any : EachRunIsAtAnyMoment
     asks = λ made. inl (same_held old new made refused.0, refused.1, refused.2);
   }
   hold_makes (Hold id size mtype flags seconds) text old outcome given new
-      (inr (inl (can, why, (answer, ending, ends, tells, grants), is, same, none))) =
-      let one = makes may may_leave any unstamped version cred (Stat id) text old.at (stat_reply version answer) [] new.at
-      ((answer, ending, ends, tells, refl), refl) in
+      (inr (inl (can, why, asks, is, same, none))) =
+      let one = asks_makes id old.at (Err why) new.at asks in
       record {
         calls = one.calls;
         rests = one.rests;
         works = one.works;
-        asks = λ made. let did = (one.asks made).0 in
-            inr (inl (can, why, (answer, ending, did.2, tells, grants), is, same, none));
+        asks = λ made. inr (inl (can, why, one.asks made, is, same, none));
       }
   hold_makes (Hold id size mtype flags seconds) text old outcome given new
-      (inr (inr (can, came, granted, (answer, ending, ends, tells, grants), receives, is, held))) =
-      let one = makes may may_leave any unstamped version cred (Stat id) text old.at (stat_reply version answer) [] granted
-      ((answer, ending, ends, tells, refl), refl) in
+      (inr (inr (can, came, granted, asks, receives, is, held))) =
+      let one = asks_makes id old.at (Ok tt) granted asks in
       let two = makes may may_leave any unstamped version cred (Rcv id size mtype flags) text granted came given new.at
       receives in
       record {
@@ -251,12 +267,17 @@ module _ (may : ℕ → Type 0) (may_leave : Type 0) (any : EachRunIsAtAnyMoment
         works = λ start made works.
             subst (λ calls. Works start calls new.at) (append_assoc made one.calls two.calls)
             (two.works start (made ++ one.calls) (one.works start made works));
-        asks = λ made. let did = (one.asks made).0 in
-            inr (inr (can, came, log granted (made ++ one.calls), (answer, ending, did.2, tells, grants),
-            subst (λ calls. requests.Asks MakesCall ReadsBeside ShowsBeside may may_leave version cred
-                (Rcv id size mtype flags) text (log granted (made ++ one.calls)) came given (log new.at calls))
-                (append_assoc made one.calls two.calls) (two.asks (made ++ one.calls)),
-            is, held));
+        asks = λ made. inr (inr (
+          can,
+          came,
+          log granted (made ++ one.calls),
+          one.asks made,
+          subst (λ calls. requests.Asks MakesCall ReadsBeside ShowsBeside may may_leave version cred
+              (Rcv id size mtype flags) text (log granted (made ++ one.calls)) came given (log new.at calls))
+              (append_assoc made one.calls two.calls) (two.asks (made ++ one.calls)),
+          is,
+          held,
+        ));
       }
   hold_makes Done text old outcome given new asked = record {
     calls = [];
