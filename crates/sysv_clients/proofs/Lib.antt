@@ -9,3 +9,4 @@ pub mod ClearLemmas
 mod RefusalLemmas
 mod LineLemmas
 mod ObjectLemmas
+mod StatedLemmas

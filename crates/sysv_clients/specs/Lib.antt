@@ -18,6 +18,7 @@ pub mod Stream
 pub mod Taking
 pub mod Feed
 pub mod Lines
+pub mod Stated
 pub mod Sending
 pub mod Window
 pub mod Clearing

@@ -10,6 +10,7 @@ mod fault;
 mod feed;
 mod input_lines;
 mod laws;
+mod line_text;
 mod object;
 mod page;
 mod queue_line;
@@ -17,6 +18,7 @@ mod read_ahead;
 mod rows;
 mod screen;
 mod sending;
+mod stated;
 mod stream;
 mod style;
 mod words;
@@ -28,7 +30,8 @@ pub use fault::ClientFault;
 pub use feed::Feed;
 pub use laws::numerals_of_commands;
 pub use read_ahead::ReadAhead;
-pub use sending::{Cut, Sending, Unsent, send_feed, send_lines};
+pub use sending::{Cut, Sending, Unsent, Wording, send_feed, send_lines};
+pub use stated::OBJECT_BYTES;
 pub use stream::{
     MAX_AHEAD, MAX_MESSAGES, Receiving, Stop, Unshown, receive_all, receive_instrumented,
 };
