@@ -90,6 +90,11 @@ abbrev pub receive_ask : Receipt → ℤ → Ask
 receive_ask receipt found =
     Rcv found receipt.size receipt.mtype (flags_to_receive receipt.nowait receipt.noerror receipt.except)
 
+-- The request of a rcv that holds a message, for as long as the session lasts.
+abbrev pub hold_ask : Receipt → ℤ → Ask
+hold_ask receipt found =
+    Hold found receipt.size receipt.mtype (flags_to_receive receipt.nowait receipt.noerror receipt.except) 0
+
 -- The requests of a rcv of one message.
 abbrev pub receive_asks : Receipt → ℤ → List Ask
 receive_asks receipt found = find_ask receipt ∷ receive_ask receipt found ∷ []

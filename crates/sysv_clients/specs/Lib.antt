@@ -16,6 +16,7 @@ pub mod Blame
 pub mod Calls
 pub mod Stream
 pub mod Taking
+pub mod Holding
 pub mod Feed
 pub mod Lines
 pub mod Stated
