@@ -10,3 +10,4 @@ mod RefusalLemmas
 mod LineLemmas
 mod ObjectLemmas
 mod StatedLemmas
+mod HoldLemmas

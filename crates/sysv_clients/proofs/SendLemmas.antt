@@ -1,5 +1,7 @@
 -- A session of sends in progress, and how it ends.
 use Rattle.std.proofs.Common.{◌≡◌, ℕ, ℤ, pos, List, [], ◌∷◌, ◌++◌, Option, None, Some, Ok, Err, inl, inr, refl, sym, ap}
+use Rattle.std.proofs.Common.{w32, w64, of_z, to_z, FitsSigned}
+use Rattle.std.proofs.lemmas.Int.{to_z-of_z}
 use Rattle.std.proofs.Common.{Result, true, false, subst, ◌∙◌, length, suc, ◌+◌, ◌<◌, append_assoc}
 use Rattle.std.proofs.Common.{append-nil, arith}
 use Rattle.std.proofs.lemmas.List.{length-append, map-append}
@@ -656,10 +658,17 @@ is_next most lines Nothing left rest text is h = cc
 -- The message that the next line states is sent.
 pub next_send : (sending : Sending) (found mtype : ℤ) (ask : Ask) (line text : List ℕ) (left rest : Option (List ℕ))
     → IsNext (line_most sending.wording) line left rest → States sending.wording line mtype text
-    → ask ≡ send_ask sending found mtype
+    → FitsSigned w32 found → FitsSigned w64 mtype
+    → ask ≡ send_ask sending (to_z w32 (of_z w32 found)) (to_z w64 (of_z w64 mtype))
     → IsNextSend sending found (record { ask = ask; text = text }) left rest
-next_send sending found mtype ask line text left rest next states is =
-    record { line = line; mtype = mtype; next = next; states = states; is = is }
+next_send sending found mtype ask line text left rest next states id_fits type_fits is = record {
+  line = line;
+  mtype = mtype;
+  next = next;
+  states = states;
+  is = is ∙ ap (λ (id : ℤ). send_ask sending id (to_z w64 (of_z w64 mtype))) (to_z-of_z w32 found id_fits)
+      ∙ ap (λ (t : ℤ). send_ask sending found t) (to_z-of_z w64 mtype type_fits);
+}
 
 -- Nothing was read.
 pub none_left : (most lines : ℕ) (fetched : Fetched) (left rest : Option (List ℕ)) (text : List ℕ)

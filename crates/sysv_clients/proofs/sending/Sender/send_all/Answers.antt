@@ -1,4 +1,4 @@
-use Rattle.std.proofs.Common.{[], ◌∙◌, arith, refl, sym}
+use Rattle.std.proofs.Common.{[], ◌∙◌, arith, refl, rules, sym}
 use Rattle.std.proofs.lemmas.Result.{err_from_is_err_and}
 use Rattle.sysv_clients.proofs.SendLemmas.{begins, begins_there, ends_unread, is_next, none_after, none_left, not_ahead}
 use Rattle.sysv_clients.proofs.SendLemmas.{ends_unstated, fails_so, fails_unstated, has_space, next_send, same_ahead}
@@ -93,7 +93,18 @@ returns-in-Err-read-clause-sends g c = (
 )
 
 pub returns-in_err-send-clause-sends : goal.returns-in_err-send-clause-sends
-returns-in_err-send-clause-sends g c = let h = c.type_inv in let k = c.loop-lines in let m = c.in-Ok-read in ?
+returns-in_err-send-clause-sends g c =
+    let p = err_from_is_err_and c.from_residual-in_err-send.result c.from_residual-in_err-send.ensures.1 in
+    rw (p.1, p.2) (
+      c.fetch.new.self.chunk,
+      c.in_err-send.ensures.sends c.args.sending.now _ _ _ _ _ _ c.loop-lines.invariant.sends
+          (next_send c.args.sending.now c.loop-lines.window.id c.in-Ok-read.mtype c.send-ask.result
+          c.fetch.new.self.line c.read.new.self.text _ _
+          (is_next _ c.loop-lines.lines c.in-Ok.fetched _ _ c.fetch.new.self.line
+          (sym c.is_nothing.ensures ∙ c.if-is_nothing.false) c.in-Ok.ensures.fetches)
+          c.in-Ok-read.ensures.reads (search rules) (search rules) c.send-ask.ensures)
+          c.loop-lines.invariant.room _,
+    )
 
 pub returns-in_err-send-clause-same_input : goal.returns-in_err-send-clause-same_input
 returns-in_err-send-clause-same_input g c = c.fetch.ensures.same ∙ c.loop-lines.invariant.same_input
@@ -111,7 +122,7 @@ returns-then-not-is_line-clause-sends g c =
     (next_send c.args.sending.now c.loop-lines.window.id c.in-Ok-read.mtype c.send-ask.result
     c.fetch.new.self.line c.read.new.self.text _ _
     (is_next _ c.loop-lines.lines c.in-Ok.fetched _ _ c.fetch.new.self.line some c.in-Ok.ensures.fetches)
-    c.in-Ok-read.ensures.reads c.send-ask.ensures)
+    c.in-Ok-read.ensures.reads (search rules) (search rules) c.send-ask.ensures)
     c.loop-lines.invariant.room in (
       c.fetch.new.self.chunk,
       c.finish-then-not-is_line.ensures.ends c.args.sending.now _ _ _ _ _ sent.0
@@ -142,7 +153,7 @@ returns-in_err-drain-clause-sends g c =
     (next_send c.args.sending.now c.loop-lines.window.id c.in-Ok-read.mtype c.send-ask.result
     c.fetch.new.self.line c.read.new.self.text _ _
     (is_next _ c.loop-lines.lines c.in-Ok.fetched _ _ c.fetch.new.self.line some c.in-Ok.ensures.fetches)
-    c.in-Ok-read.ensures.reads c.send-ask.ensures)
+    c.in-Ok-read.ensures.reads (search rules) (search rules) c.send-ask.ensures)
     c.loop-lines.invariant.room in
     rw (p.1, p.2)
     (c.fetch.new.self.chunk, c.in_err-drain.ensures.drains c.args.sending.now _ _ _ _ sent.0 _)
@@ -164,12 +175,12 @@ loop-lines-preserved g c =
     (next_send c.args.sending.now c.loop-lines.window.id c.in-Ok-read.mtype c.send-ask.result
     c.fetch.new.self.line c.read.new.self.text _ _
     (is_next _ c.loop-lines.lines c.in-Ok.fetched _ _ c.fetch.new.self.line some c.in-Ok.ensures.fetches)
-    c.in-Ok-read.ensures.reads c.send-ask.ensures)
+    c.in-Ok-read.ensures.reads (search rules) (search rules) c.send-ask.ensures)
     c.loop-lines.invariant.room in
     let drained = c.in_ok-drain.ensures.drains c.args.sending.now _ _ _ _ sent.0 in
     record {
       sends = same_ahead c.args.sending.now _ c.fetch.new.self.chunk _ _ _ _ _ _ c.drain.new.window
-          (c.drain.ensures.chunk ∙ c.send.ensures.chunk) drained.0;
+          (c.drain.ensures.chunk ∙ c.send.ensures.chunk ∙ c.read.ensures.chunk) drained.0;
       lines = omega (
         arith,
         c.in_ok-drain.ensures.len,
