@@ -94,9 +94,7 @@ no_hello receiving why given text left rest taken more is exchange = (
   left,
   taken,
   none_made_in Three (IsCallDoneIn Three) (finding_plan receiving) left taken,
-  Hello receiving.cred,
-  refl,
-  unanswered (Hello receiving.cred) why text given left rest taken more is exchange,
+  (Hello receiving.cred, refl, unanswered (Hello receiving.cred) why text given left rest taken more is exchange),
 )
 
 -- The request that finds the queue has a fault.
@@ -113,10 +111,8 @@ not_found receiving welcome why greeted given text left mid rest taken more most
       mid,
       more,
       greets receiving welcome greeted text left mid taken more hello,
-      find_ask receiving.receipt,
-      refl,
-      unanswered (find_ask receiving.receipt) why text given mid rest more most is
-          (as_ask ask (find_ask receiving.receipt) text given (Err why) mid rest more most is_find find),
+      (find_ask receiving.receipt, refl, unanswered (find_ask receiving.receipt) why text given mid rest more most is
+          (as_ask ask (find_ask receiving.receipt) text given (Err why) mid rest more most is_find find)),
     )
 
 -- A message was held.
@@ -211,7 +207,7 @@ begins receiving ask owed left rest taken more shown (opened, made, found, is_as
   found = found;
   is_ask = is_ask;
   are = tt;
-  counts = count;
+  counts = omega (arith, count);
   reads = subst (λ (l : List Call). Consumes left rest (read_in Three l)) (sym (append-nil opened)) made.reads;
   writes = subst (λ (l : List Call). Appends taken more (written_in Three l)) (sym (append-nil opened)) made.writes;
   shows = Appends-nil shown;

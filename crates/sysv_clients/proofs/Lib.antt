@@ -11,3 +11,5 @@ mod LineLemmas
 mod ObjectLemmas
 mod StatedLemmas
 mod HoldLemmas
+mod JsonLemmas
+mod CopyLemmas

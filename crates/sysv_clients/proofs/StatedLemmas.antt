@@ -113,7 +113,7 @@ pub strict : IsStrict standard
 strict = (refl, refl)
 
 -- An encoding is that of one list of bytes.
-one_body : (body other : List ℕ) → IsBytes body → IsBytes other → encode_of standard body ≡ encode_of standard other
+pub one_body : (body other : List ℕ) → IsBytes body → IsBytes other → encode_of standard body ≡ encode_of standard other
     → body ≡ other
 one_body body other bytes others same =
     let decoded = sym (decode_of-encode_of standard body refl bytes)

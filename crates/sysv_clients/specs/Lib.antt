@@ -23,3 +23,4 @@ pub mod Stated
 pub mod Sending
 pub mod Window
 pub mod Clearing
+pub mod Copies

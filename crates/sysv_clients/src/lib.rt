@@ -30,7 +30,7 @@ pub use command::{Command, Form, Format, Making, Receipt, Target, Task};
 pub use fault::ClientFault;
 pub use feed::Feed;
 pub use holding::{Unheld, hold_all, hold_instrumented};
-pub use laws::numerals_of_commands;
+pub use laws::{numerals_of_commands, objects_read_back, queue_is_copied};
 pub use read_ahead::ReadAhead;
 pub use sending::{Cut, Sending, Unsent, Wording, send_feed, send_lines};
 pub use stated::OBJECT_BYTES;

@@ -29,5 +29,5 @@ returns-clause-finds g c =
       c.found.ensures,
     )
     (finds c.args.receiving.now c.in_ok-welcome.welcome c.in_ok-got.got c.exchange_in.new.given
-    c.exchange_in-2.new.given c.args.self.now.text _ _ _ _ _ c.find-find.result c.in_ok-welcome.ensures.exchanges
+    c.exchange_in-2.new.given c.args.self.now.text _ _ _ _ _ _ c.find-find.result c.in_ok-welcome.ensures.exchanges
     c.find-find.ensures c.in_ok-got.ensures.exchanges)

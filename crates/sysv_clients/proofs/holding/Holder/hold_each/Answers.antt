@@ -11,7 +11,7 @@ returns-in_err-ask-clause-holds g c =
 
 pub loop-owed-init : goal.loop-owed-init
 loop-owed-init g c = record {
-  holds = begins c.args.receiving.now c.in_ok-ask.ask _ _ _ _ _ _ c.in_ok-ask.ensures.finds c.messages.ensures;
+  holds = begins c.args.receiving.now c.in_ok-ask.ask _ _ _ _ _ _ c.in_ok-ask.ensures.finds c.messages-owed.ensures;
   text = c.find.ensures.text ∙ c.requires.text;
   page = c.find.ensures.page ∙ c.requires.page;
   screen = record { same = refl; failed = refl };

@@ -6,7 +6,7 @@ use Rattle.sysv_clients.proofs.holding.Holder.hold_each.Given as goal
 
 abbrev pub invariant-loop-owed : goal.invariant-loop-owed
 invariant-loop-owed g l = record {
-  holds : Holds l.fn.receiving.now l.before.ask l.owed
+  holds : Holds l.receiving l.ask l.owed
       (g.R.Read.remaining l.fn.reader) (g.R.Read.remaining l.reader)
       (g.W.Write.contents (stream_of l.fn.writer)) (g.W.Write.contents (stream_of l.writer))
       (g.S.Write.contents (stream_of l.fn.screen)) (g.S.Write.contents (stream_of l.screen));
