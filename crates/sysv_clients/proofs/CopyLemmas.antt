@@ -16,7 +16,6 @@ use Rattle.std.specs.Str.{is_utf8}
 use Rattle.base64.specs.Engines.{standard}
 use Rattle.base64.specs.GeneralPurpose.{IsBytes, encode_of}
 use Rattle.base64.specs.Rfc4648.{encode_symbols, padding_len}
-use Rattle.base64.specs.declared.engine.general_purpose.tables.TheConstants.{STANDARD_ENCODE}
 use Rattle.base64.proofs.EngineFacts.{IsAscii-encode_of}
 use Rattle.base64.proofs.RoundTrip.{length-encode_symbols}
 use Rattle.json.specs.Lex.{Lexeme, between, colon, comma, fresh, in_string, lex, punctuate, string_token, token, tokens}
@@ -39,7 +38,7 @@ use Rattle.sysv_clients.specs.Stated.{IsObjectOf, IsObjectWith, States, StatesBo
 use Rattle.sysv_clients.specs.Stated.{object_tokens, text_member, type_member}
 use Rattle.sysv_clients.specs.Words.{IsType}
 use Rattle.sysv_clients.proofs.JsonLemmas.{IsUtf8-json, are_high, content-json, high-append, high-json, json-coded}
-use Rattle.sysv_clients.proofs.JsonLemmas.{lex-json}
+use Rattle.sysv_clients.proofs.JsonLemmas.{lex-json, table}
 use Rattle.sysv_clients.proofs.ObjectLemmas.{member_bytes, member_text, text_most}
 use Rattle.sysv_clients.proofs.StatedLemmas.{one_body, other_key}
 use Rattle.sysv_model.specs.declared.limits.TheConstants.{MESSAGE_BYTES}
@@ -216,9 +215,9 @@ coded_most : (body : List ℕ) → length body ≤ MESSAGE_BYTES → length (enc
 coded_most body short =
     omega (
       arith,
-      length-append (encode_symbols STANDARD_ENCODE body) (replicate (padding_len (length body)) 61),
-      length-encode_symbols STANDARD_ENCODE body,
-      length-replicate (padding_len (length body)) 61,
+      length-append (encode_symbols table body) (replicate (padding_len (length body)) 61),
+      length-encode_symbols table body,
+      length-replicate {A = ℕ} (padding_len (length body)) 61,
       short,
     )
 
@@ -239,11 +238,9 @@ bytes_back n body some small short bytes other =
         digits = decimal n;
         member = coded_member coded;
         utf8 = fits.utf8;
-        object = inl (
-          subst (λ (l : List ℕ). tokens (line_of (decimal n) (codes ",\"base64\":\"") l)
-              ≡ object_tokens (type_member (decimal n)) (coded_member coded)) same
-              (tokens_coded (decimal n) coded (is_number n small)),
-        );
+        object = inl (subst (λ (l : List ℕ). tokens (line_of (decimal n) (codes ",\"base64\":\"") l)
+            ≡ object_tokens (type_member (decimal n)) (coded_member coded)) same
+            (tokens_coded (decimal n) coded (is_number n small)));
         has_type = has_type n some small;
         has_body = inr (bytes, refl);
         short = short;
@@ -360,19 +357,19 @@ no_next most (byte ∷ line) (Some rest) (fits, inl read) = cc read
 no_next most [] (Some rest) (fits, inr (some, read, end)) = some refl
 no_next most (byte ∷ line) (Some rest) (fits, inr (some, read, end)) = cc read
 
+one_left : (message : Message) (more : List Message) (end : Option (List ℕ)) →
+    ¬ HasNone (Some (objects_of (message ∷ more))) end
+unfolding object_line
+one_left message more None none = none.0
+one_left message more (Some rest) none =
+    let same = none.0 ∙ none.1 in cc same
+
 -- Something is left of an input that has a further object.
 none_left : (later : List Message) (rest end : Option (List ℕ)) → rest ≡ Some (objects_of later) → HasNone rest end
     → later ≡ []
 none_left [] rest end is none = refl
 none_left (message ∷ more) rest end is none =
-    absurd (none_of message more end (subst (λ (r : Option (List ℕ)). HasNone r end) is none))
-  where
-    none_of : (message : Message) (more : List Message) (end : Option (List ℕ)) →
-        ¬ HasNone (Some (objects_of (message ∷ more))) end
-    unfolding object_line
-    none_of message more None none = none.0
-    none_of message more (Some rest) none =
-        let read = none.0 in let ended = none.1 in let same = read ∙ ended in cc same
+    absurd (one_left message more end (subst (λ (r : Option (List ℕ)). HasNone r end) is none))
 
 -- Nothing more was sent.
 stops : (sending : Sending) (found : ℤ) (messages : List Message) (rest : Option (List ℕ))
