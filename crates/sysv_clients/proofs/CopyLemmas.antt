@@ -1,8 +1,8 @@
 -- What a rcv prints of a message is read back, and a snd that reads what it prints copies a queue.
-use Rattle.std.proofs.Common.{◌≡◌, ◌≢◌, ◌<◌, ◌≤◌, ◌+◌, ◌*◌, ◌-◌, ◌/◌, ◌%◌, ◌∙◌, ◌==◌, not, ltb, ℕ, ℤ, pos}
-use Rattle.std.proofs.Common.{Bool, true, false, List, [], ◌∷◌, ◌++◌, length, slice_index, replicate, Option, Some, None}
-use Rattle.std.proofs.Common.{inl, inr, refl, sym, ap, ap₂, subst, arith, append_assoc, append-nil, length-append, codes}
-use Rattle.std.proofs.Common.{IsUtf8, decimal, ◌^◌}
+use Rattle.std.proofs.Common.{◌≡◌, ◌≢◌, ◌<◌, ◌≤◌, ◌+◌, ◌%◌, ◌∙◌, ◌==◌, not, ltb, ℕ, ℤ, pos}
+use Rattle.std.proofs.Common.{Bool, true, false, List, [], ◌∷◌, ◌++◌, length, slice_index, replicate, Option, Some}
+use Rattle.std.proofs.Common.{None, inl, inr, refl, sym, ap, ap₂, subst, arith, append_assoc, append-nil}
+use Rattle.std.proofs.Common.{length-append, codes, IsUtf8, decimal, ◌^◌}
 use Rattle.std.proofs.lemmas.Bool.{and_parts, false≢true, le-ltb, ltb-false, ne_eqb, not-true}
 use Rattle.std.proofs.lemmas.Fmt.{IsAscii-decimal, decimal_by_steps, decimal_is_IsNumeral, first_decimal}
 use Rattle.std.proofs.lemmas.Fmt.{length-decimal-le}
@@ -10,8 +10,7 @@ use Rattle.std.proofs.lemmas.List.{length-replicate}
 use Rattle.std.proofs.lemmas.List.Elements.{All-cons, All-head, All-nil, All-tail}
 use Rattle.std.proofs.lemmas.Int.{ints}
 use Rattle.std.proofs.lemmas.Str.{IsUtf8-append, IsUtf8-from_ascii, IsUtf8-from_is_utf8, is_utf8-from_IsUtf8}
-use Rattle.std.specs.Fmt.{signed_decimal}
-use Rattle.std.specs.Io.KnownBytes.{Consumes, IsAtEnd}
+use Rattle.std.specs.Io.KnownBytes.{Consumes}
 use Rattle.std.specs.Str.{is_utf8}
 use Rattle.base64.specs.Engines.{standard}
 use Rattle.base64.specs.GeneralPurpose.{IsBytes, encode_of}
@@ -30,7 +29,7 @@ use Rattle.sysv_clients.specs.declared.sending.Wording.{Wording}
 use Rattle.sysv_clients.specs.declared.sending.Wording.TheVariants.{Objects}
 use Rattle.sysv_clients.specs.declared.stated.TheConstants.{OBJECT_BYTES}
 use Rattle.sysv_clients.specs.Copies.{AreCopied, AreMessages, IsCopied, IsMessage, IsReadBack, Message, StatesOne}
-use Rattle.sysv_clients.specs.Copies.{objects_of, sends_of}
+use Rattle.sysv_clients.specs.Copies.{objects_of}
 use Rattle.sysv_clients.specs.Lines.{HasNoEnd, HasNone, IsNext}
 use Rattle.sysv_clients.specs.Object.{body_member, json_text, object_line}
 use Rattle.sysv_clients.specs.Sending.{AreSends, IsNextSend, Sent, send_ask}
@@ -43,6 +42,7 @@ use Rattle.sysv_clients.proofs.ObjectLemmas.{member_bytes, member_text, text_mos
 use Rattle.sysv_clients.proofs.StatedLemmas.{one_body, other_key}
 use Rattle.sysv_model.specs.declared.limits.TheConstants.{MESSAGE_BYTES}
 use Rattle.sysv_wire.specs.declared.request.Ask.{Ask}
+use Rattle.sysv_words.specs.Words.{IsInt64}
 
 -- ---- the tokens of a line
 
@@ -86,7 +86,8 @@ string_read text =
     (lex-json text (125 ∷ []) ∙ lex_end)
 
 tokens_text : (digits text : List ℕ) → IsNumber digits →
-    tokens (line_of digits (codes ",\"body\":\"") (json_text text)) ≡ object_tokens (type_member digits) (text_member text)
+    tokens (line_of digits (codes ",\"body\":\"") (json_text text))
+    ≡ object_tokens (type_member digits) (text_member text)
 tokens_text digits text is_number =
     ap (punctuate fresh)
     (lex_type (digits ++ (codes ",\"body\":\"" ++ (json_text text ++ 34 ∷ 125 ∷ [])))
@@ -144,7 +145,8 @@ fit n member text small ascii high few utf8 high_text short =
     let digits_few : length (decimal n) ≤ 19 =
     length-decimal-le 19 n (omega arith) (omega (arith, small)) (omega (arith, small)) in
     record {
-      utf8 = IsUtf8-append (codes "{\"type\":") (decimal n ++ (member ++ after)) (IsUtf8-are_ascii (codes "{\"type\":") refl)
+      utf8 = IsUtf8-append (codes "{\"type\":") (decimal n ++ (member ++ after))
+          (IsUtf8-are_ascii (codes "{\"type\":") refl)
           (IsUtf8-append (decimal n) (member ++ after) digits_utf8
           (IsUtf8-append member after (IsUtf8-are_ascii member ascii) after_utf8));
       high = high-append (codes "{\"type\":") (decimal n ++ (member ++ after)) refl
@@ -163,13 +165,16 @@ fit n member text small ascii high few utf8 high_text short =
 
 -- ---- a message is read back
 
-has_type : (n : ℕ) → 1 ≤ n → n ≤ 9223372036854775807 → IsType (decimal n) (pos n)
-has_type n some small =
+has_number : (n : ℕ) → 1 ≤ n → n ≤ 9223372036854775807 → IsInt64 (decimal n) (pos n)
+has_number n some small =
     let numeral = decimal_is_IsNumeral n (omega (arith, small)) in
     let first : 48 < slice_index (decimal n) 0 = first_decimal n (omega (arith, some)) (omega (arith, small)) in
     let plain : (slice_index (decimal n) 0 == 45) ≡ false =
     ne_eqb (slice_index (decimal n) 0) 45 (λ is. omega (arith, is, first)) in
-    (((rw plain numeral.0, rw plain (ap pos numeral.1)), record { sfits = omega (arith, small) }), omega (arith, ints, some))
+    ((rw plain numeral.0, rw plain (ap pos numeral.1)), record { sfits = omega (arith, small) })
+
+has_type : (n : ℕ) → 1 ≤ n → n ≤ 9223372036854775807 → IsType (decimal n) (pos n)
+has_type n some small = (has_number n some small, omega (arith, ints, some))
 
 -- The object is the line and an LF.
 as_line : (n : ℕ) (body member text : List ℕ) → body_member body ≡ member ++ (text ++ codes "\"")

@@ -1,5 +1,5 @@
 -- A session that holds messages in progress, and how it ends.
-use Rattle.std.proofs.Common.{◌≡◌, ℕ, pos, ◌+◌, ◌<◌, ◌≤◌, List, [], ◌∷◌, ◌++◌, length, Option, None, Some}
+use Rattle.std.proofs.Common.{◌≡◌, ℕ, pos, ◌+◌, ◌<◌, List, [], ◌∷◌, ◌++◌, length, Option, None}
 use Rattle.std.proofs.Common.{Result, Ok, Err, inl, inr, refl, sym, ap, subst, ◌∙◌, append_assoc, append-nil, arith}
 use Rattle.std.proofs.lemmas.List.{length-append}
 use Rattle.std.specs.Prelude.{⊤}
@@ -111,8 +111,12 @@ not_found receiving welcome why greeted given text left mid rest taken more most
       mid,
       more,
       greets receiving welcome greeted text left mid taken more hello,
-      (find_ask receiving.receipt, refl, unanswered (find_ask receiving.receipt) why text given mid rest more most is
-          (as_ask ask (find_ask receiving.receipt) text given (Err why) mid rest more most is_find find)),
+      (
+        find_ask receiving.receipt,
+        refl,
+        unanswered (find_ask receiving.receipt) why text given mid rest more most is
+            (as_ask ask (find_ask receiving.receipt) text given (Err why) mid rest more most is_find find),
+      ),
     )
 
 -- A message was held.
@@ -313,31 +317,41 @@ ends_at_next receiving style ask owed (Fault (Refused error)) left mid rest take
     some next =
     let counts = so_far.counts in
     ends receiving ask owed (Err (Fault (Refused error))) left mid rest taken more most shown after later so_far
-    (inr (so_far.found, omega (arith, counts, some),
-    subst (λ (a : Ask). HoldsOne style a (Err (Fault (Refused error))) mid rest more most after later) so_far.is_ask
-    next))
+    (inr (
+      so_far.found,
+      omega (arith, counts, some),
+      subst (λ (a : Ask). HoldsOne style a (Err (Fault (Refused error))) mid rest more most after later) so_far.is_ask
+          next,
+    ))
 ends_at_next receiving style ask owed (Fault NoReply) left mid rest taken more most shown after later is so_far some
     next =
     let counts = so_far.counts in
     ends receiving ask owed (Err (Fault NoReply)) left mid rest taken more most shown after later so_far
-    (inr (so_far.found, omega (arith, counts, some),
-    subst (λ (a : Ask). HoldsOne style a (Err (Fault NoReply)) mid rest more most after later) so_far.is_ask next))
+    (inr (
+      so_far.found,
+      omega (arith, counts, some),
+      subst (λ (a : Ask). HoldsOne style a (Err (Fault NoReply)) mid rest more most after later) so_far.is_ask next,
+    ))
 ends_at_next receiving style ask owed (Fault NoMemory) left mid rest taken more most shown after later is so_far some
     next = absurd next.0
 ends_at_next receiving style ask owed (Screen unshown) left mid rest taken more most shown after later is so_far some
     next =
     let counts = so_far.counts in
-    ends receiving ask owed (Err (Screen unshown)) left mid rest taken more most shown after later so_far
-    (so_far.found, omega (arith, counts, some),
-    subst (λ (s : Style). FailsAtHeld s (holding_ask receiving so_far.opened) mid rest more most after later) is
-    (subst (λ (a : Ask). FailsAtHeld style a mid rest more most after later) so_far.is_ask next))
+    ends receiving ask owed (Err (Screen unshown)) left mid rest taken more most shown after later so_far (
+      so_far.found,
+      omega (arith, counts, some),
+      subst (λ (s : Style). FailsAtHeld s (holding_ask receiving so_far.opened) mid rest more most after later) is
+          (subst (λ (a : Ask). FailsAtHeld style a mid rest more most after later) so_far.is_ask next),
+    )
 ends_at_next receiving style ask owed (Undone why) left mid rest taken more most shown after later is so_far some
     next =
     let counts = so_far.counts in
-    ends receiving ask owed (Err (Undone why)) left mid rest taken more most shown after later so_far
-    (so_far.found, omega (arith, counts, some),
-    subst (λ (s : Style). IsUndone s (holding_ask receiving so_far.opened) why mid rest more most after later) is
-    (subst (λ (a : Ask). IsUndone style a why mid rest more most after later) so_far.is_ask next))
+    ends receiving ask owed (Err (Undone why)) left mid rest taken more most shown after later so_far (
+      so_far.found,
+      omega (arith, counts, some),
+      subst (λ (s : Style). IsUndone s (holding_ask receiving so_far.opened) why mid rest more most after later) is
+          (subst (λ (a : Ask). IsUndone style a why mid rest more most after later) so_far.is_ask next),
+    )
 
 -- The session ends before the first hold.
 breaks_before : (receiving : Receiving) (why : ClientFault) (opened : List Call)

@@ -1,7 +1,8 @@
 -- The bytes of a JSON string are read back: what the grammar of the kit's crate makes of them.
-use Rattle.std.proofs.Common.{◌≡◌, ◌≢◌, ◌⊎◌, ◌<◌, ◌≤◌, ◌+◌, ◌*◌, ◌/◌, ◌%◌, ◌∙◌, ℕ, zero, suc, Bool, true, false, cond}
+use Rattle.std.proofs.Common.{◌≡◌, ◌≢◌, ◌<◌, ◌≤◌, ◌+◌, ◌*◌, ◌/◌, ◌%◌, ◌∙◌, ℕ, zero, suc, Bool, true, false, cond}
 use Rattle.std.proofs.Common.{◌&&◌, ◌||◌, ◌==◌, not, ltb, List, [], ◌∷◌, ◌++◌, length, get_or, slice_index, replicate}
-use Rattle.std.proofs.Common.{Option, None, Some, inl, inr, refl, sym, ap, ap₂, subst, arith, append_assoc, append-nil, IsUtf8}
+use Rattle.std.proofs.Common.{Option, None, Some, inl, inr, refl, sym, ap, ap₂, subst, arith, append_assoc}
+use Rattle.std.proofs.Common.{append-nil, IsUtf8}
 use Rattle.std.proofs.lemmas.Bool.{and_from, and_parts, cases_eq, cases_lt, eqb-false, eqb-true, false≢true, le-ltb}
 use Rattle.std.proofs.lemmas.Bool.{lt-leb, lt-ltb, ltb-false, ne_eqb, not-true, or_parts}
 use Rattle.std.proofs.lemmas.Str.{IsUtf8-append, IsUtf8-encode, IsUtf8-nil, encode_ascii, inside_one}
@@ -52,8 +53,12 @@ read_escape : (high low byte : ℕ) (r : List ℕ) → code_unit 48 48 high low 
     → content plain (escape high low ++ r) ≡ prepend (byte ∷ []) (content plain r)
 unfolding content
 read_escape high low byte r unit small =
-    rw (unit, lt-leb 0xd800 byte (omega (arith, small)), lt-leb 0xdc00 byte (omega (arith, small)),
-    encode_ascii byte small) refl
+    rw (
+      unit,
+      lt-leb 0xd800 byte (omega (arith, small)),
+      lt-leb 0xdc00 byte (omega (arith, small)),
+      encode_ascii byte small,
+    ) refl
 
 lex_zeros : (r : List ℕ) → lex in_string (92 ∷ 117 ∷ 48 ∷ 48 ∷ r) ≡ lex in_string r
 unfolding lex
@@ -99,8 +104,11 @@ all_controls = refl
 control_text : (byte : ℕ) → byte < 32 → json_byte byte ≡ escape (glyph (byte / 16)) (glyph (byte % 16))
 unfolding json_byte
 control_text byte small =
-    rw (ne_eqb byte 34 (λ e. omega (arith, e, small)), ne_eqb byte 92 (λ e. omega (arith, e, small)),
-    lt-ltb byte 32 small) refl
+    rw (
+      ne_eqb byte 34 (λ e. omega (arith, e, small)),
+      ne_eqb byte 92 (λ e. omega (arith, e, small)),
+      lt-ltb byte 32 small,
+    ) refl
 
 control : (byte : ℕ) → byte < 32 → Passes byte
 control byte small =
@@ -205,8 +213,10 @@ high_byte : (byte : ℕ) → are_high (json_byte byte) ≡ true
 high_byte byte = elim (cases_lt byte 128) [
   | inl small ↦ (escape_below 128 all_escapes byte small).0
   | inr big ↦
-      rw (itself byte (λ e. omega (arith, e, big)) (λ e. omega (arith, e, big)) (omega (arith, big)),
-      le-ltb byte 32 (omega (arith, big))) refl
+      rw (
+        itself byte (λ e. omega (arith, e, big)) (λ e. omega (arith, e, big)) (omega (arith, big)),
+        le-ltb byte 32 (omega (arith, big)),
+      ) refl
 ]
 
 pub high-json : (text : List ℕ) → are_high (json_text text) ≡ true

@@ -26,7 +26,7 @@ use Rattle.sysv_clients.specs.Lines.{FailsBy, Fetches, HasNone, IsNext, is_line,
 use Rattle.sysv_clients.specs.Sending.{SendsAhead, AreDone, AreSends, EndsReplies, EndsSends, HasReply, IsNextSend}
 use Rattle.sysv_clients.specs.Sending.{SendsAll, Sent, a_send, find_to_send, frames_of, opening_plan, send_ask, sent_by}
 use Rattle.sysv_clients.specs.Sending.{window_of}
-use Rattle.sysv_clients.specs.Stated.{States, StatesNone, line_most}
+use Rattle.sysv_clients.specs.Stated.{States, line_most}
 use Rattle.sysv_clients.specs.Dialogue.{Exchanges, HasNoReply, Hears, IsDone, id_after, reply_to}
 use Rattle.sysv_clients.specs.Window.{EndsCut, EndsLines, IsCut, Opens, ReadsMessage, Sends, lost}
 use Rattle.sysv_clients.proofs.CallLemmas.{call_of, done_more, none_made, read_more, written_more}
@@ -593,8 +593,7 @@ finishes sending (Err (Long before)) lines left rest taken more fed unsent unfed
     settled sending (Err (Long before)) left rest taken more fed unsent unfed window so_far none
     (are_done sending left rest taken more fed unsent window so_far, ends.0 ∙ sym all ∙ so_far.many, ends.1, ends.2)
 finishes sending (Err (NoObject before)) lines left rest taken more fed unsent unfed window so_far none all ends =
-    settled sending (Err (NoObject before)) left rest taken more fed unsent unfed window so_far none
-    (
+    settled sending (Err (NoObject before)) left rest taken more fed unsent unfed window so_far none (
       are_done sending left rest taken more fed unsent window so_far,
       ends.0 ∙ sym all ∙ so_far.many,
       ends.1,

@@ -1,17 +1,17 @@
 -- What the tokens of a line say of the message that it states.
-use Rattle.std.proofs.Common.{◌≡◌, ◌≤◌, ◌<◌, ◌∙◌, ℕ, ℤ, Bool, true, false, List, [], ◌∷◌, ◌++◌, Ok, Err, inl, inr, ◌⊎◌}
-use Rattle.std.proofs.Common.{length, refl, sym, ap, subst, arith, codes}
+use Rattle.std.proofs.Common.{◌≡◌, ◌≤◌, ◌<◌, ◌∙◌, ℕ, ℤ, Bool, true, false, List, ◌∷◌, ◌++◌, Err, inl, inr}
+use Rattle.std.proofs.Common.{length, refl, sym, ap, subst, arith}
 use Rattle.std.specs.Bool.{MatchBool}
 use Rattle.base64.specs.declared.decode.DecodeError.{DecodeError}
 use Rattle.base64.specs.Engines.{standard}
 use Rattle.base64.specs.GeneralPurpose.{IsBytes, IsStrict, decode_of, encode_of}
 use Rattle.base64.proofs.EngineFacts.{decode_of-encode_of}
 use Rattle.json.specs.Lex.{tokens}
-use Rattle.json.specs.Token.{Token, begin_object, end_object, key}
+use Rattle.json.specs.Token.{Token, begin_object, key}
 use Rattle.sysv_clients.specs.declared.stated.Part.{Part}
 use Rattle.sysv_clients.specs.declared.stated.Part.TheVariants.{Digits, Body}
 use Rattle.sysv_clients.specs.declared.stated.Stated.TheVariants.{Text, Coded}
-use Rattle.sysv_clients.specs.Stated.{HasNoMember, HasNoMembers, IsObjectOf, IsObjectWith, StatesBody, body_tokens}
+use Rattle.sysv_clients.specs.Stated.{HasNoMember, HasNoMembers, IsObjectOf, IsObjectWith, StatesBody}
 use Rattle.sysv_clients.specs.Stated.{coded_member, member_tokens, text_member, type_member}
 use Rattle.sysv_model.specs.declared.limits.TheConstants.{MESSAGE_BYTES}
 

@@ -1,7 +1,7 @@
 -- A rcv that holds each message until it was shown (this project's programs): what is requested, how the
 -- session ends, and what is shown. Its requests are of version 3. A message is done only after it was
 -- shown whole; otherwise the server sends it to its queue again.
-use Rattle.std.specs.Prelude.{◌≡◌, ◌⊎◌, ◌<◌, ◌≤◌, ⊤, ℕ, ℤ, Bool, true, false, List, [], ◌∷◌, ◌++◌, length, Option, None}
+use Rattle.std.specs.Prelude.{◌≡◌, ◌⊎◌, ◌<◌, ◌≤◌, ⊤, ℕ, Bool, true, false, List, [], ◌∷◌, ◌++◌, length, Option, None}
 use Rattle.std.specs.Prelude.{Result, Ok, Err, flat_map}
 use Rattle.std.specs.Io.KnownBytes.{Appends, Consumes}
 use Rattle.sysv_clients.specs.declared.fault.ClientFault.{ClientFault}

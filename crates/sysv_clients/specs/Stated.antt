@@ -58,6 +58,11 @@ abbrev pub line_most : Wording → ℕ
 line_most (Bodies mtype) = MESSAGE_BYTES
 line_most Objects = OBJECT_BYTES
 
+-- The number of bytes for whose strings memory is allocated before the first line.
+abbrev pub strings_most : Wording → ℕ
+strings_most (Bodies mtype) = 0
+strings_most Objects = OBJECT_BYTES
+
 -- The line states a message of this type with this body.
 abbrev pub States : Wording → List ℕ → ℤ → List ℕ → Type 0
 States (Bodies own) line mtype body = (mtype ≡ own) × (body ≡ line)

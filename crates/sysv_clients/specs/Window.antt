@@ -20,7 +20,6 @@ use Rattle.sysv_clients.specs.Stated.{States, StatesNone, line_most}
 use Rattle.sysv_clients.specs.Dialogue.{HasNoReply, IsDone, reply_to}
 use Rattle.sysv_wire.specs.declared.reply.ReplyContent.{ReplyContent}
 use Rattle.sysv_wire.specs.declared.reply.ReplyContent.TheVariants as content
-use Rattle.sysv_wire.specs.declared.request.Ask.{Ask}
 use Rattle.sysv_wire.specs.Replies.{reply_encoding}
 
 -- A send ended the session.

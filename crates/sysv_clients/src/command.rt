@@ -263,8 +263,8 @@ impl Receipt {
         }
     }
 
-    /// Returns the request that holds a message of the queue with this identifier, for as long as the
-    /// session lasts.
+    /// Returns the request that holds a message of the queue with this identifier, for as long as
+    /// the session lasts.
     pub(crate) fn hold(&self, id: i32) -> Ask
         ensures { result ≡ hold_ask self.now id }
     {

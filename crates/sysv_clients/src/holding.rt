@@ -1,5 +1,5 @@
-//! A `rcv` that holds each message until it was shown: a session that says that a message is done only
-//! after that, so that a message that could not be shown goes back to its queue.
+//! A `rcv` that holds each message until it was shown: a session that says that a message is done
+//! only after that, so that a message that could not be shown goes back to its queue.
 
 ghost use Rattle.std.specs.Prelude.{◌≡◌, ◌≤◌, List, ℕ, Option, [], is_err, length, IfOk, IfErr, OnOk, OnErr};
 ghost use Rattle.std.specs.Io.KnownBytes.{Appends};
@@ -34,7 +34,8 @@ pub enum Unheld {
     /// The screen failed at a message. That message goes back to its queue.
     #[error("cannot write")]
     Screen(Unshown),
-    /// The request that says that a message is done ends it. The message was shown, and may come back.
+    /// The request that says that a message is done ends it. The message was shown, and may come
+    /// back.
     #[error("{0}")]
     Undone(ClientFault),
 }
@@ -72,22 +73,23 @@ impl Unheld {
     }
 }
 
-/// Receives messages over one session, each by a hold, and shows each on `screen`. A message is done
-/// only after it was written and flushed; the server sends any other one to its queue again.
+/// Receives messages over one session, each by a hold, and shows each on `screen`. A message is
+/// done only after it was written and flushed; the server sends any other one to its queue again.
 ///
-/// The client writes a hello, the request that finds the queue, and for each message a hold and then a
-/// done, all of version 3. It flushes each request and reads its reply before it writes the next one,
-/// whatever `receiving.ahead` is. Only messages are written to the screen.
+/// The client writes a hello, the request that finds the queue, and for each message a hold and
+/// then a done, all of version 3. It flushes each request and reads its reply before it writes the
+/// next one, whatever `receiving.ahead` is. Only messages are written to the screen.
 ///
 /// # Errors
 ///
 /// The messages before were shown and done.
 ///
-/// - `Fault`: the hello, the request that finds the queue or a hold is refused, cannot be written or has
-///   no reply. A server that lets its clients hold no messages ends the session at the hello. Or memory
-///   was refused; it is allocated first, so nothing was written to the server or read.
-/// - `Screen`: the screen failed at a message, of which it has taken a prefix. Nothing was requested or
-///   read after its hold.
+/// - `Fault`: the hello, the request that finds the queue or a hold is refused, cannot be written
+///   or has no reply. A server that lets its clients hold no messages ends the session at the
+///   hello. Or memory was refused; it is allocated first, so nothing was written to the server or
+///   read.
+/// - `Screen`: the screen failed at a message, of which it has taken a prefix. Nothing was
+///   requested or read after its hold.
 /// - `Undone`: a done is refused, cannot be written or has no reply. Its message was shown whole.
 pub fn hold_all<R: Read, W: Write, S: Write>(
     alloc: Global,
@@ -109,8 +111,8 @@ pub fn hold_all<R: Read, W: Write, S: Write>(
     )
 }
 
-/// Receives messages like `hold_all`. The result is `Screen` exactly if the screen failed, and it failed
-/// at most once.
+/// Receives messages like `hold_all`. The result is `Screen` exactly if the screen failed, and it
+/// failed at most once.
 ///
 /// # Errors
 ///

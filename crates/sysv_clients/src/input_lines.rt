@@ -157,8 +157,8 @@ impl Chunk {
     }
 }
 
-/// Reads a line of at most `most` bytes, without its LF, after this number of lines. The input is read
-/// only if the chunk has no whole line.
+/// Reads a line of at most `most` bytes, without its LF, after this number of lines. The input is
+/// read only if the chunk has no whole line.
 ///
 /// # Errors
 ///

@@ -10,8 +10,8 @@ pub fn numerals_of_commands()
     ensures requests { MAX_REQUESTS ≡ MAX_ROWS + 1 }
 {}
 
-/// States that what `rcv --json` prints of a message is a line in which `snd --json` reads this very
-/// message, and that no line states two messages.
+/// States that what `rcv --json` prints of a message is a line in which `snd --json` reads this
+/// very message, and that no line states two messages.
 pub fn objects_read_back()
     ensures written { (message : Message) → IsMessage message → IsReadBack message }
     ensures one { (line : List ℕ) → StatesOne line }

@@ -10,7 +10,8 @@ ghost use Rattle.sysv_clients.specs.declared.sending.Unsent.TheVariants as unsen
 ghost use Rattle.sysv_clients.specs.Feed.{failure_of, feed_name, feed_stream};
 ghost use Rattle.sysv_clients.specs.Lines.{FailsBy, Fetches};
 ghost use Rattle.sysv_clients.specs.Sending.{IsNextSend, SendsAhead, SendsAll, a_send, find_to_send, send_ask, unsent_line, window_of};
-ghost use Rattle.sysv_clients.specs.Stated.{line_most};
+ghost use Rattle.json.specs.Scratch.{room};
+ghost use Rattle.sysv_clients.specs.Stated.{line_most, strings_most};
 ghost use Rattle.sysv_clients.specs.Window.{Drains, EndsCut, EndsLines, IsCut, HearsSend, Opens, ReadsMessage, Sends, lost};
 ghost use Rattle.sysv_model.specs.Instrumented.{stream_name, stream_of};
 
@@ -180,8 +181,9 @@ fn a_send() -> Ask
     }
 }
 
-/// Sends the message that each line of an input states, over one session and in order. A line, without
-/// its LF, is a body or a JSON object, as `sending.wording` says; the last line may lack its LF.
+/// Sends the message that each line of an input states, over one session and in order. A line,
+/// without its LF, is a body or a JSON object, as `sending.wording` says; the last line may lack
+/// its LF.
 ///
 /// The client writes a hello, the request that finds the queue, and a send for each line, all of
 /// version 2. It sends lines that one read of the input returned in a window: at most 256 sends are
@@ -197,13 +199,13 @@ fn a_send() -> Ask
 ///   read.
 /// - `Cut`: a send is refused, cannot be written or has no reply. It states how many later lines
 ///   were sent, and of how many lines that is unknown.
-/// - `Long`: the next line has more bytes than a line may have: 8,192 if it is a body, and 65,536 if it
-///   is an object. It states how many lines were sent before.
-/// - `NoObject`: the next line is no JSON object that states a message: one with a type, a number from 1
-///   without a fraction or an exponent, a body of at most 8,192 bytes, a string or base64, and no other
-///   member. It states how many lines were sent before.
-/// - `Memory`: memory for the next line, which is an object, was refused. It states how many lines were
-///   sent before.
+/// - `Long`: the next line has more bytes than a line may have: 8,192 if it is a body, and 65,536
+///   if it is an object. It states how many lines were sent before.
+/// - `NoObject`: the next line is no JSON object that states a message: one with a type, a number
+///   from 1 without a fraction or an exponent, a body of at most 8,192 bytes, a string or base64,
+///   and no other member. It states how many lines were sent before.
+/// - `Memory`: memory for the next line, which is an object, was refused. It states how many lines
+///   were sent before.
 /// - `Many`: 2^64 - 1 lines were sent. Whether there are more is not looked at.
 /// - `Input`: a read of the input failed.
 pub fn send_lines<I: Read, R: Read, W: Write>(
@@ -371,11 +373,17 @@ impl Sender {
         ensures same { feed_name input.new ≡ feed_name input.old }
         ensures failed { FailsBy result (failure_of input.new) }
     {
-        fetch(input, &mut self.chunk, &mut self.line, wording.line_most(), lines)
+        fetch(
+            input,
+            &mut self.chunk,
+            &mut self.line,
+            wording.line_most(),
+            lines,
+        )
     }
 
-    /// Reads the message that the line states, which follows this number of lines. Returns its type;
-    /// its body is then the one to send.
+    /// Reads the message that the line states, which follows this number of lines. Returns its
+    /// type; its body is then the one to send.
     fn read(&mut self, alloc: Global, wording: Wording, lines: u64) -> Result<i64, Unsent>
         requires { length self.old.line ≤ line_most wording }
         ensures reads { ReadsMessage wording lines result self.old.line self.new.text }
@@ -435,8 +443,11 @@ impl Sender {
             unfed → window.old.waiting < window_of sending
             → Drains sending result (window.old.waiting + 1) left rest taken
             (W.contents (stream_of writer.new)) fed unfed
-            (record { id = window.old.id; done = window.old.done; waiting = window.old.waiting + 1 })
-            window.new }
+            (record {
+              id = window.old.id;
+              done = window.old.done;
+              waiting = window.old.waiting + 1;
+            }) window.new }
         ensures len { OnOk result ((window.new.waiting ≡ window.old.waiting + 1)
             × (window.new.done ≡ window.old.done)) }
         ensures cut { IfErr result IsCut }
@@ -629,7 +640,9 @@ fn kept(sending: &Sending, waiting: u32, has_line: bool) -> u32
 
 /// Returns memory for the strings of an object: for an object of the maximum size, if lines are
 /// objects. Fails with `NoMemory` if allocation fails.
-fn scratch_for(alloc: Global, wording: Wording) -> Result<Scratch, NoMemory> {
+fn scratch_for(alloc: Global, wording: Wording) -> Result<Scratch, NoMemory>
+    ensures { IfOk result (λ scratch. strings_most wording ≤ room scratch) }
+{
     let mut scratch = Scratch::new(alloc);
     match wording {
         Wording::Bodies { .. } => Ok(scratch),

@@ -12,8 +12,8 @@ use std::alloc::Global;
 use std::str;
 use sysv_model::{Body, MESSAGE_BYTES, NoMemory};
 
-/// The maximum number of bytes in a line that is a JSON object. In the one of a message each byte of
-/// the body takes at most six.
+/// The maximum number of bytes in a line that is a JSON object. In the one of a message each byte
+/// of the body takes at most six.
 pub const OBJECT_BYTES: usize = 65_536;
 
 /// A body as an object states it.
@@ -43,8 +43,8 @@ struct Members<'a> {
     body: Stated<'a>,
 }
 
-/// Reads the message that a line states, which is a JSON object. Its body is then in `text`. Returns
-/// its type, or `None` if the line states no message.
+/// Reads the message that a line states, which is a JSON object. Its body is then in `text`.
+/// Returns its type, or `None` if the line states no message.
 ///
 /// # Errors
 ///
@@ -146,7 +146,8 @@ fn member<'a>(reader: &mut Reader<'a>) -> Option<Part<'a>>
 fn put_body(alloc: Global, body: Stated<'_>, text: &mut Body) -> Result<bool, NoMemory>
     ensures { IfOk result (λ is_put. MatchBool is_put
         (StatesBody (body_tokens body.entry) text.new × (length text.new ≤ MESSAGE_BYTES))
-        ((other : List ℕ) → StatesBody (body_tokens body.entry) other → MESSAGE_BYTES < length other)) }
+        ((other : List ℕ) → StatesBody (body_tokens body.entry) other
+        → MESSAGE_BYTES < length other)) }
 {
     match body {
         Stated::Text(plain) => Ok(put(plain.as_bytes(), text)),

@@ -211,9 +211,9 @@ fn left_after(receiving: &Receiving, unshown: Unshown) -> Left {
     }
 }
 
-/// Connects to the server at `place` and sends the message that each line of `input` states. Each send
-/// waits as long as `patience` says. A send that is left then fails with EAGAIN. If the input cannot be read, the
-/// reason is reported on standard error.
+/// Connects to the server at `place` and sends the message that each line of `input` states. Each
+/// send waits as long as `patience` says. A send that is left then fails with EAGAIN. If the input
+/// cannot be read, the reason is reported on standard error.
 pub(crate) fn send_at<I: Read, P: Place>(
     rt: &(impl Print + Eprint + AllocGlobal),
     input: &mut I,

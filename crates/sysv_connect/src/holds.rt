@@ -22,8 +22,8 @@ use sysv_model::Errno;
 /// No message came in time.
 const NO_MESSAGE: ClientFault = ClientFault::Refused(Errno::ENOMSG);
 
-/// Connects to the server at `place` and receives messages there, each of which is held until it was
-/// shown. Each is waited for as long as `patience` says. Faults are reported on standard error.
+/// Connects to the server at `place` and receives messages there, each of which is held until it
+/// was shown. Each is waited for as long as `patience` says. Faults are reported on standard error.
 pub(crate) fn hold_at<P: Place, S: Write>(
     rt: &(impl Eprint + AllocGlobal),
     place: P,
@@ -118,7 +118,8 @@ fn tell<R: Leave, W: Write + Drop, S: Write>(
     }
 }
 
-/// Returns what is known of a fault of holds beyond its name. `is_late` is whether the time was over.
+/// Returns what is known of a fault of holds beyond its name. `is_late` is whether the time was
+/// over.
 fn detail_of_hold<R: Leave, W: Write + Drop>(
     fault: ClientFault,
     is_late: bool,

@@ -9,8 +9,8 @@ pub struct How {
     pub from_input: bool,
     /// Whether a `snd` sends each line of the standard input, in place of the body of the task.
     pub lines: bool,
-    /// Whether a `snd` sends the message that each line of the standard input states, a JSON object, in
-    /// place of that of the task.
+    /// Whether a `snd` sends the message that each line of the standard input states, a JSON
+    /// object, in place of that of the task.
     pub objects: bool,
     /// Whether a `snd` of lines reports how many of them were sent while it sends them.
     pub progress: bool,

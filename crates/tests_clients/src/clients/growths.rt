@@ -2,8 +2,8 @@
 //! written.
 use super::*;
 use sysv_clients::{
-    ClientFault, Receiving, Sending, Stop, Unheld, Unsent, Wording, hold_all, receive_all, remove_all,
-    send_lines,
+    ClientFault, Receiving, Sending, Stop, Unheld, Unsent, Wording, hold_all, receive_all,
+    remove_all, send_lines,
 };
 use tests_kit::mark;
 

@@ -1,13 +1,11 @@
 //! Messages that a client holds until it has shown them.
 use super::several::assert_text;
 use super::*;
-use sysv_clients::{
-    ClientFault, Receiving, Unheld, Unshown, hold_all, hold_instrumented,
-};
+use sysv_clients::{ClientFault, Receiving, Unheld, Unshown, hold_all, hold_instrumented};
 use sysv_model::{Errno, Instrumented};
 
-/// The hello of `WHO`, a `msgget` of key 7 with flags 0, a hold of any type from identifier 64, at most
-/// 8,192 bytes with flags 0 and without a limit of time, and a done.
+/// The hello of `WHO`, a `msgget` of key 7 with flags 0, a hold of any type from identifier 64, at
+/// most 8,192 bytes with flags 0 and without a limit of time, and a done.
 const HELLO_TO_HOLD: &[u8] = b"\0\0\0\x0e\x03\0\0\0\x03\xe8\0\0\x03\xe8\0\0\0\x01";
 
 const FIND: &[u8] = b"\0\0\0\x0a\x03\x01\0\0\0\x07\0\0\0\0";

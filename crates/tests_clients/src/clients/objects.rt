@@ -74,7 +74,11 @@ fn an_object_states_a_message(rt: HostRuntime) {
             b"\xc3\xa9\x7f",
         ),
         (b"{\"type\":5,\"base64\":\"/w==\"}", 5, b"\xff"),
-        (b"{\"base64\":\"\\u002b+\\/+\",\"type\":5}", 5, b"\xfb\xef\xfe"),
+        (
+            b"{\"base64\":\"\\u002b+\\/+\",\"type\":5}",
+            5,
+            b"\xfb\xef\xfe",
+        ),
         (b"{\"type\":5,\"base64\":\"\"}", 5, b""),
         (b"{\"ty\\u0070e\":5,\"body\":\"a\"}", 5, b"a"),
     ];

@@ -2,8 +2,8 @@
 use super::*;
 use std::fmt::Display;
 use sysv_clients::{
-    ClientFault, Cut, Feed, Refusal, Sending, Stop, Unsent, Unshown, Wording, remove_all, send_feed,
-    send_lines,
+    ClientFault, Cut, Feed, Refusal, Sending, Stop, Unsent, Unshown, Wording, remove_all,
+    send_feed, send_lines,
 };
 use sysv_model::Errno;
 

@@ -1,7 +1,7 @@
 use Rattle.std.proofs.Common.{[], ◌∙◌, arith, refl, rules, sym}
 use Rattle.std.proofs.lemmas.Result.{err_from_is_err_and}
 use Rattle.sysv_clients.proofs.SendLemmas.{begins, begins_there, ends_unread, is_next, none_after, none_left, not_ahead}
-use Rattle.sysv_clients.proofs.SendLemmas.{ends_unstated, fails_so, fails_unstated, has_space, next_send, same_ahead}
+use Rattle.sysv_clients.proofs.SendLemmas.{ends_unstated, fails_so, has_space, next_send, same_ahead}
 use Rattle.sysv_clients.proofs.SendLemmas.{unopened}
 use Rattle.sysv_clients.proofs.sending.Sender.send_all.Goals as goal
 
