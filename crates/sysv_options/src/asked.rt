@@ -296,9 +296,11 @@ fn how_of(words: &ArgMatches<'_>) -> Result<How, Bad>
     Ok(How {
         from_input: has_flag(words, "stdin"),
         lines: has_flag(words, "lines"),
+        objects: has_flag(words, "json"),
         progress: has_flag(words, "progress"),
         follow: has_flag(words, "follow"),
         purge: has_flag(words, "purge"),
+        holds: has_flag(words, "hold"),
         count: number_if(words, "count", COUNT)?,
         ahead: ahead_of(words)?,
         wait: time_if(words, "wait")?,
