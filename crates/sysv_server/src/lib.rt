@@ -12,7 +12,7 @@ mod terms;
 mod visitor;
 
 pub use host::{Host, Notice, Reason};
-pub use listening::{Input, Listens};
+pub use listening::{Hosted, Input, Listens, Reading};
 pub use serving::{MAX_CLIENTS, serve_from, serve_listener, serve_on};
 pub use sysv_engine::{Ended, Fates, Patience, ServeFault, Sums};
 pub use terms::Terms;
