@@ -16,9 +16,9 @@ _sysvmsg_words() {
     ipcs) echo "-i --json --wait $credentials --help --version" ;;
     ipcmk) echo "--mode --qbytes --wait $credentials --help --version" ;;
     ipcrm) echo "-q -Q --all --wait $credentials --help --version" ;;
-    snd) echo "--stdin --lines --progress --type --nowait --wait $credentials --help --version" ;;
+    snd) echo "--stdin --lines --json --progress --type --nowait --wait $credentials --help --version" ;;
     rcv)
-        echo "--type --upto --except --size --nowait --noerror --wait --count --ahead --follow --purge --show-type --raw --create --mode"
+        echo "--type --upto --except --size --nowait --noerror --wait --count --ahead --follow --purge --hold --show-type --raw --create --mode"
         echo "--zero --json $credentials --help --version"
         ;;
     help) echo "$_sysvmsg_commands" ;;

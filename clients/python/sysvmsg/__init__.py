@@ -29,7 +29,7 @@ from ._wire import (
     Message, Request, Row, Stat, frame, read_reply,
 )  # fmt: skip
 
-__version__ = "0.3.0"
+__version__ = "0.4.0.dev0"
 
 __all__ = [
     "ANSWERED", "BODY_MAX", "CREAT", "DONE", "ERRORS", "EXCEPT", "EXCL", "GET", "HELLO", "HOLD", "NOERROR", "NOT_MADE",

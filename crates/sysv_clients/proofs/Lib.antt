@@ -9,3 +9,7 @@ pub mod ClearLemmas
 mod RefusalLemmas
 mod LineLemmas
 mod ObjectLemmas
+mod StatedLemmas
+mod HoldLemmas
+mod JsonLemmas
+mod CopyLemmas

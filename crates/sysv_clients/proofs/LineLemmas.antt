@@ -1,12 +1,11 @@
 -- Bytes without an LF, by the search for the first one.
-use Rattle.std.proofs.Common.{◌≡◌, ◌<◌, ◌≤◌, ◌+◌, ◌∙◌, ℕ, Bool, true, false, List, ◌∷◌, ◌++◌, length, take, drop}
-use Rattle.std.proofs.Common.{None, Some, suc, arith, sym, ap, get_or, get_or-take, subst, if◌then◌else◌}
+use Rattle.std.proofs.Common.{◌≡◌, ◌<◌, ◌≤◌, ◌+◌, ◌∙◌, ℕ, true, false, List, ◌∷◌, ◌++◌, length, take, drop}
+use Rattle.std.proofs.Common.{None, Some, suc, arith, sym, ap, get_or, get_or-take, subst}
 use Rattle.std.proofs.Math.Seq.{drop-cons}
 use Rattle.std.proofs.lemmas.Bool.{eq-eqb, eqb-true}
 use Rattle.std.proofs.lemmas.List.{get_or_default, length-take-le, take-append-drop, take-append-le}
 use Rattle.memchr.specs.Find.{IsFirstByte, Passes, is_byte}
 use Rattle.sysv_clients.specs.Lines.{Gives, HasNoEnd}
-use Rattle.sysv_model.specs.declared.limits.TheConstants.{BODY_ROOM, MESSAGE_BYTES}
 
 no_end : (piece : List ℕ) (count : ℕ) → count ≤ length piece
     → ((k : ℕ) → 0 ≤ k → k < count → ¬ Passes (is_byte 10) piece k) → HasNoEnd (take count piece)
@@ -23,13 +22,6 @@ take_within bytes count room fits =
     sym (take-append-le count (take room bytes) (drop room bytes) fits)
     ∙ ap (λ (l : List ℕ). take count l) (take-append-drop room bytes)
 
--- A text was appended, since it fits.
-appended : (line text more : List ℕ) (fitted : Bool) → length line + length text ≤ BODY_ROOM
-    → (length line + length text ≤ BODY_ROOM → fitted ≡ true)
-    → more ≡ (if fitted then line ++ text else line) → more ≡ line ++ text
-appended line text more fitted fits room after =
-    subst (λ (b : Bool). more ≡ (if b then line ++ text else line)) (room fits) after
-
 -- The bytes up to an LF, and what is after it.
 splits_at : (bytes : List ℕ) (count : ℕ) → count < length bytes → get_or bytes count 0 ≡ 10 →
     bytes ≡ take count bytes ++ 10 ∷ drop (count + 1) bytes
@@ -41,14 +33,13 @@ splits_at bytes count within is =
     ∙ ap (λ (n : ℕ). 10 ∷ drop n bytes) next)
 
 -- A line ends within the piece.
-pub ends_line : (chunk bytes left line more : List ℕ) (room count : ℕ) (fitted : Bool) → bytes ≡ chunk
-    → room ≤ length bytes → length line + room ≤ MESSAGE_BYTES + 1
+pub ends_line : (most : ℕ) (chunk bytes left line more : List ℕ) (room count : ℕ) → bytes ≡ chunk
+    → room ≤ length bytes → length line + room ≤ most + 1
     → IsFirstByte (is_byte 10) (take room bytes) (Some count)
-    → (length line + length (take count (take room bytes)) ≤ BODY_ROOM → fitted ≡ true)
-    → more ≡ (if fitted then line ++ take count (take room bytes) else line)
+    → more ≡ line ++ take count (take room bytes)
     → left ≡ drop (count + 1) chunk
-    → Gives true chunk left line more
-ends_line chunk bytes left line more room count fitted is fits few first room_for after rest =
+    → Gives most true chunk left line more
+ends_line most chunk bytes left line more room count is fits few first after rest =
     let piece = take room bytes in
     let long : length (take room bytes) ≡ room = length-take-le room bytes fits in
     let high = first.0.high in
@@ -65,18 +56,17 @@ ends_line chunk bytes left line more room count fitted is fits few first room_fo
           ∙ ap (λ (l : List ℕ). l ++ 10 ∷ drop (count + 1) bytes) (sym same)
           ∙ ap (λ (l : List ℕ). text ++ 10 ∷ drop (count + 1) l) is
           ∙ ap (λ (l : List ℕ). text ++ 10 ∷ l) (sym rest)),
-      appended line text more fitted (omega (arith, short, high, long, few)) room_for after,
+      after,
     )
 
 -- No line ends within the piece.
-pub ends_none : (chunk bytes left line more : List ℕ) (room : ℕ) (fitted : Bool) → bytes ≡ chunk
-    → room ≤ length bytes → length line + room ≤ MESSAGE_BYTES + 1 → 1 ≤ room
+pub ends_none : (most : ℕ) (chunk bytes left line more : List ℕ) (room : ℕ) → bytes ≡ chunk
+    → room ≤ length bytes → length line + room ≤ most + 1 → 1 ≤ room
     → IsFirstByte (is_byte 10) (take room bytes) None
-    → (length line + length (take room bytes) ≤ BODY_ROOM → fitted ≡ true)
-    → more ≡ (if fitted then line ++ take room bytes else line)
+    → more ≡ line ++ take room bytes
     → left ≡ drop (length (take room bytes)) chunk
-    → Gives false chunk left line more
-ends_none chunk bytes left line more room fitted is fits few some none room_for after rest =
+    → Gives most false chunk left line more
+ends_none most chunk bytes left line more room is fits few some none after rest =
     let piece = take room bytes in
     let long : length (take room bytes) ≡ room = length-take-le room bytes fits in (
       piece,
@@ -89,5 +79,5 @@ ends_none chunk bytes left line more room fitted is fits few some none room_for 
           ∙ ap (λ (l : List ℕ). piece ++ drop room l) is
           ∙ ap (λ (n : ℕ). piece ++ drop n chunk) (sym long)
           ∙ ap (λ (l : List ℕ). piece ++ l) (sym rest)),
-      appended line piece more fitted (omega (arith, long, few)) room_for after,
+      after,
     )

@@ -11,13 +11,13 @@ use Rattle.sysv_clients.specs.declared.sending.Sending.{Sending}
 use Rattle.sysv_clients.specs.declared.sending.Unsent.TheVariants.{Cut}
 use Rattle.sysv_clients.specs.declared.sending.Window.{Window}
 use Rattle.sysv_clients.specs.Calls.{Call, Each, FollowsPlan, IsCallDone, id_in, read_by, written_by}
-use Rattle.sysv_clients.specs.Sending.{AreLines, EndsReplies, HasReply, IsAnswered, IsCutBy, IsRefusedAt, SendsAll}
-use Rattle.sysv_clients.specs.Sending.{accepted_in, accepts, bodies_of, frames_of, opening_plan, send_ask, window_of}
+use Rattle.sysv_clients.specs.Sending.{AreSends, EndsReplies, HasReply, IsCutBy, IsRefusedAt, SendsAll, Sent, a_send}
+use Rattle.sysv_clients.specs.Sending.{accepted_in, accepts, frames_of, opening_plan, sent_by, window_of}
 use Rattle.sysv_clients.specs.Dialogue.{HasNoReply, reply_to}
 use Rattle.sysv_clients.specs.Window.{EndsCut, HearsSend, Sends}
 use Rattle.sysv_clients.proofs.CallLemmas.{call_of}
-use Rattle.sysv_clients.proofs.SendLemmas.{all_answered, all_done, between, between_first, between_second, bodies_more}
-use Rattle.sysv_clients.proofs.SendLemmas.{each_more, first_of, read_so, written_so}
+use Rattle.sysv_clients.proofs.SendLemmas.{IsSend, all_answered, between, between_first, between_second, each_more}
+use Rattle.sysv_clients.proofs.SendLemmas.{first_is, first_of, read_so, replied_so, sent_more, written_so}
 use Rattle.sysv_model.specs.declared.errno.Errno.{Errno}
 use Rattle.sysv_model.specs.declared.errno.Errno.TheVariants as errors
 use Rattle.sysv_wire.specs.declared.reply.ReplyContent.{ReplyContent}
@@ -26,62 +26,59 @@ use Rattle.sysv_wire.specs.declared.request.Ask.{Ask}
 use Rattle.sysv_wire.specs.Replies.{error_number, reply_encoding}
 
 -- A send was refused, and some replies after it were read. The cut counts them.
-pub record Refusing (sending : Sending) (error : Errno) (left rest taken more fed unsent : Option (List ℕ)) (ask : Ask)
+pub record Refusing (sending : Sending) (error : Errno) (left rest taken more fed unsent : Option (List ℕ))
     (cut : ACut) : Type 0 where
   pub opened : List Call
   pub sends : List Call
-  pub texts : List (List ℕ)
+  pub waiting : List Sent
   pub follows : FollowsPlan IsCallDone (opening_plan sending) [] opened
   pub found : opening_plan sending opened ≡ None
-  pub is_ask : ask ≡ send_ask sending (id_in opened)
-  pub answered : Each (IsAnswered (send_ask sending (id_in opened))) sends
+  pub answered : Each HasReply sends
   pub reads : Consumes left rest (read_by (opened ++ sends))
-  pub writes : Appends taken more (written_by (opened ++ sends) ++ frames_of (send_ask sending (id_in opened)) texts)
-  pub lines : AreLines (bodies_of sends ++ texts) fed unsent
+  pub writes : Appends taken more (written_by (opened ++ sends) ++ frames_of waiting)
+  pub lines : AreSends sending (id_in opened) (sent_by sends ++ waiting) fed unsent
   pub by : IsRefusedAt error cut sends
   pub is_fault : cut.fault ≡ Refused error
-  pub unknown : cut.unknown ≡ length texts
+  pub unknown : cut.unknown ≡ length waiting
   pub few : cut.unknown ≤ window_of sending
 
 -- The reply of the send that was refused was read.
 pub refuses : (sending : Sending) (error : Errno) (left mid rest taken more fed unsent : Option (List ℕ))
     (window : Window) (fewer : ℕ)
     → Sends sending left mid taken more fed unsent window → window.waiting ≡ fewer + 1
-    → HearsSend window.ask (heard.Refused error) mid rest
-    → Refusing sending error left rest taken more fed unsent window.ask
+    → HearsSend (heard.Refused error) mid rest
+    → Refusing sending error left rest taken more fed unsent
     (record { before = window.done; fault = Refused error; after = 0; unknown = fewer })
 refuses sending error left mid rest taken more fed unsent window fewer so_far some replied =
-    let ask = send_ask sending (id_in so_far.opened) in
-    let first = first_of so_far.texts window.waiting so_far.waits (omega (arith, some)) in
-    let one = call_of ask first.text (content.Refused error) [] in
-    let reply : Consumes mid rest (reply_encoding (reply_to ask (content.Refused error)) []) =
-    subst (λ (a : Ask). Consumes mid rest (reply_encoding (reply_to a (content.Refused error)) [])) so_far.ask
-    replied in
+    let found = id_in so_far.opened in
+    let first = first_of so_far.waiting window.waiting so_far.waits (omega (arith, some)) in
+    let one = call_of first.one.ask first.one.text (content.Refused error) [] in
+    let send = first_is sending found so_far.sends so_far.waiting first fed unsent so_far.lines in
     let long : window.waiting ≡ suc (length first.others) =
-    so_far.waits ∙ ap (λ (l : List (List ℕ)). length l) first.split in
+    so_far.waits ∙ ap (λ (l : List Sent). length l) first.split in
     record {
       opened = so_far.opened;
       sends = so_far.sends ++ one ∷ [];
-      texts = first.others;
+      waiting = first.others;
       follows = so_far.follows;
       found = so_far.found;
-      is_ask = so_far.ask;
-      answered = each_more (IsAnswered ask) so_far.sends one
-          (all_answered sending so_far.opened so_far.sends so_far.sent) (refl, inr (error, (refl, refl)));
+      answered = each_more HasReply so_far.sends one (all_answered so_far.sends so_far.done)
+          (inr (error, (refl, refl)));
       reads = subst (Consumes left rest) (sym (read_so so_far.opened so_far.sends one))
-          (Consumes-trans left mid rest _ _ so_far.reads reply);
+          (Consumes-trans left mid rest _ _ so_far.reads
+          (replied_so first.one.ask (content.Refused error) [] mid rest send replied));
       writes = subst (Appends taken more)
-          (ap (λ (l : List (List ℕ)). written_by (so_far.opened ++ so_far.sends) ++ frames_of ask l) first.split
-          ∙ written_so so_far.opened so_far.sends one ask first.others refl) so_far.writes;
-      lines = subst (λ l. AreLines l fed unsent)
-          (ap (λ (l : List (List ℕ)). bodies_of so_far.sends ++ l) first.split
-          ∙ bodies_more so_far.sends one first.others) so_far.lines;
+          (ap (λ (l : List Sent). written_by (so_far.opened ++ so_far.sends) ++ frames_of l) first.split
+          ∙ written_so so_far.opened so_far.sends one first.others) so_far.writes;
+      lines = subst (λ l. AreSends sending found l fed unsent)
+          (ap (λ (l : List Sent). sent_by so_far.sends ++ l) first.split
+          ∙ sent_more so_far.sends one first.others) so_far.lines;
       by = record {
         first = so_far.sends;
         one = one;
         later = [];
         split = refl;
-        done = all_done sending so_far.opened so_far.sends so_far.sent;
+        done = so_far.done;
         refused = (refl, refl);
         before = so_far.many;
         after = refl;
@@ -100,36 +97,36 @@ accepted_more (first ∷ others) one =
 
 -- One more reply was read.
 pub refuses_more : (sending : Sending) (error : Errno) (answer : ReplyContent) (given : List ℕ)
-    (left mid rest taken more fed unsent : Option (List ℕ)) (ask : Ask) (cut : ACut) (after fewer : ℕ)
-    → Refusing sending error left mid taken more fed unsent ask cut
+    (left mid rest taken more fed unsent : Option (List ℕ)) (cut : ACut) (after fewer : ℕ)
+    → Refusing sending error left mid taken more fed unsent cut
     → cut.unknown ≡ fewer + 1 → after ≡ cut.after + accepts answer
-    → Consumes mid rest (reply_encoding (reply_to ask answer) given)
-    → ((text : List ℕ) → HasReply (call_of ask text answer given))
-    → Refusing sending error left rest taken more fed unsent ask
+    → Consumes mid rest (reply_encoding (reply_to a_send answer) given)
+    → ((ask : Ask) (text : List ℕ) → IsSend ask → HasReply (call_of ask text answer given))
+    → Refusing sending error left rest taken more fed unsent
     (record { before = cut.before; fault = cut.fault; after = after; unknown = fewer })
-refuses_more sending error answer given left mid rest taken more fed unsent ask cut after fewer so_far some counts read
+refuses_more sending error answer given left mid rest taken more fed unsent cut after fewer so_far some counts read
     replied =
-    let of = send_ask sending (id_in so_far.opened) in
-    let first = first_of so_far.texts cut.unknown so_far.unknown (omega (arith, some)) in
-    let one = call_of ask first.text answer given in
+    let found = id_in so_far.opened in
+    let first = first_of so_far.waiting cut.unknown so_far.unknown (omega (arith, some)) in
+    let one = call_of first.one.ask first.one.text answer given in
+    let send = first_is sending found so_far.sends so_far.waiting first fed unsent so_far.lines in
     let long : cut.unknown ≡ suc (length first.others) =
-    so_far.unknown ∙ ap (λ (l : List (List ℕ)). length l) first.split in
+    so_far.unknown ∙ ap (λ (l : List Sent). length l) first.split in
     record {
       opened = so_far.opened;
       sends = so_far.sends ++ one ∷ [];
-      texts = first.others;
+      waiting = first.others;
       follows = so_far.follows;
       found = so_far.found;
-      is_ask = so_far.is_ask;
-      answered = each_more (IsAnswered of) so_far.sends one so_far.answered (so_far.is_ask, replied first.text);
+      answered = each_more HasReply so_far.sends one so_far.answered (replied first.one.ask first.one.text send);
       reads = subst (Consumes left rest) (sym (read_so so_far.opened so_far.sends one))
-          (Consumes-trans left mid rest _ _ so_far.reads read);
+          (Consumes-trans left mid rest _ _ so_far.reads (replied_so first.one.ask answer given mid rest send read));
       writes = subst (Appends taken more)
-          (ap (λ (l : List (List ℕ)). written_by (so_far.opened ++ so_far.sends) ++ frames_of of l) first.split
-          ∙ written_so so_far.opened so_far.sends one of first.others so_far.is_ask) so_far.writes;
-      lines = subst (λ l. AreLines l fed unsent)
-          (ap (λ (l : List (List ℕ)). bodies_of so_far.sends ++ l) first.split
-          ∙ bodies_more so_far.sends one first.others) so_far.lines;
+          (ap (λ (l : List Sent). written_by (so_far.opened ++ so_far.sends) ++ frames_of l) first.split
+          ∙ written_so so_far.opened so_far.sends one first.others) so_far.writes;
+      lines = subst (λ l. AreSends sending found l fed unsent)
+          (ap (λ (l : List Sent). sent_by so_far.sends ++ l) first.split
+          ∙ sent_more so_far.sends one first.others) so_far.lines;
       by = record {
         first = so_far.by.first;
         one = so_far.by.one;
@@ -177,16 +174,15 @@ done_accepts (content.Hold mtype) is = refl
 done_accepts (content.Row row) is = refl
 
 ends_refused : (sending : Sending) (error : Errno) (left mid rest taken more fed unsent unfed : Option (List ℕ))
-    (ask : Ask) (cut : ACut) (so_far : Refusing sending error left mid taken more fed unsent ask cut)
-    → EndsReplies (send_ask sending (id_in so_far.opened)) so_far.texts mid rest
-    (between taken (written_by (so_far.opened ++ so_far.sends))) more
+    (cut : ACut) (so_far : Refusing sending error left mid taken more fed unsent cut)
+    → EndsReplies so_far.waiting mid rest (between taken (written_by (so_far.opened ++ so_far.sends))) more
     → SendsAll sending (Err (Cut cut)) left rest taken more fed unfed
-ends_refused sending error left mid rest taken more fed unsent unfed ask cut so_far ends =
+ends_refused sending error left mid rest taken more fed unsent unfed cut so_far ends =
     let calls = so_far.opened ++ so_far.sends in
     record {
       opened = so_far.opened;
       sends = so_far.sends;
-      waiting = so_far.texts;
+      waiting = so_far.waiting;
       unread = mid;
       written = between taken (written_by calls);
       unsent = unsent;
@@ -206,21 +202,17 @@ ends_refused sending error left mid rest taken more fed unsent unfed ask cut so_
 
 -- What was read is no reply.
 pub refuses_lost : (sending : Sending) (error : Errno) (left mid rest taken more fed unsent : Option (List ℕ))
-    (ask : Ask) (cut : ACut)
-    → Refusing sending error left mid taken more fed unsent ask cut → HasNoReply ask mid rest
+    (cut : ACut)
+    → Refusing sending error left mid taken more fed unsent cut → HasNoReply a_send mid rest
     → EndsCut sending (Cut cut) left rest taken more fed
-refuses_lost sending error left mid rest taken more fed unsent ask cut so_far none unfed =
-    let of = send_ask sending (id_in so_far.opened) in
+refuses_lost sending error left mid rest taken more fed unsent cut so_far none unfed =
     let calls = so_far.opened ++ so_far.sends in
-    ends_refused sending error left mid rest taken more fed unsent unfed ask cut so_far
-    (inr (inr (
-      between_second taken more (written_by calls) (frames_of of so_far.texts) so_far.writes,
-      subst (λ (a : Ask). HasNoReply a mid rest) so_far.is_ask none,
-    )))
+    ends_refused sending error left mid rest taken more fed unsent unfed cut so_far
+    (inr (inr (between_second taken more (written_by calls) (frames_of so_far.waiting) so_far.writes, none)))
 
-empty : (texts : List (List ℕ)) → length texts ≡ 0 → texts ≡ []
+empty : (sents : List Sent) → length sents ≡ 0 → sents ≡ []
 empty [] is = refl
-empty (text ∷ others) is = absurd (omega (arith, is))
+empty (one ∷ others) is = absurd (omega (arith, is))
 
 -- A writer that appends nothing more has taken the same.
 pub same_taken : (taken more : Option (List ℕ)) (first : List ℕ) → Appends taken more (first ++ []) →
@@ -229,17 +221,16 @@ same_taken taken more first wrote = subst (Appends taken more) (append-nil first
 
 -- All replies were read.
 pub refuses_all : (sending : Sending) (error : Errno) (left rest taken more fed unsent : Option (List ℕ))
-    (ask : Ask) (cut : ACut)
-    → Refusing sending error left rest taken more fed unsent ask cut → cut.unknown ≡ 0
+    (cut : ACut)
+    → Refusing sending error left rest taken more fed unsent cut → cut.unknown ≡ 0
     → EndsCut sending (Cut cut) left rest taken more fed
-refuses_all sending error left rest taken more fed unsent ask cut so_far none unfed =
+refuses_all sending error left rest taken more fed unsent cut so_far none unfed =
     let calls = so_far.opened ++ so_far.sends in
-    let of = send_ask sending (id_in so_far.opened) in
-    let nothing = empty so_far.texts (sym so_far.unknown ∙ none) in
+    let nothing = empty so_far.waiting (sym so_far.unknown ∙ none) in
     record {
       opened = so_far.opened;
       sends = so_far.sends;
-      waiting = so_far.texts;
+      waiting = so_far.waiting;
       unread = rest;
       written = more;
       unsent = unsent;
@@ -248,8 +239,7 @@ refuses_all sending error left rest taken more fed unsent ask cut so_far none un
       few = omega (arith, so_far.few, so_far.unknown);
       reads = so_far.reads;
       writes = same_taken taken more (written_by calls)
-          (subst (λ (l : List (List ℕ)). Appends taken more (written_by calls ++ frames_of of l)) nothing
-          so_far.writes);
+          (subst (λ (l : List Sent). Appends taken more (written_by calls ++ frames_of l)) nothing so_far.writes);
       lines = so_far.lines;
       ends = record {
         found = so_far.found;

@@ -1,5 +1,7 @@
 -- A session of sends in progress, and how it ends.
-use Rattle.std.proofs.Common.{◌≡◌, ℕ, pos, List, [], ◌∷◌, ◌++◌, Option, None, Some, Ok, Err, inl, inr, refl, sym, ap}
+use Rattle.std.proofs.Common.{◌≡◌, ℕ, ℤ, pos, List, [], ◌∷◌, ◌++◌, Option, None, Some, Ok, Err, inl, inr, refl, sym, ap}
+use Rattle.std.proofs.Common.{w32, w64, of_z, to_z, FitsSigned}
+use Rattle.std.proofs.lemmas.Int.{to_z-of_z}
 use Rattle.std.proofs.Common.{Result, true, false, subst, ◌∙◌, length, suc, ◌+◌, ◌<◌, append_assoc}
 use Rattle.std.proofs.Common.{append-nil, arith}
 use Rattle.std.proofs.lemmas.List.{length-append, map-append}
@@ -13,17 +15,20 @@ use Rattle.sysv_clients.specs.declared.fault.ClientFault.{ClientFault}
 use Rattle.sysv_clients.specs.declared.fault.ClientFault.TheVariants.{Refused, NoReply, NoMemory}
 use Rattle.sysv_clients.specs.declared.sending.Sending.{Sending}
 use Rattle.sysv_clients.specs.declared.sending.Unsent.{Unsent}
-use Rattle.sysv_clients.specs.declared.sending.Unsent.TheVariants.{Fault, Cut, Long, Many, Input}
+use Rattle.sysv_clients.specs.declared.sending.Unsent.TheVariants.{Fault, Cut, Long, NoObject, Memory, Many, Input}
 use Rattle.sysv_clients.specs.declared.sending.Window.{Window}
+use Rattle.sysv_clients.specs.declared.sending.Wording.{Wording}
 use Rattle.sysv_clients.specs.declared.input_lines.Fetched.{Fetched}
 use Rattle.sysv_clients.specs.declared.input_lines.Fetched.TheVariants.{Line, Last, Nothing}
 use Rattle.sysv_clients.specs.Asks.{request_of}
 use Rattle.sysv_clients.specs.Calls.{BreaksPlan, Call, Each, IsCallDone, Made, id_in, read_by, written_by}
 use Rattle.sysv_clients.specs.Lines.{FailsBy, Fetches, HasNone, IsNext, is_line, is_nothing}
-use Rattle.sysv_clients.specs.Sending.{SendsAhead, AreDone, AreLines, EndsReplies, EndsSends, IsAnswered, SendsAll}
-use Rattle.sysv_clients.specs.Sending.{bodies_of, find_to_send, frames_of, opening_plan, send_ask, window_of}
-use Rattle.sysv_clients.specs.Dialogue.{Exchanges, HasNoReply, Hears, id_after, reply_to}
-use Rattle.sysv_clients.specs.Window.{EndsCut, EndsLines, IsCut, IsSent, Opens, Sends, lost}
+use Rattle.sysv_clients.specs.Sending.{SendsAhead, AreDone, AreSends, EndsReplies, EndsSends, HasReply, IsNextSend}
+use Rattle.sysv_clients.specs.Sending.{SendsAll, Sent, a_send, find_to_send, frames_of, opening_plan, send_ask, sent_by}
+use Rattle.sysv_clients.specs.Sending.{window_of}
+use Rattle.sysv_clients.specs.Stated.{States, line_most}
+use Rattle.sysv_clients.specs.Dialogue.{Exchanges, HasNoReply, Hears, IsDone, id_after, reply_to}
+use Rattle.sysv_clients.specs.Window.{EndsCut, EndsLines, IsCut, Opens, ReadsMessage, Sends, lost}
 use Rattle.sysv_clients.proofs.CallLemmas.{call_of, done_more, none_made, read_more, written_more}
 use Rattle.sysv_model.specs.Writing.{AppendsPrefix}
 use Rattle.sysv_wire.specs.declared.reply.ReplyContent.{ReplyContent}
@@ -55,11 +60,8 @@ pub opens : (sending : Sending) (welcome got : ReplyContent) (greeted given text
     taken more greeted
     → ask ≡ find_to_send sending
     → Exchanges (request_encoding (request_of ask) text) ask (Ok got) mid rest more most given
-    → Opens sending (Ok (record {
-      ask = send_ask sending (id_after (id_after (pos 0) welcome) got);
-      done = 0;
-      waiting = 0;
-    })) left rest taken most
+    → Opens sending (Ok (record { id = id_after (id_after (pos 0) welcome) got; done = 0; waiting = 0 })) left rest
+    taken most
 opens sending welcome got greeted given text left mid rest taken more most ask hello is find =
     let one = call_of (Hello sending.cred) text welcome greeted in
     let two = call_of (find_to_send sending) text got given in (
@@ -187,11 +189,11 @@ pub begins : (sending : Sending) (window : Window) (left rest taken more fed : O
 begins sending window left rest taken more fed (opened, made, found, is, none, free) = record {
   opened = opened;
   sends = [];
-  texts = [];
+  waiting = [];
   follows = made.follows;
   found = found;
-  ask = is;
-  sent = tt;
+  id = is;
+  done = tt;
   reads = subst (λ l. Consumes left rest (read_by l)) (sym (append-nil opened)) made.reads;
   writes = subst (Appends taken more) (sym (append-nil (written_by (opened ++ []))))
       (subst (λ l. Appends taken more (written_by l)) (sym (append-nil opened)) made.writes);
@@ -202,55 +204,72 @@ begins sending window left rest taken more fed (opened, made, found, is, none, f
 }
 
 -- The next line after nothing more was read.
-next_after : (text : List ℕ) (fed mid rest : Option (List ℕ)) → Consumes fed mid [] → IsNext text mid rest →
-    IsNext text fed rest
-next_after text fed mid rest none (is, inl whole) =
+next_after : (most : ℕ) (text : List ℕ) (fed mid rest : Option (List ℕ)) → Consumes fed mid []
+    → IsNext most text mid rest → IsNext most text fed rest
+next_after most text fed mid rest none (is, inl whole) =
     (is, inl (Consumes-trans fed mid rest [] (text ++ 10 ∷ []) none whole))
-next_after text fed mid rest none (is, inr last) =
+next_after most text fed mid rest none (is, inr last) =
     (is, inr (last.0, Consumes-trans fed mid rest [] text none last.1, last.2))
 
-lines_more : (texts : List (List ℕ)) (text : List ℕ) (fed mid rest : Option (List ℕ)) → AreLines texts fed mid
-    → IsNext text mid rest → AreLines (texts ++ text ∷ []) fed rest
-lines_more [] text fed mid rest none next = (rest, next_after text fed mid rest none next, Consumes-nil rest)
-lines_more (first ∷ others) text fed mid rest lines next =
-    (lines.0, lines.1, lines_more others text lines.0 mid rest lines.2 next)
+sends_next : (sending : Sending) (found : ℤ) (sents : List Sent) (one : Sent) (fed mid rest : Option (List ℕ))
+    → AreSends sending found sents fed mid → IsNextSend sending found one mid rest
+    → AreSends sending found (sents ++ one ∷ []) fed rest
+sends_next sending found [] one fed mid rest none next = (
+  rest,
+  record {
+    line = next.line;
+    mtype = next.mtype;
+    next = next_after (line_most sending.wording) next.line fed mid rest none next.next;
+    states = next.states;
+    is = next.is;
+  },
+  Consumes-nil rest,
+)
+sends_next sending found (first ∷ others) one fed mid rest lines next =
+    (lines.0, lines.1, sends_next sending found others one lines.0 mid rest lines.2 next)
 
-frames_more : (ask : Ask) (texts : List (List ℕ)) (text : List ℕ) →
-    frames_of ask (texts ++ text ∷ []) ≡ frames_of ask texts ++ request_encoding (request_of ask) text
-frames_more ask texts text =
-    flat_map-append (λ (t : List ℕ). request_encoding (request_of ask) t) texts (text ∷ [])
-    ∙ ap (λ l. frames_of ask texts ++ l) (append-nil (request_encoding (request_of ask) text))
+frames_more : (sents : List Sent) (one : Sent) →
+    frames_of (sents ++ one ∷ []) ≡ frames_of sents ++ request_encoding (request_of one.ask) one.text
+frames_more sents one =
+    flat_map-append (λ (sent : Sent). request_encoding (request_of sent.ask) sent.text) sents (one ∷ [])
+    ∙ ap (λ l. frames_of sents ++ l) (append-nil (request_encoding (request_of one.ask) one.text))
+
+-- A request to the queue that was found.
+to_found : (sending : Sending) (own found : ℤ) (one : Sent) (left rest : Option (List ℕ)) → own ≡ found
+    → IsNextSend sending own one left rest → IsNextSend sending found one left rest
+to_found sending own found one left rest same next =
+    subst (λ (id : ℤ). IsNextSend sending id one left rest) same next
 
 -- One more send was written.
-pub sends_more : (sending : Sending) (text : List ℕ) (left rest taken more most fed unsent now : Option (List ℕ))
+pub sends_more : (sending : Sending) (one : Sent) (left rest taken more most fed unsent now : Option (List ℕ))
     (window : Window)
-    → Sends sending left rest taken more fed unsent window → IsNext text unsent now
+    → Sends sending left rest taken more fed unsent window → IsNextSend sending window.id one unsent now
     → window.waiting < window_of sending
-    → Appends more most (request_encoding (request_of window.ask) text)
+    → Appends more most (request_encoding (request_of one.ask) one.text)
     → Sends sending left rest taken most fed now
-    (record { ask = window.ask; done = window.done; waiting = window.waiting + 1 })
-sends_more sending text left rest taken more most fed unsent now window so_far next room wrote =
-    let ask = send_ask sending (id_in so_far.opened) in
+    (record { id = window.id; done = window.done; waiting = window.waiting + 1 })
+sends_more sending one left rest taken more most fed unsent now window so_far next room wrote =
+    let found = id_in so_far.opened in
     let calls = so_far.opened ++ so_far.sends in
     record {
       opened = so_far.opened;
       sends = so_far.sends;
-      texts = so_far.texts ++ text ∷ [];
+      waiting = so_far.waiting ++ one ∷ [];
       follows = so_far.follows;
       found = so_far.found;
-      ask = so_far.ask;
-      sent = so_far.sent;
+      id = so_far.id;
+      done = so_far.done;
       reads = so_far.reads;
       writes = subst (Appends taken most)
-          (append_assoc (written_by calls) (frames_of ask so_far.texts) (request_encoding (request_of ask) text)
-          ∙ ap (λ l. written_by calls ++ l) (sym (frames_more ask so_far.texts text)))
-          (Appends-trans taken more most _ _ so_far.writes
-          (subst (λ (a : Ask). Appends more most (request_encoding (request_of a) text)) so_far.ask wrote));
-      lines = subst (λ l. AreLines l fed now)
-          (append_assoc (bodies_of so_far.sends) so_far.texts (text ∷ []))
-          (lines_more (bodies_of so_far.sends ++ so_far.texts) text fed unsent now so_far.lines next);
+          (append_assoc (written_by calls) (frames_of so_far.waiting) (request_encoding (request_of one.ask) one.text)
+          ∙ ap (λ l. written_by calls ++ l) (sym (frames_more so_far.waiting one)))
+          (Appends-trans taken more most _ _ so_far.writes wrote);
+      lines = subst (λ l. AreSends sending found l fed now)
+          (append_assoc (sent_by so_far.sends) so_far.waiting (one ∷ []))
+          (sends_next sending found (sent_by so_far.sends ++ so_far.waiting) one fed unsent now so_far.lines
+          (to_found sending window.id found one unsent now so_far.id next));
       many = so_far.many;
-      waits = ap (λ (n : ℕ). n + 1) so_far.waits ∙ sym (length-append so_far.texts (text ∷ []));
+      waits = ap (λ (n : ℕ). n + 1) so_far.waits ∙ sym (length-append so_far.waiting (one ∷ []));
       few = omega (arith, room);
     }
 
@@ -259,32 +278,34 @@ pub each_more : (Passes : Call → Type 0) (calls : List Call) (one : Call) → 
 each_more Passes [] one each passes = (passes, tt)
 each_more Passes (first ∷ others) one each passes = (each.0, each_more Passes others one each.1 passes)
 
--- The first of the sends on their way: its body, and the others.
-pub record First (texts : List (List ℕ)) : Type 0 where
-  pub text : List ℕ
-  pub others : List (List ℕ)
-  pub split : texts ≡ text ∷ others
+-- The first of the sends on their way, and the others.
+pub record First (sents : List Sent) : Type 0 where
+  pub one : Sent
+  pub others : List Sent
+  pub split : sents ≡ one ∷ others
 
-pub first_of : (texts : List (List ℕ)) (n : ℕ) → n ≡ length texts → 0 < n → First texts
+pub first_of : (sents : List Sent) (n : ℕ) → n ≡ length sents → 0 < n → First sents
 first_of [] n is some = absurd (omega (arith, is, some))
-first_of (text ∷ others) n is some = record { text = text; others = others; split = refl }
+first_of (one ∷ others) n is some = record { one = one; others = others; split = refl }
 
-pub bodies_more : (sends : List Call) (one : Call) (others : List (List ℕ)) →
-    bodies_of sends ++ one.text ∷ others ≡ bodies_of (sends ++ one ∷ []) ++ others
-bodies_more sends one others =
-    sym (append_assoc (bodies_of sends) (one.text ∷ []) others)
-    ∙ ap (λ l. l ++ others) (sym (map-append (λ (c : Call). c.text) sends (one ∷ [])))
+-- The request of a call.
+abbrev pub sent_of : Call → Sent
+sent_of call = record { ask = call.ask; text = call.text }
+
+pub sent_more : (sends : List Call) (one : Call) (others : List Sent) →
+    sent_by sends ++ sent_of one ∷ others ≡ sent_by (sends ++ one ∷ []) ++ others
+sent_more sends one others =
+    sym (append_assoc (sent_by sends) (sent_of one ∷ []) others)
+    ∙ ap (λ l. l ++ others) (sym (map-append (λ (c : Call). sent_of c) sends (one ∷ [])))
 
 -- The frames of the calls with one more, and of the sends after it.
-pub written_so : (opened sends : List Call) (one : Call) (ask : Ask) (others : List (List ℕ)) → one.ask ≡ ask
-    → written_by (opened ++ sends) ++ frames_of ask (one.text ∷ others)
-    ≡ written_by (opened ++ (sends ++ one ∷ [])) ++ frames_of ask others
-written_so opened sends one ask others is =
-    sym (append_assoc (written_by (opened ++ sends)) (request_encoding (request_of ask) one.text)
-    (frames_of ask others))
-    ∙ ap (λ (a : Ask). (written_by (opened ++ sends) ++ request_encoding (request_of a) one.text)
-    ++ frames_of ask others) (sym is)
-    ∙ ap (λ l. l ++ frames_of ask others)
+pub written_so : (opened sends : List Call) (one : Call) (others : List Sent)
+    → written_by (opened ++ sends) ++ frames_of (sent_of one ∷ others)
+    ≡ written_by (opened ++ (sends ++ one ∷ [])) ++ frames_of others
+written_so opened sends one others =
+    sym (append_assoc (written_by (opened ++ sends)) (request_encoding (request_of one.ask) one.text)
+    (frames_of others))
+    ∙ ap (λ l. l ++ frames_of others)
     (sym (written_more (opened ++ sends) one) ∙ ap written_by (append_assoc opened sends (one ∷ [])))
 
 pub read_so : (opened sends : List Call) (one : Call) →
@@ -293,37 +314,73 @@ pub read_so : (opened sends : List Call) (one : Call) →
 read_so opened sends one =
     ap read_by (sym (append_assoc opened sends (one ∷ []))) ∙ read_more (opened ++ sends) one
 
+-- A request that sends a message.
+pub record IsSend (ask : Ask) : Type 0 where
+  pub sending : Sending
+  pub found : ℤ
+  pub mtype : ℤ
+  pub is : ask ≡ send_ask sending found mtype
+
+-- The request that the next line wants is a send.
+are_sends : (sending : Sending) (found : ℤ) (before : List Sent) (one : Sent) (others : List Sent)
+    (fed rest : Option (List ℕ)) → AreSends sending found (before ++ one ∷ others) fed rest → IsSend one.ask
+are_sends sending found [] one others fed rest lines =
+    record { sending = sending; found = found; mtype = lines.1.mtype; is = lines.1.is }
+are_sends sending found (first ∷ more) one others fed rest lines =
+    are_sends sending found more one others lines.0 rest lines.2
+
+-- The first send on its way is a send.
+pub first_is : (sending : Sending) (found : ℤ) (sends : List Call) (waiting : List Sent) (first : First waiting)
+    (fed rest : Option (List ℕ)) → AreSends sending found (sent_by sends ++ waiting) fed rest → IsSend first.one.ask
+first_is sending found sends waiting first fed rest lines =
+    are_sends sending found (sent_by sends) first.one first.others fed rest
+    (subst (λ (l : List Sent). AreSends sending found (sent_by sends ++ l) fed rest) first.split lines)
+
+-- The reply to a send is one to this send.
+pub replied_so : (ask : Ask) (answer : ReplyContent) (given : List ℕ) (left rest : Option (List ℕ)) → IsSend ask
+    → Consumes left rest (reply_encoding (reply_to a_send answer) given)
+    → Consumes left rest (reply_encoding (reply_to ask answer) given)
+replied_so ask answer given left rest send read =
+    subst (λ (a : Ask). Consumes left rest (reply_encoding (reply_to a answer) given)) (sym send.is) read
+
+-- A send was done.
+pub done_so : (ask : Ask) (answer : ReplyContent) (given : List ℕ) → IsSend ask → IsDone a_send answer given
+    → IsDone ask answer given
+done_so ask answer given send done =
+    subst (λ (a : Ask). IsDone a answer given) (sym send.is)
+    (record { fits = done.fits; text = done.text; done = done.done })
+
 -- One more reply was read.
 pub hears_more : (sending : Sending) (answer : ReplyContent) (given : List ℕ)
     (left mid rest taken more fed unsent : Option (List ℕ)) (window : Window) (fewer : ℕ)
     → Sends sending left mid taken more fed unsent window → window.waiting ≡ fewer + 1
-    → Hears window.ask (Ok answer) mid rest given
+    → Hears a_send (Ok answer) mid rest given
     → Sends sending left rest taken more fed unsent
-    (record { ask = window.ask; done = window.done + 1; waiting = fewer })
+    (record { id = window.id; done = window.done + 1; waiting = fewer })
 hears_more sending answer given left mid rest taken more fed unsent window fewer so_far some heard =
-    let ask = send_ask sending (id_in so_far.opened) in
-    let first = first_of so_far.texts window.waiting so_far.waits (omega (arith, some)) in
-    let one = call_of ask first.text answer given in
-    let reply : Hears ask (Ok answer) mid rest given =
-    subst (λ (a : Ask). Hears a (Ok answer) mid rest given) so_far.ask heard in
+    let found = id_in so_far.opened in
+    let first = first_of so_far.waiting window.waiting so_far.waits (omega (arith, some)) in
+    let one = call_of first.one.ask first.one.text answer given in
+    let send = first_is sending found so_far.sends so_far.waiting first fed unsent so_far.lines in
     let long : window.waiting ≡ suc (length first.others) =
-    so_far.waits ∙ ap (λ (l : List (List ℕ)). length l) first.split in
+    so_far.waits ∙ ap (λ (l : List Sent). length l) first.split in
     record {
       opened = so_far.opened;
       sends = so_far.sends ++ one ∷ [];
-      texts = first.others;
+      waiting = first.others;
       follows = so_far.follows;
       found = so_far.found;
-      ask = so_far.ask;
-      sent = each_more (IsSent sending so_far.opened) so_far.sends one so_far.sent (refl, reply.1);
+      id = so_far.id;
+      done = each_more IsCallDone so_far.sends one so_far.done (done_so first.one.ask answer given send heard.1);
       reads = subst (Consumes left rest) (sym (read_so so_far.opened so_far.sends one))
-          (Consumes-trans left mid rest _ _ so_far.reads reply.0);
+          (Consumes-trans left mid rest _ _ so_far.reads
+          (replied_so first.one.ask answer given mid rest send heard.0));
       writes = subst (Appends taken more)
-          (ap (λ (l : List (List ℕ)). written_by (so_far.opened ++ so_far.sends) ++ frames_of ask l) first.split
-          ∙ written_so so_far.opened so_far.sends one ask first.others refl) so_far.writes;
-      lines = subst (λ l. AreLines l fed unsent)
-          (ap (λ (l : List (List ℕ)). bodies_of so_far.sends ++ l) first.split
-          ∙ bodies_more so_far.sends one first.others) so_far.lines;
+          (ap (λ (l : List Sent). written_by (so_far.opened ++ so_far.sends) ++ frames_of l) first.split
+          ∙ written_so so_far.opened so_far.sends one first.others) so_far.writes;
+      lines = subst (λ l. AreSends sending found l fed unsent)
+          (ap (λ (l : List Sent). sent_by so_far.sends ++ l) first.split
+          ∙ sent_more so_far.sends one first.others) so_far.lines;
       many = ap (λ (n : ℕ). n + 1) so_far.many ∙ sym (length-append so_far.sends (one ∷ []));
       waits = omega (arith, long, some);
       few = omega (arith, so_far.few, some);
@@ -343,22 +400,15 @@ between_second None more first second both = tt
 between_second (Some bytes) None first second both = absurd both
 between_second (Some bytes) (Some all) first second both = both ∙ sym (append_assoc bytes first second)
 
-pub all_answered : (sending : Sending) (opened sends : List Call) → Each (IsSent sending opened) sends →
-    Each (IsAnswered (send_ask sending (id_in opened))) sends
-all_answered sending opened [] each = tt
-all_answered sending opened (one ∷ others) each =
-    ((each.0.0, inl each.0.1), all_answered sending opened others each.1)
-
-pub all_done : (sending : Sending) (opened sends : List Call) → Each (IsSent sending opened) sends →
-    Each IsCallDone sends
-all_done sending opened [] each = tt
-all_done sending opened (one ∷ others) each = (each.0.1, all_done sending opened others each.1)
+pub all_answered : (sends : List Call) → Each IsCallDone sends → Each HasReply sends
+all_answered [] each = tt
+all_answered (one ∷ others) each = (inl each.0, all_answered others each.1)
 
 -- The sends on their way have no reply.
 no_more_replies : (sending : Sending) (left mid rest taken more most fed unsent unfed : Option (List ℕ))
     (window : Window) (so_far : Sends sending left mid taken more fed unsent window)
     → 0 < window.waiting
-    → EndsReplies (send_ask sending (id_in so_far.opened)) so_far.texts mid rest
+    → EndsReplies so_far.waiting mid rest
     (between taken (written_by (so_far.opened ++ so_far.sends))) most
     → SendsAll sending (Err (Cut (lost window))) left rest taken most fed unfed
 no_more_replies sending left mid rest taken more most fed unsent unfed window so_far some ends =
@@ -366,19 +416,19 @@ no_more_replies sending left mid rest taken more most fed unsent unfed window so
     record {
       opened = so_far.opened;
       sends = so_far.sends;
-      waiting = so_far.texts;
+      waiting = so_far.waiting;
       unread = mid;
       written = between taken (written_by calls);
       unsent = unsent;
       follows = so_far.follows;
-      answered = all_answered sending so_far.opened so_far.sends so_far.sent;
+      answered = all_answered so_far.sends so_far.done;
       few = omega (arith, so_far.few, so_far.waits);
       reads = so_far.reads;
       writes = between_first taken (written_by calls);
       lines = so_far.lines;
       ends = record {
         found = so_far.found;
-        by = (all_done sending so_far.opened so_far.sends so_far.sent, so_far.many, refl, some);
+        by = (so_far.done, so_far.many, refl, some);
         unknown = so_far.waits;
         ends = ends;
       };
@@ -387,34 +437,26 @@ no_more_replies sending left mid rest taken more most fed unsent unfed window so
 -- What was read is no reply.
 pub loses_reply : (sending : Sending) (left mid rest taken more fed unsent : Option (List ℕ)) (window : Window)
     → Sends sending left mid taken more fed unsent window → 0 < window.waiting
-    → HasNoReply window.ask mid rest
+    → HasNoReply a_send mid rest
     → EndsCut sending (Cut (lost window)) left rest taken more fed
 loses_reply sending left mid rest taken more fed unsent window so_far some none unfed =
-    let ask = send_ask sending (id_in so_far.opened) in
     let calls = so_far.opened ++ so_far.sends in
     no_more_replies sending left mid rest taken more more fed unsent unfed window so_far some
-    (inr (inr (
-      between_second taken more (written_by calls) (frames_of ask so_far.texts) so_far.writes,
-      subst (λ (a : Ask). HasNoReply a mid rest) so_far.ask none,
-    )))
+    (inr (inr (between_second taken more (written_by calls) (frames_of so_far.waiting) so_far.writes, none)))
 
 -- The writer failed as the sends were flushed.
 pub loses_flush : (sending : Sending) (left rest taken more most fed unsent : Option (List ℕ)) (window : Window)
     → Sends sending left rest taken more fed unsent window → 0 < window.waiting → Appends more most []
     → EndsCut sending (Cut (lost window)) left rest taken most fed
 loses_flush sending left rest taken more most fed unsent window so_far some kept unfed =
-    let ask = send_ask sending (id_in so_far.opened) in
     let calls = so_far.opened ++ so_far.sends in
-    let wrote : Appends taken most (written_by calls ++ frames_of ask so_far.texts) =
-    subst (Appends taken most) (append-nil (written_by calls ++ frames_of ask so_far.texts))
+    let frames = frames_of so_far.waiting in
+    let wrote : Appends taken most (written_by calls ++ frames) =
+    subst (Appends taken most) (append-nil (written_by calls ++ frames))
     (Appends-trans taken more most _ [] so_far.writes kept) in
     no_more_replies sending left rest rest taken more most fed unsent unfed window so_far some
     (inr (inl (
-      (
-        frames_of ask so_far.texts,
-        ([], sym (append-nil (frames_of ask so_far.texts))),
-        between_second taken most (written_by calls) (frames_of ask so_far.texts) wrote,
-      ),
+      (frames, ([], sym (append-nil frames)), between_second taken most (written_by calls) frames wrote),
       refl,
     )))
 
@@ -423,18 +465,17 @@ pub flushed : (sending : Sending) (left rest taken more most fed unsent : Option
     → Sends sending left rest taken more fed unsent window → Appends more most []
     → Sends sending left rest taken most fed unsent window
 flushed sending left rest taken more most fed unsent window so_far kept =
-    let ask = send_ask sending (id_in so_far.opened) in
     let calls = so_far.opened ++ so_far.sends in
     record {
       opened = so_far.opened;
       sends = so_far.sends;
-      texts = so_far.texts;
+      waiting = so_far.waiting;
       follows = so_far.follows;
       found = so_far.found;
-      ask = so_far.ask;
-      sent = so_far.sent;
+      id = so_far.id;
+      done = so_far.done;
       reads = so_far.reads;
-      writes = subst (Appends taken most) (append-nil (written_by calls ++ frames_of ask so_far.texts))
+      writes = subst (Appends taken most) (append-nil (written_by calls ++ frames_of so_far.waiting))
           (Appends-trans taken more most _ [] so_far.writes kept);
       lines = so_far.lines;
       many = so_far.many;
@@ -448,50 +489,48 @@ keeps_appends (Some bytes) None kept = absurd kept
 keeps_appends (Some bytes) (Some same) kept = kept ∙ sym (append-nil bytes)
 
 -- The writer failed in a send.
-pub loses_write : (sending : Sending) (text : List ℕ) (left rest taken more most fed unsent now : Option (List ℕ))
+pub loses_write : (sending : Sending) (one : Sent) (left rest taken more most fed unsent now : Option (List ℕ))
     (window : Window)
-    → Sends sending left rest taken more fed unsent window → IsNext text unsent now
+    → Sends sending left rest taken more fed unsent window → IsNextSend sending window.id one unsent now
     → window.waiting < window_of sending
-    → AppendsPrefix more most (request_encoding (request_of window.ask) text)
+    → AppendsPrefix more most (request_encoding (request_of one.ask) one.text)
     → EndsCut sending
-    (Cut (lost (record { ask = window.ask; done = window.done; waiting = window.waiting + 1 })))
+    (Cut (lost (record { id = window.id; done = window.done; waiting = window.waiting + 1 })))
     left rest taken most fed
-loses_write sending text left rest taken more most fed unsent now window so_far next room wrote unfed =
-    let ask = send_ask sending (id_in so_far.opened) in
+loses_write sending one left rest taken more most fed unsent now window so_far next room wrote unfed =
+    let found = id_in so_far.opened in
     let calls = so_far.opened ++ so_far.sends in
-    let frame = request_encoding (request_of ask) text in
-    let part : AppendsPrefix more most frame =
-    subst (λ (a : Ask). AppendsPrefix more most (request_encoding (request_of a) text)) so_far.ask wrote in
-    let whole = frames_of ask so_far.texts in
+    let whole = frames_of so_far.waiting in
     record {
       opened = so_far.opened;
       sends = so_far.sends;
-      waiting = so_far.texts ++ text ∷ [];
+      waiting = so_far.waiting ++ one ∷ [];
       unread = rest;
       written = between taken (written_by calls);
       unsent = now;
       follows = so_far.follows;
-      answered = all_answered sending so_far.opened so_far.sends so_far.sent;
-      few = omega (arith, room, so_far.waits, length-append so_far.texts (text ∷ []));
+      answered = all_answered so_far.sends so_far.done;
+      few = omega (arith, room, so_far.waits, length-append so_far.waiting (one ∷ []));
       reads = so_far.reads;
       writes = between_first taken (written_by calls);
-      lines = subst (λ l. AreLines l fed now)
-          (append_assoc (bodies_of so_far.sends) so_far.texts (text ∷ []))
-          (lines_more (bodies_of so_far.sends ++ so_far.texts) text fed unsent now so_far.lines next);
+      lines = subst (λ l. AreSends sending found l fed now)
+          (append_assoc (sent_by so_far.sends) so_far.waiting (one ∷ []))
+          (sends_next sending found (sent_by so_far.sends ++ so_far.waiting) one fed unsent now so_far.lines
+          (to_found sending window.id found one unsent now so_far.id next));
       ends = record {
         found = so_far.found;
-        by = (all_done sending so_far.opened so_far.sends so_far.sent, so_far.many, refl, omega arith);
-        unknown = ap (λ (n : ℕ). n + 1) so_far.waits ∙ sym (length-append so_far.texts (text ∷ []));
+        by = (so_far.done, so_far.many, refl, omega arith);
+        unknown = ap (λ (n : ℕ). n + 1) so_far.waits ∙ sym (length-append so_far.waiting (one ∷ []));
         ends = inr (inl (
           (
-            whole ++ part.0,
+            whole ++ wrote.0,
             (
-              part.1.0,
-              frames_more ask so_far.texts text ∙ ap (λ l. whole ++ l) part.1.1
-                  ∙ sym (append_assoc whole part.0 part.1.0),
+              wrote.1.0,
+              frames_more so_far.waiting one ∙ ap (λ l. whole ++ l) wrote.1.1
+                  ∙ sym (append_assoc whole wrote.0 wrote.1.0),
             ),
-            Appends-trans (between taken (written_by calls)) more most whole part.0
-                (between_second taken more (written_by calls) whole so_far.writes) part.2,
+            Appends-trans (between taken (written_by calls)) more most whole wrote.0
+                (between_second taken more (written_by calls) whole so_far.writes) wrote.2,
           ),
           refl,
         ));
@@ -505,8 +544,8 @@ settled : (sending : Sending) (ended : Result ⊤ Unsent) (left rest taken more 
     → SendsAll sending ended left rest taken more fed unfed
 settled sending ended left rest taken more fed unsent unfed window so_far none ends =
     let calls = so_far.opened ++ so_far.sends in
-    let ask = send_ask sending (id_in so_far.opened) in
-    let nothing = empty so_far.texts (sym so_far.waits ∙ none) in
+    let found = id_in so_far.opened in
+    let nothing = empty so_far.waiting (sym so_far.waits ∙ none) in
     record {
       opened = so_far.opened;
       sends = so_far.sends;
@@ -515,19 +554,19 @@ settled sending ended left rest taken more fed unsent unfed window so_far none e
       written = more;
       unsent = unsent;
       follows = so_far.follows;
-      answered = all_answered sending so_far.opened so_far.sends so_far.sent;
+      answered = all_answered so_far.sends so_far.done;
       few = omega arith;
       reads = so_far.reads;
       writes = subst (Appends taken more) (append-nil (written_by calls))
-          (subst (λ (l : List (List ℕ)). Appends taken more (written_by calls ++ frames_of ask l)) nothing
-          so_far.writes);
-      lines = subst (λ (l : List (List ℕ)). AreLines (bodies_of so_far.sends ++ l) fed unsent) nothing so_far.lines;
+          (subst (λ (l : List Sent). Appends taken more (written_by calls ++ frames_of l)) nothing so_far.writes);
+      lines = subst (λ (l : List Sent). AreSends sending found (sent_by so_far.sends ++ l) fed unsent) nothing
+          so_far.lines;
       ends = ends;
     }
   where
-    empty : (texts : List (List ℕ)) → length texts ≡ 0 → texts ≡ []
+    empty : (sents : List Sent) → length sents ≡ 0 → sents ≡ []
     empty [] is = refl
-    empty (text ∷ others) is = absurd (omega (arith, is))
+    empty (one ∷ others) is = absurd (omega (arith, is))
 
 -- Each send was done.
 are_done : (sending : Sending) (left rest taken more fed unsent : Option (List ℕ)) (window : Window)
@@ -535,7 +574,7 @@ are_done : (sending : Sending) (left rest taken more fed unsent : Option (List �
     → AreDone sending so_far.opened so_far.sends [] rest rest more more
 are_done sending left rest taken more fed unsent window so_far = record {
   found = so_far.found;
-  done = all_done sending so_far.opened so_far.sends so_far.sent;
+  done = so_far.done;
   none = refl;
   read = refl;
   wrote = refl;
@@ -545,13 +584,24 @@ are_done sending left rest taken more fed unsent window so_far = record {
 pub finishes : (sending : Sending) (ended : Result ⊤ Unsent) (lines : ℕ)
     (left rest taken more fed unsent unfed : Option (List ℕ)) (window : Window)
     → Sends sending left rest taken more fed unsent window → window.waiting ≡ 0 → window.done ≡ lines
-    → EndsLines ended lines unsent unfed
+    → EndsLines sending.wording ended lines unsent unfed
     → SendsAll sending ended left rest taken more fed unfed
 finishes sending (Ok done) lines left rest taken more fed unsent unfed window so_far none all ends =
     settled sending (Ok done) left rest taken more fed unsent unfed window so_far none
     (are_done sending left rest taken more fed unsent window so_far, ends)
 finishes sending (Err (Long before)) lines left rest taken more fed unsent unfed window so_far none all ends =
     settled sending (Err (Long before)) left rest taken more fed unsent unfed window so_far none
+    (are_done sending left rest taken more fed unsent window so_far, ends.0 ∙ sym all ∙ so_far.many, ends.1, ends.2)
+finishes sending (Err (NoObject before)) lines left rest taken more fed unsent unfed window so_far none all ends =
+    settled sending (Err (NoObject before)) left rest taken more fed unsent unfed window so_far none (
+      are_done sending left rest taken more fed unsent window so_far,
+      ends.0 ∙ sym all ∙ so_far.many,
+      ends.1,
+      ends.2,
+      ends.3,
+    )
+finishes sending (Err (Memory before)) lines left rest taken more fed unsent unfed window so_far none all ends =
+    settled sending (Err (Memory before)) left rest taken more fed unsent unfed window so_far none
     (are_done sending left rest taken more fed unsent window so_far, ends.0 ∙ sym all ∙ so_far.many, ends.1, ends.2)
 finishes sending (Err Many) lines left rest taken more fed unsent unfed window so_far none all ends =
     settled sending (Err Many) left rest taken more fed unsent unfed window so_far none
@@ -597,37 +647,79 @@ pub reads_there : (ahead : List ℕ) (known : Option (List ℕ)) → ahead ≡ [
 reads_there ahead known none = ap (λ (l : List ℕ). prepend_known l known) none ∙ prepends_nothing known
 
 -- What was read is the next line.
-pub is_next : (lines : ℕ) (fetched : Fetched) (left rest : Option (List ℕ)) (text : List ℕ)
+pub is_next : (most lines : ℕ) (fetched : Fetched) (left rest : Option (List ℕ)) (text : List ℕ)
     → is_nothing fetched ≡ false
-    → Fetches lines (Ok fetched) left rest text → IsNext text left rest
-is_next lines Line left rest text is h = (h.0, inl h.1)
-is_next lines Last left rest text is h = (h.0, inr (h.1, h.2, h.3))
-is_next lines Nothing left rest text is h = cc
+    → Fetches most lines (Ok fetched) left rest text → IsNext most text left rest
+is_next most lines Line left rest text is h = (h.0, inl h.1)
+is_next most lines Last left rest text is h = (h.0, inr (h.1, h.2, h.3))
+is_next most lines Nothing left rest text is h = cc
+
+-- The message that the next line states is sent.
+pub next_send : (sending : Sending) (found mtype : ℤ) (ask : Ask) (line text : List ℕ) (left rest : Option (List ℕ))
+    → IsNext (line_most sending.wording) line left rest → States sending.wording line mtype text
+    → FitsSigned w32 found → FitsSigned w64 mtype
+    → ask ≡ send_ask sending (to_z w32 (of_z w32 found)) (to_z w64 (of_z w64 mtype))
+    → IsNextSend sending found (record { ask = ask; text = text }) left rest
+next_send sending found mtype ask line text left rest next states id_fits type_fits is = record {
+  line = line;
+  mtype = mtype;
+  next = next;
+  states = states;
+  is = is ∙ ap (λ (id : ℤ). send_ask sending id (to_z w64 (of_z w64 mtype))) (to_z-of_z w32 found id_fits)
+      ∙ ap (λ (t : ℤ). send_ask sending found t) (to_z-of_z w64 mtype type_fits);
+}
 
 -- Nothing was read.
-pub none_left : (lines : ℕ) (fetched : Fetched) (left rest : Option (List ℕ)) (text : List ℕ)
+pub none_left : (most lines : ℕ) (fetched : Fetched) (left rest : Option (List ℕ)) (text : List ℕ)
     → is_nothing fetched ≡ true
-    → Fetches lines (Ok fetched) left rest text → HasNone left rest
-none_left lines Nothing left rest text is h = h.1
-none_left lines Line left rest text is h = cc
-none_left lines Last left rest text is h = cc
+    → Fetches most lines (Ok fetched) left rest text → HasNone left rest
+none_left most lines Nothing left rest text is h = h.1
+none_left most lines Line left rest text is h = cc
+none_left most lines Last left rest text is h = cc
 
 -- The last line was read.
-pub none_after : (lines : ℕ) (fetched : Fetched) (left rest : Option (List ℕ)) (text : List ℕ)
+pub none_after : (most lines : ℕ) (fetched : Fetched) (left rest : Option (List ℕ)) (text : List ℕ)
     → is_nothing fetched ≡ false
-    → is_line fetched ≡ false → Fetches lines (Ok fetched) left rest text → HasNone rest rest
-none_after lines Last left rest text some is h = (Consumes-nil rest, h.3)
-none_after lines Line left rest text some is h = cc
-none_after lines Nothing left rest text some is h = cc
+    → is_line fetched ≡ false → Fetches most lines (Ok fetched) left rest text → HasNone rest rest
+none_after most lines Last left rest text some is h = (Consumes-nil rest, h.3)
+none_after most lines Line left rest text some is h = cc
+none_after most lines Nothing left rest text some is h = cc
 
 -- No line was read: the next one is too long, or the input could not be read.
-pub ends_unread : (why : Unsent) (lines read : ℕ) (left rest : Option (List ℕ)) (text : List ℕ) → read ≡ lines
-    → Fetches read (Err why) left rest text → EndsLines (Err why) lines left rest
-ends_unread (Long before) lines read left rest text same h = (h.0 ∙ same, text, h.1)
-ends_unread (Input why) lines read left rest text same h = tt
-ends_unread Many lines read left rest text same h = absurd h
-ends_unread (Fault why) lines read left rest text same h = absurd h
-ends_unread (Cut cut) lines read left rest text same h = absurd h
+pub ends_unread : (wording : Wording) (why : Unsent) (lines read : ℕ) (left rest : Option (List ℕ)) (text : List ℕ)
+    → read ≡ lines
+    → Fetches (line_most wording) read (Err why) left rest text → EndsLines wording (Err why) lines left rest
+ends_unread wording (Long before) lines read left rest text same h = (h.0 ∙ same, text, h.1)
+ends_unread wording (Input why) lines read left rest text same h = tt
+ends_unread wording (NoObject before) lines read left rest text same h = absurd h
+ends_unread wording (Memory before) lines read left rest text same h = absurd h
+ends_unread wording Many lines read left rest text same h = absurd h
+ends_unread wording (Fault why) lines read left rest text same h = absurd h
+ends_unread wording (Cut cut) lines read left rest text same h = absurd h
+
+-- The next line states no message, or memory for it was refused.
+pub ends_unstated : (wording : Wording) (why : Unsent) (lines read : ℕ) (line text : List ℕ)
+    (left rest : Option (List ℕ)) → read ≡ lines → IsNext (line_most wording) line left rest
+    → ReadsMessage wording read (Err why) line text → EndsLines wording (Err why) lines left rest
+ends_unstated wording (NoObject before) lines read line text left rest same next h =
+    (h.0 ∙ same, line, next, h.1)
+ends_unstated wording (Memory before) lines read line text left rest same next h = (h ∙ same, line, next)
+ends_unstated wording (Long before) lines read line text left rest same next h = absurd h
+ends_unstated wording (Input why) lines read line text left rest same next h = absurd h
+ends_unstated wording Many lines read line text left rest same next h = absurd h
+ends_unstated wording (Fault why) lines read line text left rest same next h = absurd h
+ends_unstated wording (Cut cut) lines read line text left rest same next h = absurd h
+
+-- An input whose next line states no message was read.
+pub fails_unstated : (wording : Wording) (why : Unsent) (lines : ℕ) (line text : List ℕ) (failure : Option ErrorKind)
+    → ReadsMessage wording lines (Err why) line text → FailsBy {T = ⊤} (Err why) failure
+fails_unstated wording (NoObject before) lines line text failure h = tt
+fails_unstated wording (Memory before) lines line text failure h = tt
+fails_unstated wording (Long before) lines line text failure h = tt
+fails_unstated wording (Input why) lines line text failure h = absurd h
+fails_unstated wording Many lines line text failure h = tt
+fails_unstated wording (Fault why) lines line text failure h = tt
+fails_unstated wording (Cut cut) lines line text failure h = tt
 
 -- A session that a send ended did not fail by its input.
 pub fails_so : (result ended : Result ⊤ Unsent) (failure : Option ErrorKind)
@@ -637,6 +729,8 @@ fails_so result ended failure (inl same) fails =
 fails_so (Ok done) ended failure (inr cut) fails = tt
 fails_so (Err (Cut cut)) ended failure (inr is) fails = tt
 fails_so (Err (Long before)) ended failure (inr is) fails = absurd is
+fails_so (Err (NoObject before)) ended failure (inr is) fails = absurd is
+fails_so (Err (Memory before)) ended failure (inr is) fails = absurd is
 fails_so (Err Many) ended failure (inr is) fails = absurd is
 fails_so (Err (Input why)) ended failure (inr is) fails = absurd is
 fails_so (Err (Fault why)) ended failure (inr is) fails = absurd is

@@ -16,14 +16,19 @@ use Rattle.sysv_model.specs.declared.cred.Cred.{Cred}
 use Rattle.sysv_model.specs.declared.flags.Flags.{Flags}
 use Rattle.sysv_model.specs.declared.flags.TheConstants.Flags.{IPC_CREAT, IPC_EXCL, IPC_NOWAIT, MSG_EXCEPT}
 use Rattle.sysv_model.specs.declared.flags.TheConstants.Flags.{MSG_NOERROR, USER_READ, USER_WRITE}
+use Rattle.sysv_wire.specs.declared.frame.Version.{Version}
 use Rattle.sysv_wire.specs.declared.frame.Version.TheVariants.{Two}
 use Rattle.sysv_wire.specs.declared.request.Ask.{Ask}
 use Rattle.sysv_wire.specs.declared.request.Ask.TheVariants.{Hello, Get, Snd, Rcv, Stat, Set, Rm, Row, Hold, Done, Back}
 use Rattle.sysv_wire.specs.declared.request.Request.{Request}
 
--- A request of a client. All are of version 2.
+-- A request of a client in this version.
+abbrev pub request_in : Version → Ask → Request
+request_in version ask = record { version = version; ask = ask }
+
+-- A request of a client that holds no messages. All are of version 2.
 abbrev pub request_of : Ask → Request
-request_of ask = record { version = Two; ask = ask }
+request_of ask = request_in Two ask
 
 -- No flags.
 abbrev pub no_flags : Flags
@@ -84,6 +89,11 @@ find_ask receipt = Get receipt.key (flags_to_find receipt.create receipt.mode)
 abbrev pub receive_ask : Receipt → ℤ → Ask
 receive_ask receipt found =
     Rcv found receipt.size receipt.mtype (flags_to_receive receipt.nowait receipt.noerror receipt.except)
+
+-- The request of a rcv that holds a message, for as long as the session lasts.
+abbrev pub hold_ask : Receipt → ℤ → Ask
+hold_ask receipt found =
+    Hold found receipt.size receipt.mtype (flags_to_receive receipt.nowait receipt.noerror receipt.except) 0
 
 -- The requests of a rcv of one message.
 abbrev pub receive_asks : Receipt → ℤ → List Ask

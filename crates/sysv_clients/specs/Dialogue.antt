@@ -1,6 +1,7 @@
 -- A client's dialogue with a server (this project's programs): the client writes a request and reads
 -- the reply, and its next request depends on the replies before. An ipcs requests several rows at
--- once, and then reads the replies.
+-- once, and then reads the replies. A client that holds messages uses version 3 of the frames, and any other
+-- one version 2: that is the version where none is named.
 use Rattle.std.specs.Prelude.{◌≡◌, ◌≢◌, ◌⊎◌, ◌+◌, ◌<◌, ◌≤◌, ⊤, ℕ, ℤ, pos, List, [], ◌∷◌, ◌++◌, length, true, Option}
 use Rattle.std.specs.Prelude.{None, Some, Result, Ok, Err, flat_map, fold, slice_get}
 use Rattle.std.specs.Io.KnownBytes.{Appends, Consumes, IsAtEnd}
@@ -13,6 +14,7 @@ use Rattle.sysv_clients.specs.declared.fault.ClientFault.TheVariants as fault
 use Rattle.sysv_clients.specs.Asks.{asks_of, request_of, text_of}
 use Rattle.sysv_clients.specs.Style.{grows, style_of}
 use Rattle.sysv_wire.specs.declared.fault.Fault.{Fault}
+use Rattle.sysv_wire.specs.declared.frame.Version.{Version}
 use Rattle.sysv_wire.specs.declared.frame.Version.TheVariants.{Two}
 use Rattle.sysv_wire.specs.declared.reply.ReplyContent.{ReplyContent}
 use Rattle.sysv_wire.specs.declared.reply.ReplyContent.TheVariants.{Refused, Hello, HelloSlots, Get, Snd, Rcv, Stat}
@@ -32,15 +34,23 @@ pub record Exchange : Type 0 where
   pub answer : ReplyContent
   pub given : List ℕ
 
--- The reply to a request with this result, in the version that clients use.
-abbrev pub reply_to : Ask → ReplyContent → Reply
-reply_to ask answer = record { version = Two; op = op_number (op_of ask); result = answer }
+-- The reply to a request with this result, in this version.
+abbrev pub reply_in : Version → Ask → ReplyContent → Reply
+reply_in version ask answer = record { version = version; op = op_number (op_of ask); result = answer }
 
--- The request was done: the result is one that the operation may have, and is no error.
-pub record IsDone (ask : Ask) (answer : ReplyContent) (given : List ℕ) : Type 0 where
-  pub fits : FitsReply (reply_to ask answer) given
+-- The reply to a request of a client that holds no messages.
+abbrev pub reply_to : Ask → ReplyContent → Reply
+reply_to ask answer = reply_in Two ask answer
+
+-- The request was done: the result is one that the operation may have in this version, and is no error.
+pub record IsDoneIn (version : Version) (ask : Ask) (answer : ReplyContent) (given : List ℕ) : Type 0 where
+  pub fits : FitsReply (reply_in version ask answer) given
   pub text : given ≡ content_text answer given
   pub done : error_number answer ≡ 0
+
+-- The same for a client that holds no messages.
+abbrev pub IsDone : Ask → ReplyContent → List ℕ → Type 0
+IsDone ask answer given = IsDoneIn Two ask answer given
 
 -- The frame of a request. That of a send has the command's body.
 abbrev pub ask_encoding : Command → Ask → List ℕ
@@ -134,41 +144,55 @@ abbrev pub Conversed : Command → List Exchange → Type 0
 Conversed command exchanges = Follows command [] exchanges
 
 -- The reply is of another version, or of another operation.
+abbrev pub IsOtherIn : Version → Ask → Reply → Type 0
+IsOtherIn version ask reply = (reply.version ≢ version) ⊎ (reply.op ≢ op_number (op_of ask))
+
 abbrev pub IsOther : Ask → Reply → Type 0
-IsOther ask reply = (reply.version ≢ Two) ⊎ (reply.op ≢ op_number (op_of ask))
+IsOther ask reply = IsOtherIn Two ask reply
 
--- What was read is no reply to a request: the input is at its end, or there is a fault, or it is
--- another reply.
-abbrev pub HasNoReply : Ask → (left rest : Option (List ℕ)) → Type 0
-HasNoReply ask left rest =
+-- What was read is no reply in this version to a request: the input is at its end, or there is a fault,
+-- or it is another reply.
+abbrev pub HasNoReplyIn : Version → Ask → (left rest : Option (List ℕ)) → Type 0
+HasNoReplyIn version ask left rest =
     (Consumes left rest [] × IsAtEnd rest)
-    ⊎ ((fault : Fault) × Faults (ReplyFault Two) fault left rest)
-    ⊎ ((reply : Reply) × (text : List ℕ) × FitsReply reply text × IsOther ask reply
-    × Consumes left rest (reply_encoding reply text) × IsUpTo Two reply.version)
+    ⊎ ((fault : Fault) × Faults (ReplyFault version) fault left rest)
+    ⊎ ((reply : Reply) × (text : List ℕ) × FitsReply reply text × IsOtherIn version ask reply
+    × Consumes left rest (reply_encoding reply text) × IsUpTo version reply.version)
 
--- What was read as the reply to a request.
+abbrev pub HasNoReply : Ask → (left rest : Option (List ℕ)) → Type 0
+HasNoReply ask left rest = HasNoReplyIn Two ask left rest
+
+-- What was read as the reply in this version to a request.
+abbrev pub HearsIn : Version → Ask → Result ReplyContent ClientFault → (left rest : Option (List ℕ)) → List ℕ → Type 0
+HearsIn version ask (Ok answer) left rest given =
+    Consumes left rest (reply_encoding (reply_in version ask answer) given) × IsDoneIn version ask answer given
+HearsIn version ask (Err (fault.Refused error)) left rest given =
+    Consumes left rest (reply_encoding (reply_in version ask (Refused error)) [])
+HearsIn version ask (Err fault.NoReply) left rest given = HasNoReplyIn version ask left rest
+HearsIn version ask (Err fault.NoMemory) left rest given = ⊥
+
 abbrev pub Hears : Ask → Result ReplyContent ClientFault → (left rest : Option (List ℕ)) → List ℕ → Type 0
-Hears ask (Ok answer) left rest given =
-    Consumes left rest (reply_encoding (reply_to ask answer) given) × IsDone ask answer given
-Hears ask (Err (fault.Refused error)) left rest given =
-    Consumes left rest (reply_encoding (reply_to ask (Refused error)) [])
-Hears ask (Err fault.NoReply) left rest given = HasNoReply ask left rest
-Hears ask (Err fault.NoMemory) left rest given = ⊥
+Hears ask result left rest given = HearsIn Two ask result left rest given
 
 -- A prefix of a request was written, which may be all of it, and nothing was read.
 abbrev pub IsUnwritten : List ℕ → (left rest taken more : Option (List ℕ)) → Type 0
 IsUnwritten frame left rest taken more = AppendsPrefix taken more frame × (rest ≡ left)
 
--- A request was written and its reply read, or there is no reply to it.
+-- A request was written and its reply in this version read, or there is no reply to it.
+abbrev pub ExchangesIn : Version → List ℕ → Ask → Result ReplyContent ClientFault →
+    (left rest taken more : Option (List ℕ)) → List ℕ → Type 0
+ExchangesIn version frame ask (Ok answer) left rest taken more given =
+    Appends taken more frame × HearsIn version ask (Ok answer) left rest given
+ExchangesIn version frame ask (Err (fault.Refused error)) left rest taken more given =
+    Appends taken more frame × HearsIn version ask (Err (fault.Refused error)) left rest given
+ExchangesIn version frame ask (Err fault.NoReply) left rest taken more given =
+    IsUnwritten frame left rest taken more
+    ⊎ (Appends taken more frame × HearsIn version ask (Err fault.NoReply) left rest given)
+ExchangesIn version frame ask (Err fault.NoMemory) left rest taken more given = ⊥
+
 abbrev pub Exchanges : List ℕ → Ask → Result ReplyContent ClientFault → (left rest taken more : Option (List ℕ)) →
     List ℕ → Type 0
-Exchanges frame ask (Ok answer) left rest taken more given =
-    Appends taken more frame × Hears ask (Ok answer) left rest given
-Exchanges frame ask (Err (fault.Refused error)) left rest taken more given =
-    Appends taken more frame × Hears ask (Err (fault.Refused error)) left rest given
-Exchanges frame ask (Err fault.NoReply) left rest taken more given =
-    IsUnwritten frame left rest taken more ⊎ (Appends taken more frame × Hears ask (Err fault.NoReply) left rest given)
-Exchanges frame ask (Err fault.NoMemory) left rest taken more given = ⊥
+Exchanges frame ask result left rest taken more given = ExchangesIn Two frame ask result left rest taken more given
 
 -- The next request ends the dialogue with a fault. It was written with some of the requests after it.
 abbrev pub BreaksOff : Command → List Exchange → ClientFault → (left rest taken more : Option (List ℕ)) → Type 0

@@ -16,8 +16,11 @@ pub mod Blame
 pub mod Calls
 pub mod Stream
 pub mod Taking
+pub mod Holding
 pub mod Feed
 pub mod Lines
+pub mod Stated
 pub mod Sending
 pub mod Window
 pub mod Clearing
+pub mod Copies

@@ -8,25 +8,24 @@ use Rattle.std.specs.declared.io.ErrorKind.{ErrorKind}
 use Rattle.sysv_clients.specs.declared.input_lines.Fetched.{Fetched}
 use Rattle.sysv_clients.specs.declared.input_lines.Fetched.TheVariants.{Line, Last, Nothing}
 use Rattle.sysv_clients.specs.declared.sending.Unsent.{Unsent}
-use Rattle.sysv_clients.specs.declared.sending.Unsent.TheVariants.{Fault, Cut, Long, Many, Input}
-use Rattle.sysv_model.specs.declared.limits.TheConstants.{MESSAGE_BYTES}
+use Rattle.sysv_clients.specs.declared.sending.Unsent.TheVariants.{Fault, Cut, Long, NoObject, Memory, Many, Input}
 
 -- No byte is an LF.
 abbrev pub HasNoEnd : List ℕ → Type 0
 HasNoEnd text = All (λ byte. byte ≢ 10) text
 
--- The body of a message may be this line.
-abbrev pub IsText : List ℕ → Type 0
-IsText text = HasNoEnd text × (length text ≤ MESSAGE_BYTES)
+-- A line may be this one, with at most this number of bytes.
+abbrev pub IsText : ℕ → List ℕ → Type 0
+IsText most text = HasNoEnd text × (length text ≤ most)
 
 -- The next line is this one, with an LF, or as the last one without.
-abbrev pub IsNext : List ℕ → (left rest : Option (List ℕ)) → Type 0
-IsNext text left rest =
-    IsText text × (Consumes left rest (text ++ 10 ∷ []) ⊎ ((text ≢ []) × Consumes left rest text × IsAtEnd rest))
+abbrev pub IsNext : ℕ → List ℕ → (left rest : Option (List ℕ)) → Type 0
+IsNext most text left rest =
+    IsText most text × (Consumes left rest (text ++ 10 ∷ []) ⊎ ((text ≢ []) × Consumes left rest text × IsAtEnd rest))
 
--- The next line begins with these bytes, and they are more than a message may have.
-abbrev pub IsTooLong : List ℕ → (left rest : Option (List ℕ)) → Type 0
-IsTooLong text left rest = HasNoEnd text × (length text ≡ MESSAGE_BYTES + 1) × Consumes left rest text
+-- The next line begins with these bytes, and they are more than a line may have.
+abbrev pub IsTooLong : ℕ → List ℕ → (left rest : Option (List ℕ)) → Type 0
+IsTooLong most text left rest = HasNoEnd text × (length text ≡ most + 1) × Consumes left rest text
 
 -- The input has no further line.
 abbrev pub HasNone : (left rest : Option (List ℕ)) → Type 0
@@ -51,12 +50,12 @@ is_line Nothing = false
 
 -- Bytes moved to the end of a line, up to an LF (true), or as many as there were or as a line that
 -- is too long has (false).
-abbrev pub Gives : Bool → (bytes left line more : List ℕ) → Type 0
-Gives true bytes left line more =
-    (text : List ℕ) × HasNoEnd text × (length line + length text ≤ MESSAGE_BYTES) × (bytes ≡ text ++ 10 ∷ left)
+abbrev pub Gives : ℕ → Bool → (bytes left line more : List ℕ) → Type 0
+Gives most true bytes left line more =
+    (text : List ℕ) × HasNoEnd text × (length line + length text ≤ most) × (bytes ≡ text ++ 10 ∷ left)
     × (more ≡ line ++ text)
-Gives false bytes left line more =
-    (text : List ℕ) × HasNoEnd text × (1 ≤ length text) × (length line + length text ≤ MESSAGE_BYTES + 1)
+Gives most false bytes left line more =
+    (text : List ℕ) × HasNoEnd text × (1 ≤ length text) × (length line + length text ≤ most + 1)
     × (bytes ≡ text ++ left) × (more ≡ line ++ text)
 
 -- What was read of an input that is at its end, after these bytes of a line.
@@ -65,21 +64,25 @@ Ends Nothing line = line ≡ []
 Ends Last line = line ≢ []
 Ends Line line = ⊥
 
--- What was read as the next line, after this number of lines.
-abbrev pub Fetches : ℕ → Result Fetched Unsent → (left rest : Option (List ℕ)) → List ℕ → Type 0
-Fetches lines (Ok Line) left rest text = IsText text × Consumes left rest (text ++ 10 ∷ [])
-Fetches lines (Ok Last) left rest text = IsText text × (text ≢ []) × Consumes left rest text × IsAtEnd rest
-Fetches lines (Ok Nothing) left rest text = (text ≡ []) × HasNone left rest
-Fetches lines (Err (Long before)) left rest text = (before ≡ lines) × IsTooLong text left rest
-Fetches lines (Err (Input why)) left rest text = ⊤
-Fetches lines (Err Many) left rest text = ⊥
-Fetches lines (Err (Fault why)) left rest text = ⊥
-Fetches lines (Err (Cut cut)) left rest text = ⊥
+-- What was read as the next line, which has at most this number of bytes, after this number of lines.
+abbrev pub Fetches : (most lines : ℕ) → Result Fetched Unsent → (left rest : Option (List ℕ)) → List ℕ → Type 0
+Fetches most lines (Ok Line) left rest text = IsText most text × Consumes left rest (text ++ 10 ∷ [])
+Fetches most lines (Ok Last) left rest text = IsText most text × (text ≢ []) × Consumes left rest text × IsAtEnd rest
+Fetches most lines (Ok Nothing) left rest text = (text ≡ []) × HasNone left rest
+Fetches most lines (Err (Long before)) left rest text = (before ≡ lines) × IsTooLong most text left rest
+Fetches most lines (Err (Input why)) left rest text = ⊤
+Fetches most lines (Err (NoObject before)) left rest text = ⊥
+Fetches most lines (Err (Memory before)) left rest text = ⊥
+Fetches most lines (Err Many) left rest text = ⊥
+Fetches most lines (Err (Fault why)) left rest text = ⊥
+Fetches most lines (Err (Cut cut)) left rest text = ⊥
 
 -- If the input could not be read, its last read failed, with an error of this kind.
 abbrev pub FailsBy : {T : Type 0} → Result T Unsent → Option ErrorKind → Type 0
 FailsBy (Err (Input why)) failure = failure ≡ Some (error_kind why)
 FailsBy (Err (Long before)) failure = ⊤
+FailsBy (Err (NoObject before)) failure = ⊤
+FailsBy (Err (Memory before)) failure = ⊤
 FailsBy (Err Many) failure = ⊤
 FailsBy (Err (Fault why)) failure = ⊤
 FailsBy (Err (Cut cut)) failure = ⊤

@@ -1,6 +1,6 @@
 -- A session of sends in progress (this project's word is a window): some sends have their replies,
 -- and some are on their way.
-use Rattle.std.specs.Prelude.{◌≡◌, ◌≤◌, ◌+◌, ◌-◌, ◌^◌, ⊤, ℕ, List, [], ◌++◌, length, Option, None}
+use Rattle.std.specs.Prelude.{◌≡◌, ◌≤◌, ◌+◌, ◌-◌, ◌^◌, ⊤, ℕ, ℤ, List, [], ◌++◌, length, Option, None}
 use Rattle.std.specs.Prelude.{Result, Ok, Err}
 use Rattle.std.specs.Io.KnownBytes.{Appends, Consumes}
 use Rattle.sysv_clients.specs.declared.fault.ClientFault.{ClientFault}
@@ -10,15 +10,16 @@ use Rattle.sysv_clients.specs.declared.sending.Heard.{Heard}
 use Rattle.sysv_clients.specs.declared.sending.Heard.TheVariants.{Done, Refused, Lost}
 use Rattle.sysv_clients.specs.declared.sending.Sending.{Sending}
 use Rattle.sysv_clients.specs.declared.sending.Unsent.{Unsent}
-use Rattle.sysv_clients.specs.declared.sending.Unsent.TheVariants.{Fault, Cut, Long, Many, Input}
+use Rattle.sysv_clients.specs.declared.sending.Unsent.TheVariants.{Fault, Cut, Long, NoObject, Memory, Many, Input}
 use Rattle.sysv_clients.specs.declared.sending.Window.{Window}
+use Rattle.sysv_clients.specs.declared.sending.Wording.{Wording}
 use Rattle.sysv_clients.specs.Calls.{BreaksPlan, Call, Each, FollowsPlan, IsCallDone, Made, id_in, read_by, written_by}
-use Rattle.sysv_clients.specs.Lines.{HasNone, IsTooLong}
-use Rattle.sysv_clients.specs.Sending.{AreLines, SendsAll, bodies_of, frames_of, opening_plan, send_ask, window_of}
+use Rattle.sysv_clients.specs.Lines.{HasNone, IsNext, IsTooLong}
+use Rattle.sysv_clients.specs.Sending.{AreSends, SendsAll, Sent, a_send, frames_of, opening_plan, sent_by, window_of}
+use Rattle.sysv_clients.specs.Stated.{States, StatesNone, line_most}
 use Rattle.sysv_clients.specs.Dialogue.{HasNoReply, IsDone, reply_to}
 use Rattle.sysv_wire.specs.declared.reply.ReplyContent.{ReplyContent}
 use Rattle.sysv_wire.specs.declared.reply.ReplyContent.TheVariants as content
-use Rattle.sysv_wire.specs.declared.request.Ask.{Ask}
 use Rattle.sysv_wire.specs.Replies.{reply_encoding}
 
 -- A send ended the session.
@@ -26,48 +27,46 @@ abbrev pub IsCut : Unsent → Type 0
 IsCut (Cut cut) = ⊤
 IsCut (Fault why) = ⊥
 IsCut (Long before) = ⊥
+IsCut (NoObject before) = ⊥
+IsCut (Memory before) = ⊥
 IsCut Many = ⊥
 IsCut (Input why) = ⊥
-
--- The request of a send was done.
-abbrev pub IsSent : Sending → List Call → Call → Type 0
-IsSent sending opened call = (call.ask ≡ send_ask sending (id_in opened)) × IsCallDone call
 
 -- The requests before the first send were made, or one of them ends the session.
 abbrev pub Opens : Sending → Result Window ClientFault → (left rest taken more : Option (List ℕ)) → Type 0
 Opens sending (Ok window) left rest taken more =
     (opened : List Call) × Made IsCallDone (opening_plan sending) opened left rest taken more
-    × (opening_plan sending opened ≡ None) × (window.ask ≡ send_ask sending (id_in opened)) × (window.done ≡ 0)
+    × (opening_plan sending opened ≡ None) × (window.id ≡ id_in opened) × (window.done ≡ 0)
     × (window.waiting ≡ 0)
 Opens sending (Err why) left rest taken more =
     (opened : List Call) × (unread written : Option (List ℕ))
     × Made IsCallDone (opening_plan sending) opened left unread taken written
     × BreaksPlan (opening_plan sending) opened [] why unread rest written more
 
--- What was read as the reply to this send.
-abbrev pub HearsSend : Ask → Heard → (left rest : Option (List ℕ)) → Type 0
-HearsSend ask Done left rest =
-    (answer : ReplyContent) × (given : List ℕ) × Consumes left rest (reply_encoding (reply_to ask answer) given)
-    × IsDone ask answer given
-HearsSend ask (Refused error) left rest =
-    Consumes left rest (reply_encoding (reply_to ask (content.Refused error)) [])
-HearsSend ask Lost left rest = HasNoReply ask left rest
+-- What was read as the reply to a send.
+abbrev pub HearsSend : Heard → (left rest : Option (List ℕ)) → Type 0
+HearsSend Done left rest =
+    (answer : ReplyContent) × (given : List ℕ) × Consumes left rest (reply_encoding (reply_to a_send answer) given)
+    × IsDone a_send answer given
+HearsSend (Refused error) left rest =
+    Consumes left rest (reply_encoding (reply_to a_send (content.Refused error)) [])
+HearsSend Lost left rest = HasNoReply a_send left rest
 
 -- The queue was found, and lines were sent. Those sends that have a reply were done.
 pub record Sends (sending : Sending) (left rest taken more fed unsent : Option (List ℕ)) (window : Window) :
     Type 0 where
   pub opened : List Call
   pub sends : List Call
-  pub texts : List (List ℕ)
+  pub waiting : List Sent
   pub follows : FollowsPlan IsCallDone (opening_plan sending) [] opened
   pub found : opening_plan sending opened ≡ None
-  pub ask : window.ask ≡ send_ask sending (id_in opened)
-  pub sent : Each (IsSent sending opened) sends
+  pub id : window.id ≡ id_in opened
+  pub done : Each IsCallDone sends
   pub reads : Consumes left rest (read_by (opened ++ sends))
-  pub writes : Appends taken more (written_by (opened ++ sends) ++ frames_of (send_ask sending (id_in opened)) texts)
-  pub lines : AreLines (bodies_of sends ++ texts) fed unsent
+  pub writes : Appends taken more (written_by (opened ++ sends) ++ frames_of waiting)
+  pub lines : AreSends sending (id_in opened) (sent_by sends ++ waiting) fed unsent
   pub many : window.done ≡ length sends
-  pub waits : window.waiting ≡ length texts
+  pub waits : window.waiting ≡ length waiting
   pub few : window.waiting ≤ window_of sending
 
 -- A send ends the session, however far its input was read.
@@ -85,14 +84,30 @@ Drains sending (Ok done) keep left rest taken more fed unsent before after =
 Drains sending (Err why) keep left rest taken more fed unsent before after =
     EndsCut sending why left rest taken more fed
 
+-- What was read as the message that a line states, after this number of lines: its type, and its body.
+abbrev pub ReadsMessage : Wording → (lines : ℕ) → Result ℤ Unsent → (line text : List ℕ) → Type 0
+ReadsMessage wording lines (Ok mtype) line text = States wording line mtype text
+ReadsMessage wording lines (Err (NoObject before)) line text = (before ≡ lines) × StatesNone wording line
+ReadsMessage wording lines (Err (Memory before)) line text = before ≡ lines
+ReadsMessage wording lines (Err (Long before)) line text = ⊥
+ReadsMessage wording lines (Err Many) line text = ⊥
+ReadsMessage wording lines (Err (Input why)) line text = ⊥
+ReadsMessage wording lines (Err (Fault why)) line text = ⊥
+ReadsMessage wording lines (Err (Cut cut)) line text = ⊥
+
 -- How the lines of an input end after this number of them, apart from their sends.
-abbrev pub EndsLines : Result ⊤ Unsent → ℕ → (fed unfed : Option (List ℕ)) → Type 0
-EndsLines (Ok done) lines fed unfed = HasNone fed unfed
-EndsLines (Err (Long before)) lines fed unfed = (before ≡ lines) × (text : List ℕ) × IsTooLong text fed unfed
-EndsLines (Err Many) lines fed unfed = (unfed ≡ fed) × (lines ≡ 2 ^ 64 - 1)
-EndsLines (Err (Input why)) lines fed unfed = ⊤
-EndsLines (Err (Fault why)) lines fed unfed = ⊥
-EndsLines (Err (Cut cut)) lines fed unfed = ⊥
+abbrev pub EndsLines : Wording → Result ⊤ Unsent → ℕ → (fed unfed : Option (List ℕ)) → Type 0
+EndsLines wording (Ok done) lines fed unfed = HasNone fed unfed
+EndsLines wording (Err (Long before)) lines fed unfed =
+    (before ≡ lines) × (text : List ℕ) × IsTooLong (line_most wording) text fed unfed
+EndsLines wording (Err (NoObject before)) lines fed unfed =
+    (before ≡ lines) × (line : List ℕ) × IsNext (line_most wording) line fed unfed × StatesNone wording line
+EndsLines wording (Err (Memory before)) lines fed unfed =
+    (before ≡ lines) × (line : List ℕ) × IsNext (line_most wording) line fed unfed
+EndsLines wording (Err Many) lines fed unfed = (unfed ≡ fed) × (lines ≡ 2 ^ 64 - 1)
+EndsLines wording (Err (Input why)) lines fed unfed = ⊤
+EndsLines wording (Err (Fault why)) lines fed unfed = ⊥
+EndsLines wording (Err (Cut cut)) lines fed unfed = ⊥
 
 -- How a session ends that has no reply to the sends on their way.
 abbrev pub lost : Window → ACut

@@ -1,7 +1,7 @@
 //! The commands of a client.
 
 ghost use Rattle.std.specs.Prelude.{◌≡◌, ◌<◌, false, true, IfSome, slice_get};
-ghost use Rattle.sysv_clients.specs.Asks.{asks_of, find_ask, is_receive, make_asks, receive_ask, receive_asks, remove_asks, row_asks, task_asks, flags_to_create, flags_to_find, flags_to_make, flags_to_receive, flags_to_wait};
+ghost use Rattle.sysv_clients.specs.Asks.{asks_of, find_ask, hold_ask, is_receive, make_asks, receive_ask, receive_asks, remove_asks, row_asks, task_asks, flags_to_create, flags_to_find, flags_to_make, flags_to_receive, flags_to_wait};
 
 use bitflags::Flags as _;
 use sysv_model::{Cred, Flags, SetTo};
@@ -260,6 +260,20 @@ impl Receipt {
         Ask::Get {
             key: self.key,
             flags: find_flags(self.create, self.mode),
+        }
+    }
+
+    /// Returns the request that holds a message of the queue with this identifier, for as long as
+    /// the session lasts.
+    pub(crate) fn hold(&self, id: i32) -> Ask
+        ensures { result ≡ hold_ask self.now id }
+    {
+        Ask::Hold {
+            id,
+            size: self.size,
+            mtype: self.mtype,
+            flags: receive_flags(self),
+            seconds: 0,
         }
     }
 

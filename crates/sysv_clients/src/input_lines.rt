@@ -6,16 +6,17 @@ ghost use Rattle.std.specs.Io.KnownBytes.{Consumes, IsAtEnd, ReadConsumes, prepe
 ghost use Rattle.std.specs.IoError.{error_kind};
 ghost use Rattle.sysv_clients.specs.Feed.{failure_of, feed_name, feed_stream};
 ghost use Rattle.sysv_clients.specs.Lines.{Ends, FailsBy, Fetches, Gives, is_line, is_nothing};
-ghost use Rattle.sysv_model.specs.declared.limits.TheConstants.{MESSAGE_BYTES};
+ghost use Rattle.sysv_clients.specs.declared.line_text.TheConstants.{LINE_ROOM};
 
 use crate::feed::Feed;
+use crate::line_text::LineText;
 use crate::sending::Unsent;
 use memchr::memchr;
 use std::alloc::Global;
 use std::io;
 use std::io::{ErrorKind, Read};
 use std::marker::Model;
-use sysv_model::{Body, MESSAGE_BYTES, NoMemory};
+use sysv_model::NoMemory;
 
 /// The byte that ends a line.
 const LF: u8 = 10;
@@ -53,8 +54,7 @@ impl Fetched {
     }
 }
 
-/// The number of bytes that one read of an input takes at most. A line with the maximum number of
-/// bytes and its LF fits in it.
+/// The number of bytes that one read of an input takes at most.
 const CHUNK_BYTES: usize = 16_384;
 
 /// Bytes of an input that were read and are not part of a line yet.
@@ -131,24 +131,25 @@ impl Chunk {
     }
 
     /// Moves bytes to the end of a line that has none, up to the next LF, which is removed, or to
-    /// as many as a line that is too long has. Returns whether there was an LF.
-    fn give(&mut self, line: &mut Body) -> bool
+    /// as many as a line has that is longer than `most` bytes. Returns whether there was an LF.
+    fn give(&mut self, line: &mut LineText, most: usize) -> bool
         requires some { 0 < length self.old }
-        requires room { length line.old ≤ MESSAGE_BYTES }
-        ensures { Gives result self.old self.new line.old line.new }
+        requires fits { length line.old ≤ most }
+        requires room { most < LINE_ROOM }
+        ensures { Gives most result self.old self.new line.old line.new }
     {
-        let room = MESSAGE_BYTES + 1 - line.len();
+        let room = most + 1 - line.len();
         let bytes = self.bytes();
         let piece = &bytes[..room.min(bytes.len())];
         match memchr(LF, piece) {
             Some(count) => {
-                line.push_piece(&piece[..count]);
+                line.put(&piece[..count]);
                 self.skip(count + 1);
                 true
             }
             None => {
                 let count = piece.len();
-                line.push_piece(piece);
+                line.put(piece);
                 self.skip(count);
                 false
             }
@@ -156,27 +157,29 @@ impl Chunk {
     }
 }
 
-/// Reads a line, without its LF, after this number of lines. The input is read only if the chunk
-/// has no whole line.
+/// Reads a line of at most `most` bytes, without its LF, after this number of lines. The input is
+/// read only if the chunk has no whole line.
 ///
 /// # Errors
 ///
-/// - `Long` if the line has more than `MESSAGE_BYTES` bytes. It states the number of lines before.
+/// - `Long` if the line has more than `most` bytes. It states the number of lines before.
 /// - `Input` if a read fails, except that an interrupted read is made again.
 pub(crate) fn fetch<I: Read>(
     input: &mut Feed<'_, I>,
     chunk: &mut Chunk,
-    line: &mut Body,
+    line: &mut LineText,
+    most: usize,
     lines: u64,
 ) -> Result<Fetched, Unsent>
-    ensures fetches { Fetches lines result
+    requires { most < LINE_ROOM }
+    ensures fetches { Fetches most lines result
         (prepend_known chunk.old (I.remaining (feed_stream input.old)))
         (prepend_known chunk.new (I.remaining (feed_stream input.new))) line.new }
     ensures same { feed_name input.new ≡ feed_name input.old }
     ensures failed { FailsBy result (failure_of input.new) }
 {
     line.clear();
-    while line.len() <= MESSAGE_BYTES {
+    while line.len() <= most {
         if chunk.bytes().is_empty() {
             if let Err(why) = chunk.fill(input) {
                 return Err(Unsent::Input(why));
@@ -185,7 +188,7 @@ pub(crate) fn fetch<I: Read>(
                 return Ok(last_of(line));
             }
         }
-        if chunk.give(line) {
+        if chunk.give(line, most) {
             return Ok(Fetched::Line);
         }
     }
@@ -193,7 +196,7 @@ pub(crate) fn fetch<I: Read>(
 }
 
 /// Returns what was read of an input that is at its end: a last line, or nothing.
-fn last_of(line: &Body) -> Fetched
+fn last_of(line: &LineText) -> Fetched
     ensures { Ends result line.now }
 {
     if line.len() == 0 {

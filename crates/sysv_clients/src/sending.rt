@@ -1,14 +1,18 @@
-//! A `snd` of several messages: a session that sends each line of an input as a message.
+//! A `snd` of several messages: a session that sends the message that each line of an input states.
 
-ghost use Rattle.std.specs.Prelude.{◌≡◌, ◌⊎◌, ◌+◌, ◌<◌, ◌≤◌, ◌^◌, ℕ, List, Option, [], IfErr, IfOk, OnOk};
+ghost use Rattle.std.specs.Prelude.{◌≡◌, ◌⊎◌, ◌+◌, ◌<◌, ◌≤◌, ◌^◌, ℕ, List, Option, [], length, IfErr, IfOk, OnOk};
+ghost use Rattle.std.specs.Io.KnownBytes.{prepend_known};
 ghost use Rattle.sysv_clients.specs.declared.sending.Heard.TheVariants as heards;
 ghost use Rattle.sysv_clients.specs.declared.sending.Sending.{Sending as ASending};
+ghost use Rattle.sysv_clients.specs.declared.line_text.TheConstants.{LINE_ROOM};
 ghost use Rattle.sysv_clients.specs.declared.sending.TheConstants.{WINDOW};
 ghost use Rattle.sysv_clients.specs.declared.sending.Unsent.TheVariants as unsents;
 ghost use Rattle.sysv_clients.specs.Feed.{failure_of, feed_name, feed_stream};
-ghost use Rattle.sysv_clients.specs.Lines.{FailsBy, IsNext};
-ghost use Rattle.sysv_clients.specs.Sending.{SendsAhead, SendsAll, unsent_line, find_to_send, send_ask, window_of};
-ghost use Rattle.sysv_clients.specs.Window.{Drains, EndsCut, EndsLines, IsCut, HearsSend, Opens, Sends, lost};
+ghost use Rattle.sysv_clients.specs.Lines.{FailsBy, Fetches};
+ghost use Rattle.sysv_clients.specs.Sending.{IsNextSend, SendsAhead, SendsAll, a_send, find_to_send, send_ask, unsent_line, window_of};
+ghost use Rattle.json.specs.Scratch.{room};
+ghost use Rattle.sysv_clients.specs.Stated.{line_most, strings_most};
+ghost use Rattle.sysv_clients.specs.Window.{Drains, EndsCut, EndsLines, IsCut, HearsSend, Opens, ReadsMessage, Sends, lost};
 ghost use Rattle.sysv_model.specs.Instrumented.{stream_name, stream_of};
 
 use crate::client::found;
@@ -16,11 +20,14 @@ use crate::command::{create_flags, wait_flags};
 use crate::exchange::{exchange, hear, put};
 use crate::fault::ClientFault;
 use crate::feed::Feed;
-use crate::input_lines::{Chunk, fetch};
+use crate::input_lines::{Chunk, Fetched, fetch};
+use crate::line_text::LineText;
+use crate::stated::{OBJECT_BYTES, read_object};
+use json::Scratch;
 use std::alloc::Global;
 use std::io;
 use std::io::{Read, Write};
-use sysv_model::{Body, Cred, Errno, Instrumented, NoMemory, WriteFault};
+use sysv_model::{Body, Cred, Errno, Instrumented, MESSAGE_BYTES, NoMemory, WriteFault};
 use sysv_wire::Ask;
 use thiserror::Error;
 
@@ -31,10 +38,36 @@ pub struct Sending {
     pub cred: Cred,
     /// The queue's key. Key 0 is `IPC_PRIVATE`.
     pub key: i32,
-    /// The type of each message.
-    pub mtype: i64,
+    /// How each line states a message.
+    pub wording: Wording,
     /// Whether to fail at once instead of waiting for room.
     pub nowait: bool,
+}
+
+/// How a line states a message.
+#[derive(Clone, Copy, PartialEq, Eq, Debug)]
+pub enum Wording {
+    /// The line is the body of a message.
+    Bodies {
+        /// The type of each message.
+        mtype: i64,
+    },
+    /// The line is a JSON object with the type and the body of a message, as a `rcv` shows it with
+    /// `Form::Object`.
+    Objects,
+}
+
+impl Wording {
+    /// Returns the maximum number of bytes in a line.
+    fn line_most(self) -> usize
+        ensures most { result ≡ line_most self }
+        ensures room { result < LINE_ROOM }
+    {
+        match self {
+            Wording::Bodies { .. } => MESSAGE_BYTES,
+            Wording::Objects => OBJECT_BYTES,
+        }
+    }
 }
 
 /// The maximum number of sends that are on their way: written, and without a reply.
@@ -63,9 +96,21 @@ pub enum Unsent {
     /// A send ends it.
     #[error("{}", .0.fault)]
     Cut(Cut),
-    /// A line is longer than the body of a message may be.
+    /// A line is longer than a line may be.
     #[error("a line is too long after {before} lines")]
     Long {
+        /// The number of lines before it. All of them were accepted.
+        before: u64,
+    },
+    /// A line is no JSON object that states a message.
+    #[error("a line states no message after {before} lines")]
+    NoObject {
+        /// The number of lines before it. All of them were accepted.
+        before: u64,
+    },
+    /// Memory for a line was refused.
+    #[error("no memory after {before} lines")]
+    Memory {
         /// The number of lines before it. All of them were accepted.
         before: u64,
     },
@@ -94,6 +139,8 @@ impl Unsent {
             Unsent::Fault(fault) => fault.line(),
             Unsent::Cut(cut) => cut.fault.line(),
             Unsent::Long { .. } => ClientFault::Refused(Errno::EINVAL).line(),
+            Unsent::NoObject { .. } => "sysvmsg: bad line\n",
+            Unsent::Memory { .. } => ClientFault::NoMemory.line(),
             Unsent::Many => "sysvmsg: too many lines\n",
             Unsent::Input(_) => "sysvmsg: cannot read\n",
         }
@@ -111,20 +158,32 @@ impl Sending {
         }
     }
 
-    /// Returns the request that sends a message to the queue with this identifier.
-    fn send(&self, id: i32) -> Ask
-        ensures { result ≡ send_ask self.now id }
+    /// Returns the request that sends a message of this type to the queue with this identifier.
+    fn send(&self, id: i32, mtype: i64) -> Ask
+        ensures { result ≡ send_ask self.now id mtype }
     {
         Ask::Snd {
             id,
-            mtype: self.mtype,
+            mtype,
             flags: wait_flags(self.nowait),
         }
     }
 }
 
-/// Sends each line of an input as a message, over one session and in order. A line is a body
-/// without its LF; the last line may lack one.
+/// Returns some send. The replies to all sends have one form.
+fn a_send() -> Ask
+    ensures { result ≡ a_send }
+{
+    Ask::Snd {
+        id: 0,
+        mtype: 1,
+        flags: wait_flags(false),
+    }
+}
+
+/// Sends the message that each line of an input states, over one session and in order. A line,
+/// without its LF, is a body or a JSON object, as `sending.wording` says; the last line may lack
+/// its LF.
 ///
 /// The client writes a hello, the request that finds the queue, and a send for each line, all of
 /// version 2. It sends lines that one read of the input returned in a window: at most 256 sends are
@@ -140,7 +199,13 @@ impl Sending {
 ///   read.
 /// - `Cut`: a send is refused, cannot be written or has no reply. It states how many later lines
 ///   were sent, and of how many lines that is unknown.
-/// - `Long`: the next line has more than 8,192 bytes. It states how many lines were sent before.
+/// - `Long`: the next line has more bytes than a line may have: 8,192 if it is a body, and 65,536
+///   if it is an object. It states how many lines were sent before.
+/// - `NoObject`: the next line is no JSON object that states a message: one with a type, a number
+///   from 1 without a fraction or an exponent, a body of at most 8,192 bytes, a string or base64,
+///   and no other member. It states how many lines were sent before.
+/// - `Memory`: memory for the next line, which is an object, was refused. It states how many lines
+///   were sent before.
 /// - `Many`: 2^64 - 1 lines were sent. Whether there are more is not looked at.
 /// - `Input`: a read of the input failed.
 pub fn send_lines<I: Read, R: Read, W: Write>(
@@ -203,8 +268,8 @@ fn send_instrumented<I: Read, R: Read, W: Write>(
     ensures same_reader { stream_name reader.new ≡ stream_name reader.old }
     ensures same_writer { stream_name writer.new ≡ stream_name writer.old }
 {
-    match Sender::open(alloc) {
-        Ok(mut sender) => sender.send_all(sending, input, reader, writer),
+    match Sender::open(alloc, sending.wording) {
+        Ok(mut sender) => sender.send_all(alloc, sending, input, reader, writer),
         Err(NoMemory) => Err(Unsent::Fault(ClientFault::NoMemory)),
     }
 }
@@ -229,23 +294,30 @@ struct Sender {
     given: Body,
     /// What it read of its input and has not sent.
     chunk: Chunk,
+    /// The line that it read last.
+    line: LineText,
+    /// The memory for the strings of an object.
+    scratch: Scratch,
 }
 
 impl Sender {
     /// Creates a client that has made no request. Fails with `NoMemory` if allocation fails.
-    fn open(alloc: Global) -> Result<Sender, NoMemory>
+    fn open(alloc: Global, wording: Wording) -> Result<Sender, NoMemory>
         ensures { IfOk result (λ sender. (sender.text ≡ []) × (sender.chunk ≡ [])) }
     {
         Ok(Sender {
             text: Body::open(alloc)?,
             given: Body::open(alloc)?,
             chunk: Chunk::open(alloc)?,
+            line: LineText::open(alloc)?,
+            scratch: scratch_for(alloc, wording)?,
         })
     }
 
-    /// Finds the queue, and sends each line.
+    /// Finds the queue, and sends the message that each line states.
     fn send_all<I: Read, R: Read, W: Write>(
         &mut self,
+        alloc: Global,
         sending: &Sending,
         input: &mut Feed<'_, I>,
         reader: &mut Instrumented<'_, R>,
@@ -265,14 +337,19 @@ impl Sender {
         let mut window = self.find(sending, reader, writer)?;
         let mut lines = 0;
         while lines < u64::MAX {
-            let fetched = match fetch(input, &mut self.chunk, &mut self.text, lines) {
+            let fetched = match self.fetch(input, sending.wording, lines) {
                 Ok(fetched) => fetched,
                 Err(why) => return self.finish(reader, writer, &mut window, Err(why)),
             };
             if fetched.is_nothing() {
                 return self.finish(reader, writer, &mut window, Ok(()));
             }
-            self.send(writer, &mut window)?;
+            let mtype = match self.read(alloc, sending.wording, lines) {
+                Ok(mtype) => mtype,
+                Err(why) => return self.finish(reader, writer, &mut window, Err(why)),
+            };
+            let ask = sending.send(window.id, mtype);
+            self.send(writer, &mut window, ask)?;
             if !fetched.is_line() {
                 return self.finish(reader, writer, &mut window, Ok(()));
             }
@@ -281,6 +358,50 @@ impl Sender {
             lines += 1;
         }
         self.finish(reader, writer, &mut window, Err(Unsent::Many))
+    }
+
+    /// Reads the next line, after this number of lines.
+    fn fetch<I: Read>(
+        &mut self,
+        input: &mut Feed<'_, I>,
+        wording: Wording,
+        lines: u64,
+    ) -> Result<Fetched, Unsent>
+        ensures fetches { Fetches (line_most wording) lines result
+            (prepend_known self.old.chunk (I.remaining (feed_stream input.old)))
+            (prepend_known self.new.chunk (I.remaining (feed_stream input.new))) self.new.line }
+        ensures same { feed_name input.new ≡ feed_name input.old }
+        ensures failed { FailsBy result (failure_of input.new) }
+    {
+        fetch(
+            input,
+            &mut self.chunk,
+            &mut self.line,
+            wording.line_most(),
+            lines,
+        )
+    }
+
+    /// Reads the message that the line states, which follows this number of lines. Returns its
+    /// type; its body is then the one to send.
+    fn read(&mut self, alloc: Global, wording: Wording, lines: u64) -> Result<i64, Unsent>
+        requires { length self.old.line ≤ line_most wording }
+        ensures reads { ReadsMessage wording lines result self.old.line self.new.text }
+        ensures chunk { self.new.chunk ≡ self.old.chunk }
+    {
+        let line = self.line.bytes();
+        match wording {
+            Wording::Bodies { mtype } => {
+                self.text.clear();
+                self.text.push_piece(line);
+                Ok(mtype)
+            }
+            Wording::Objects => match read_object(alloc, line, &mut self.scratch, &mut self.text) {
+                Ok(Some(mtype)) => Ok(mtype),
+                Ok(None) => Err(Unsent::NoObject { before: lines }),
+                Err(NoMemory) => Err(Unsent::Memory { before: lines }),
+            },
+        }
     }
 
     /// Makes the requests before the first send. Returns the window of the sends.
@@ -301,28 +422,32 @@ impl Sender {
         let hello = Ask::Hello(sending.cred);
         let welcome = exchange(reader, writer, hello, &self.text, &mut self.given)?;
         let got = exchange(reader, writer, sending.find(), &self.text, &mut self.given)?;
-        let id = found(found(0, &welcome), &got);
         Ok(Window {
-            ask: sending.send(id),
+            id: found(found(0, &welcome), &got),
             done: 0,
             waiting: 0,
         })
     }
 
-    /// Writes the send of a line, and flushes nothing.
+    /// Writes this send, whose body was read, and flushes nothing.
     fn send<W: Write>(
         &mut self,
         writer: &mut Instrumented<'_, W>,
         window: &mut Window,
+        ask: Ask,
     ) -> Result<(), Unsent>
         requires { window.old.waiting < WINDOW }
         ensures sends { (sending : ASending) (left rest taken fed unsent unfed : Option (List ℕ)) →
             Sends sending left rest taken (W.contents (stream_of writer.old)) fed unsent window.old
-            → IsNext self.old.text unsent unfed → window.old.waiting < window_of sending
+            → IsNextSend sending window.old.id (record { ask = ask; text = self.old.text }) unsent
+            unfed → window.old.waiting < window_of sending
             → Drains sending result (window.old.waiting + 1) left rest taken
             (W.contents (stream_of writer.new)) fed unfed
-            (record { ask = window.old.ask; done = window.old.done; waiting = window.old.waiting + 1 })
-            window.new }
+            (record {
+              id = window.old.id;
+              done = window.old.done;
+              waiting = window.old.waiting + 1;
+            }) window.new }
         ensures len { OnOk result ((window.new.waiting ≡ window.old.waiting + 1)
             × (window.new.done ≡ window.old.done)) }
         ensures cut { IfErr result IsCut }
@@ -330,7 +455,7 @@ impl Sender {
         ensures same_writer { stream_name writer.new ≡ stream_name writer.old }
     {
         window.waiting += 1;
-        match put(writer, window.ask, &self.text) {
+        match put(writer, ask, &self.text) {
             Ok(()) => Ok(()),
             Err(WriteFault) => Err(Unsent::Cut(lost(window))),
         }
@@ -388,7 +513,7 @@ impl Sender {
         ensures same_reader { stream_name reader.new ≡ stream_name reader.old }
     {
         while window.waiting > keep {
-            match self.hear_send(reader, window.ask) {
+            match self.hear_send(reader) {
                 Heard::Done => {
                     window.done += 1;
                     window.waiting -= 1;
@@ -403,13 +528,13 @@ impl Sender {
     }
 
     /// Reads the reply to a send.
-    fn hear_send<R: Read>(&mut self, reader: &mut Instrumented<'_, R>, ask: Ask) -> Heard
-        ensures hears { HearsSend ask result (R.remaining (stream_of reader.old))
+    fn hear_send<R: Read>(&mut self, reader: &mut Instrumented<'_, R>) -> Heard
+        ensures hears { HearsSend result (R.remaining (stream_of reader.old))
             (R.remaining (stream_of reader.new)) }
         ensures chunk { self.new.chunk ≡ self.old.chunk }
         ensures same_reader { stream_name reader.new ≡ stream_name reader.old }
     {
-        match hear(reader, ask, &mut self.given) {
+        match hear(reader, a_send(), &mut self.given) {
             Ok(_) => Heard::Done,
             Err(ClientFault::Refused(error)) => Heard::Refused(error),
             Err(ClientFault::NoReply) => Heard::Lost,
@@ -428,8 +553,7 @@ impl Sender {
         requires { 0 < window.now.waiting }
         ensures ends { (sending : ASending) (left mid taken more fed unsent : Option (List ℕ)) →
             Sends sending left mid taken more fed unsent window.now
-            → HearsSend window.now.ask (heards.Refused error) mid
-            (R.remaining (stream_of reader.old))
+            → HearsSend (heards.Refused error) mid (R.remaining (stream_of reader.old))
             → EndsCut sending (unsents.Cut result) left (R.remaining (stream_of reader.new))
             taken more fed }
         ensures chunk { self.new.chunk ≡ self.old.chunk }
@@ -442,7 +566,7 @@ impl Sender {
             unknown: window.waiting - 1,
         };
         while cut.unknown > 0 {
-            match self.hear_send(reader, window.ask) {
+            match self.hear_send(reader) {
                 Heard::Done => cut.after += 1,
                 Heard::Refused(_) => {}
                 Heard::Lost => return cut,
@@ -464,7 +588,7 @@ impl Sender {
         ensures ends { (sending : ASending) (left taken fed unsent unfed : Option (List ℕ)) →
             Sends sending left (R.remaining (stream_of reader.old)) taken
             (W.contents (stream_of writer.old)) fed unsent window.old
-            → EndsLines ended (window.old.done + window.old.waiting) unsent unfed
+            → EndsLines sending.wording ended (window.old.done + window.old.waiting) unsent unfed
             → SendsAll sending result left (R.remaining (stream_of reader.new)) taken
             (W.contents (stream_of writer.new)) fed unfed }
         ensures same_end { (result ≡ ended) ⊎ IfErr result IsCut }
@@ -480,8 +604,8 @@ impl Sender {
 /// The sends of a session.
 #[derive(Clone, Copy)]
 struct Window {
-    /// The request of each send.
-    ask: Ask,
+    /// The identifier of the queue.
+    id: i32,
     /// The number of sends that were done.
     done: u64,
     /// The number of sends that were written and have no reply yet.
@@ -511,5 +635,20 @@ fn kept(sending: &Sending, waiting: u32, has_line: bool) -> u32
         waiting
     } else {
         WINDOW / 2
+    }
+}
+
+/// Returns memory for the strings of an object: for an object of the maximum size, if lines are
+/// objects. Fails with `NoMemory` if allocation fails.
+fn scratch_for(alloc: Global, wording: Wording) -> Result<Scratch, NoMemory>
+    ensures { IfOk result (λ scratch. strings_most wording ≤ room scratch) }
+{
+    let mut scratch = Scratch::new(alloc);
+    match wording {
+        Wording::Bodies { .. } => Ok(scratch),
+        Wording::Objects => match scratch.reserve(OBJECT_BYTES) {
+            Ok(()) => Ok(scratch),
+            Err(_) => Err(NoMemory),
+        },
     }
 }

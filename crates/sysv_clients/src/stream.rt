@@ -49,7 +49,7 @@ pub struct Receiving {
 
 impl Receiving {
     /// Returns the number of messages to receive.
-    fn messages(&self) -> u64
+    pub(crate) fn messages(&self) -> u64
         ensures { result ≡ count_of self.now }
     {
         self.count.min(MAX_MESSAGES)

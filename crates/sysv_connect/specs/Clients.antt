@@ -12,6 +12,7 @@ use Rattle.sysv_clients.specs.declared.command.Command.{Command}
 use Rattle.sysv_clients.specs.declared.command.Task.{Task}
 use Rattle.sysv_clients.specs.declared.command.Task.TheVariants.{List as Table, Show, Remove, Make, Send, Receive}
 use Rattle.sysv_clients.specs.declared.fault.ClientFault.{ClientFault}
+use Rattle.sysv_clients.specs.declared.holding.Unheld.{Unheld}
 use Rattle.sysv_clients.specs.declared.sending.Sending.{Sending}
 use Rattle.sysv_clients.specs.declared.sending.Unsent.{Unsent}
 use Rattle.sysv_clients.specs.declared.stream.Receiving.{Receiving}
@@ -20,6 +21,7 @@ use Rattle.sysv_clients.specs.Asks.{no_flags}
 use Rattle.sysv_clients.specs.Clearing.{ClearsAll}
 use Rattle.sysv_clients.specs.Dialogue.{Converses, Exchange, asks_encoding}
 use Rattle.sysv_clients.specs.Faults.{fault_line}
+use Rattle.sysv_clients.specs.Holding.{HoldsAll}
 use Rattle.sysv_clients.specs.Page.{page_text}
 use Rattle.sysv_clients.specs.Sending.{SendsAhead}
 use Rattle.sysv_clients.specs.Stream.{TakesAll}
@@ -31,7 +33,7 @@ use Rattle.sysv_connect.specs.declared.how.How.{How}
 use Rattle.sysv_connect.specs.Bodies.{with_text}
 use Rattle.sysv_connect.specs.Ends.{Fails, Succeeds, SucceedsIf}
 use Rattle.sysv_connect.specs.declared.batches.Way.{Way}
-use Rattle.sysv_connect.specs.declared.batches.Way.TheVariants.{Stream, Purge, Lines, Clear, Once}
+use Rattle.sysv_connect.specs.declared.batches.Way.TheVariants.{Stream, Purge, Hold, Lines, Clear, Once}
 use Rattle.sysv_connect.specs.Purge.{Purges}
 
 -- A client received messages, and the program succeeds exactly if that had no fault.
@@ -40,7 +42,14 @@ Receives receiving exit left rest taken more shown after =
     (ended : Result ⊤ Stop) × TakesAll receiving ended left rest taken more shown after
     × SucceedsIf (ended ≡ Ok tt) exit
 
--- A client sent the lines of its input, and the program succeeds exactly if that had no fault.
+-- A client held messages until they were shown, and the program succeeds exactly if that had no fault.
+abbrev pub Holds : Receiving → ExitCode → (left rest taken more shown after : Option (List ℕ)) → Type 0
+Holds receiving exit left rest taken more shown after =
+    (ended : Result ⊤ Unheld) × HoldsAll receiving ended left rest taken more shown after
+    × SucceedsIf (ended ≡ Ok tt) exit
+
+-- A client sent the messages that the lines of its input state, and the program succeeds exactly if that
+-- had no fault.
 abbrev pub SendsLines : Sending → ExitCode → (left rest taken more fed unfed : Option (List ℕ)) → Type 0
 SendsLines sending exit left rest taken more fed unfed =
     (ended : Result ⊤ Unsent) × SendsAhead sending ended left rest taken more fed unfed
@@ -132,6 +141,8 @@ IsDone (Stream receiving) cred task how exit left rest taken more fed unfed show
     Receives receiving exit left rest taken more shown after × (unfed ≡ fed)
 IsDone (Purge receiving) cred task how exit left rest taken more fed unfed shown after =
     Purges receiving exit left rest taken more shown after × (unfed ≡ fed)
+IsDone (Hold receiving) cred task how exit left rest taken more fed unfed shown after =
+    Holds receiving exit left rest taken more shown after × (unfed ≡ fed)
 IsDone (Lines sending) cred task how exit left rest taken more fed unfed shown after =
     SendsLines sending exit left rest taken more fed unfed × (after ≡ shown)
 IsDone Clear cred task how exit left rest taken more fed unfed shown after =

@@ -7,11 +7,12 @@ use Rattle.sysv_clients.specs.declared.command.Receipt.{Receipt}
 use Rattle.sysv_clients.specs.declared.command.Target.TheVariants.{Id, Key, All}
 use Rattle.sysv_clients.specs.declared.command.Task.{Task}
 use Rattle.sysv_clients.specs.declared.command.Task.TheVariants.{List as Table, Show, Remove, Make, Send, Receive}
+use Rattle.sysv_clients.specs.declared.sending.Wording.TheVariants.{Bodies, Objects}
 use Rattle.sysv_clients.specs.declared.stream.Receiving.{Receiving}
 use Rattle.sysv_model.specs.declared.cred.Cred.{Cred}
 use Rattle.sysv_connect.specs.declared.how.How.{How}
 use Rattle.sysv_connect.specs.declared.batches.Way.{Way}
-use Rattle.sysv_connect.specs.declared.batches.Way.TheVariants.{Stream, Purge, Lines, Clear, Once}
+use Rattle.sysv_connect.specs.declared.batches.Way.TheVariants.{Stream, Purge, Hold, Lines, Clear, Once}
 use Rattle.sysv_connect.specs.Purge.{purging_of}
 
 -- The number of messages by the number that is stated, if one is, and whether all are wanted.
@@ -46,9 +47,11 @@ is_of_stream receipt how =
 abbrev pub way_by : Cred → Task → How → Way
 way_by cred (Receive receipt) how =
     if how.purge then Purge (purging_of cred receipt)
+    else if how.holds then Hold (receiving_of cred receipt how)
     else if is_of_stream receipt how then Stream (receiving_of cred receipt how) else Once
 way_by cred (Send key text mtype nowait) how =
-    if how.lines then Lines (record { cred = cred; key = key; mtype = mtype; nowait = nowait }) else Once
+    if how.lines then Lines (record { cred = cred; key = key; wording = Bodies mtype; nowait = nowait })
+    else if how.objects then Lines (record { cred = cred; key = key; wording = Objects; nowait = nowait }) else Once
 way_by cred (Remove All) how = Clear
 way_by cred (Remove (Id id)) how = Once
 way_by cred (Remove (Key key)) how = Once

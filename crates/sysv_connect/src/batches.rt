@@ -17,11 +17,12 @@ use crate::purge::purging;
 use crate::screen::Screen;
 use crate::sentence::Detail;
 use crate::teller::{Left, Teller};
+use std::fmt::Display;
 use std::io::{Eprint, Read, Write};
 use std::process::ExitCode;
 use sysv_clients::{
     ClientFault, Cut, Form, MAX_AHEAD, Receipt, Receiving, Refusal, Sending, Stop, Target, Task,
-    Unsent, Unshown, receive_all, remove_all, send_lines,
+    Unsent, Unshown, Wording, receive_all, remove_all, send_lines,
 };
 use sysv_model::{Cred, Errno};
 
@@ -34,6 +35,9 @@ const NO_MESSAGE: ClientFault = ClientFault::Refused(Errno::ENOMSG);
 /// No room came in time.
 const NO_ROOM: ClientFault = ClientFault::Refused(Errno::EAGAIN);
 
+/// What is wrong with a line that states no message.
+const BAD_LINE: &str = "bad line";
+
 /// How a command is done.
 #[derive(Clone, Copy, PartialEq, Eq, Debug)]
 pub(crate) enum Way {
@@ -41,7 +45,9 @@ pub(crate) enum Way {
     Stream(Receiving),
     /// By a client that receives messages until there is none, and shows their number.
     Purge(Receiving),
-    /// By a client that sends each line of an input as a message.
+    /// By a client that holds each message until it was shown.
+    Hold(Receiving),
+    /// By a client that sends the message that each line of an input states.
     Lines(Sending),
     /// By a client that removes all queues.
     Clear,
@@ -55,6 +61,7 @@ pub(crate) fn way_of(cred: Cred, task: &Task<'_>, how: &How) -> Way
 {
     match *task {
         Task::Receive(receipt) if how.purge => Way::Purge(purging(cred, receipt)),
+        Task::Receive(receipt) if how.holds => Way::Hold(receiving(cred, receipt, how)),
         Task::Receive(receipt) if is_stream(&receipt, how) => {
             Way::Stream(receiving(cred, receipt, how))
         }
@@ -66,7 +73,13 @@ pub(crate) fn way_of(cred: Cred, task: &Task<'_>, how: &How) -> Way
         } if how.lines => Way::Lines(Sending {
             cred,
             key,
-            mtype,
+            wording: Wording::Bodies { mtype },
+            nowait,
+        }),
+        Task::Send { key, nowait, .. } if how.objects => Way::Lines(Sending {
+            cred,
+            key,
+            wording: Wording::Objects,
             nowait,
         }),
         Task::Remove(Target::All) => Way::Clear,
@@ -198,9 +211,9 @@ fn left_after(receiving: &Receiving, unshown: Unshown) -> Left {
     }
 }
 
-/// Connects to the server at `place` and sends each line of `input` there. Each send waits as long
-/// as `patience` says. A send that is left then fails with EAGAIN. If the input cannot be read, the
-/// reason is reported on standard error.
+/// Connects to the server at `place` and sends the message that each line of `input` states. Each
+/// send waits as long as `patience` says. A send that is left then fails with EAGAIN. If the input
+/// cannot be read, the reason is reported on standard error.
 pub(crate) fn send_at<I: Read, P: Place>(
     rt: &(impl Print + Eprint + AllocGlobal),
     input: &mut I,
@@ -252,22 +265,30 @@ fn send_on<I: Read, R: Leave, W: Write + Drop>(
         Unsent::Input(why) => return teller.no_input(rt, why),
         Unsent::Cut(cut) => explain(rt, cut),
         Unsent::Long { before } => explain_line(rt, *before, Errno::EINVAL, 0),
+        Unsent::NoObject { before } => explain_line(rt, *before, BAD_LINE, 0),
+        Unsent::Memory { before } => explain_lines(rt, *before),
         _ => {}
     }
-    teller.fault(rt, unsent.line(), detail_of_unsent(&unsent, is_late, link));
+    let detail = detail_of_unsent(&unsent, sending.wording, is_late, link);
+    teller.fault(rt, unsent.line(), detail);
     failed(is_late)
 }
 
 /// Returns what is known of the end of a session of sends beyond its name.
 fn detail_of_unsent<R: Leave, W: Write + Drop>(
     unsent: &Unsent,
+    wording: Wording,
     is_late: bool,
     link: &Link<R, W>,
 ) -> Detail {
     match unsent {
         Unsent::Fault(fault) => detail_of(*fault, is_late, link),
         Unsent::Cut(cut) => detail_of(cut.fault, is_late, link),
-        Unsent::Long { .. } => Detail::LongLine,
+        Unsent::Long { .. } => match wording {
+            Wording::Bodies { .. } => Detail::LongLine,
+            Wording::Objects => Detail::LongObject,
+        },
+        Unsent::NoObject { .. } | Unsent::Memory { .. } => Detail::Plain,
         Unsent::Many | Unsent::Input(_) => Detail::Plain,
     }
 }
@@ -284,16 +305,21 @@ fn explain(rt: &impl Eprint, cut: &Cut) {
     if let ClientFault::Refused(error) = fault {
         explain_line(rt, before, error, after);
     } else {
-        let _ = eprintln!(rt; "sysvmsg: lines that were sent: {before}");
+        explain_lines(rt, before);
     }
     if unknown > 0 {
         let _ = eprintln!(rt; "sysvmsg: lines that may have been sent: {unknown}");
     }
 }
 
+/// Reports on standard error how many lines were sent.
+fn explain_lines(rt: &impl Eprint, sent: u64) {
+    let _ = eprintln!(rt; "sysvmsg: lines that were sent: {sent}");
+}
+
 /// Reports on standard error that the line after `before` lines was refused, and why, and how many
 /// later ones were sent.
-fn explain_line(rt: &impl Eprint, before: u64, error: Errno, after: u32) {
+fn explain_line(rt: &impl Eprint, before: u64, error: impl Display + Drop, after: u32) {
     let line = before.saturating_add(1);
     let _ = eprintln!(rt; "sysvmsg: line {line}: {error}; later lines that were sent: {after}");
 }

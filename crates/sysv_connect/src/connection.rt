@@ -14,6 +14,7 @@ ghost use Rattle.sysv_connect.specs.Visits.{Visited, contact_of};
 use crate::batches::{Way, receive_at, remove_at, send_at, way_of};
 use crate::contact::{Contact, Visit};
 use crate::ending::{FAULT, TIMED_OUT};
+use crate::holds::hold_at;
 use crate::how::How;
 use crate::input::{Unread, read_body};
 use crate::link::{Link, Unlinked, linked};
@@ -87,6 +88,7 @@ pub fn run_as<I: Read, P: Place, S: Write>(
             let patience = Patience::of(&Task::Receive(receiving.receipt), how.wait);
             purge_at(rt, place, &teller, &receiving, patience, screen)
         }
+        Way::Hold(receiving) => hold_at(rt, place, &teller, &receiving, patience, screen),
         Way::Lines(sending) => send_at(rt, input, place, &teller, &sending, patience),
         Way::Clear => remove_at(rt, place, &teller, command.cred, patience),
         Way::Once => run_one(rt, input, place, &teller, command, how, screen),

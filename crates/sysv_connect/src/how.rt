@@ -9,12 +9,17 @@ pub struct How {
     pub from_input: bool,
     /// Whether a `snd` sends each line of the standard input, in place of the body of the task.
     pub lines: bool,
+    /// Whether a `snd` sends the message that each line of the standard input states, a JSON
+    /// object, in place of that of the task.
+    pub objects: bool,
     /// Whether a `snd` of lines reports how many of them were sent while it sends them.
     pub progress: bool,
     /// Whether a `rcv` receives messages until it is ended.
     pub follow: bool,
     /// Whether a `rcv` takes messages until there is none, and shows only their number.
     pub purge: bool,
+    /// Whether a `rcv` holds each message until it was shown.
+    pub holds: bool,
     /// The number of messages that a `rcv` receives.
     pub count: Option<u32>,
     /// The number of receives that a `rcv` has on their way.

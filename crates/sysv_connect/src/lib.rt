@@ -6,6 +6,7 @@ mod batches;
 mod connection;
 mod contact;
 mod ending;
+mod holds;
 mod how;
 mod input;
 mod leaver;

@@ -2,7 +2,7 @@
 use crate::room::Room;
 use crate::silence::Silence;
 use std::fmt;
-use sysv_clients::{Command, Receipt, Target, Task};
+use sysv_clients::{Command, OBJECT_BYTES, Receipt, Target, Task};
 use sysv_model::{
     BODY_ROOM, Cred, MAX_QBYTES, MESSAGE_BYTES, QBYTES_AT_CREATION, QUEUE_MESSAGES, Stat,
 };
@@ -19,8 +19,12 @@ pub(crate) enum Detail {
     Late,
     /// A line of the input is longer than a message may be.
     LongLine,
+    /// A line of the input is longer than the JSON object of a message may be.
+    LongObject,
     /// Why there is no reply.
     Silent(Silence),
+    /// The server has ended a session that would hold messages before its first reply.
+    NoHolds,
     /// What keeps a message from its queue.
     Full(Room),
 }
@@ -116,6 +120,7 @@ impl fmt::Display for Words<'_> {
             "ENOMSG" => self.no_message(f),
             "EIDRM" => write!(f, "the queue was removed"),
             "EOVERFLOW" => write!(f, "a counter of the server has reached its bound"),
+            "bad line" => self.no_object(f),
             _ => self.no_reply(f),
         }
     }
@@ -216,6 +221,9 @@ impl Words<'_> {
             Some(Task::Send { .. }) if self.detail == Detail::LongLine => {
                 write!(f, "a line has more than {MESSAGE_BYTES} bytes")
             }
+            Some(Task::Send { .. }) if self.detail == Detail::LongObject => {
+                write!(f, "a line has more than {OBJECT_BYTES} bytes")
+            }
             Some(Task::Send { text, .. }) if text.len() >= BODY_ROOM => {
                 write!(
                     f,
@@ -240,10 +248,24 @@ impl Words<'_> {
         }
     }
 
+    /// Says that a line states no message.
+    fn no_object<W: fmt::Write>(&self, f: &mut fmt::Formatter<W>) -> fmt::Result {
+        write!(
+            f,
+            "a line is no JSON object with only the type of a message, 1 or more, and its body, \
+            at most {MESSAGE_BYTES} bytes"
+        )
+    }
+
     /// Says why there is no reply.
     fn no_reply<W: fmt::Write>(&self, f: &mut fmt::Formatter<W>) -> fmt::Result {
         match self.detail {
             Detail::Silent(silence) => write!(f, "{silence}"),
+            Detail::NoHolds => write!(
+                f,
+                "the connection was closed before a reply: the server lets clients hold no messages \
+                (without --hold), or has ended, or the socket is another program's"
+            ),
             _ => Ok(()),
         }
     }

@@ -201,7 +201,9 @@ impl Teller<'_> {
 fn count(rt: &impl Eprint, left: Left) {
     let Left { unshown, ahead } = left;
     let Unshown { taken, shown } = unshown;
-    let _ = eprintln!(rt; "sysvmsg: messages that were taken: {taken}, and shown: {shown}");
+    let _ = eprintln!(rt;
+        "sysvmsg: messages that were taken: {taken}, and shown: {shown}; the others are lost"
+    );
     if ahead > 0 {
         let _ = eprintln!(rt; "sysvmsg: later messages that may have been taken: at most {ahead}");
     }

@@ -1,6 +1,8 @@
 -- A session served with a pass makes calls of the service.
-use Rattle.std.proofs.Common.{◌≡◌, ◌∙◌, ℕ, List, [], ◌∷◌, ◌++◌, None, Some, ap, sym, subst, refl, inl, inr}
+use Rattle.std.proofs.Common.{◌≡◌, ◌∙◌, ℕ, ℤ, List, [], ◌∷◌, ◌++◌, None, Some, Result, Ok, Err, ap, sym, subst, refl}
+use Rattle.std.proofs.Common.{inl, inr}
 use Rattle.std.specs.Prelude.{⊤}
+use Rattle.sysv_model.specs.declared.errno.Errno.{Errno}
 use Rattle.std.proofs.lemmas.List.{append-nil, append_assoc}
 use Rattle.sysv_model.specs.declared.cred.Cred.{Cred}
 use Rattle.sysv_model.specs.Turn.{Op}
@@ -22,7 +24,7 @@ use Rattle.sysv_service.specs.Ran.{Pass, Ran}
 use Rattle.sysv_thread_laws.specs.Working as working
 use Rattle.sysv_thread_laws.specs.Working.{Works}
 use Rattle.sysv_seats.specs.Asked.{Asks}
-use Rattle.sysv_seats.specs.Held.{HoldAsks, holds_with}
+use Rattle.sysv_seats.specs.Held.{AsksForWriting, HoldAsks, holds_with}
 use Rattle.sysv_seats.specs.Holding as holding
 use Rattle.sysv_seats.specs.Holding.{Holder, empty_handed, no_flags}
 use Rattle.sysv_seats.specs.Sits.{zero_moment}
@@ -211,6 +213,24 @@ module _ (may : ℕ → Type 0) (may_leave : Type 0) (any : EachRunIsAtAnyMoment
         holding.HoldAsks MakesCall ReadsBeside ShowsBeside may may_leave version cred ask text (held_in made old)
         outcome given (held_in (made ++ calls) new)
 
+  -- The call that a hold makes before its receive.
+  record AsksMakes (id : ℤ) (old : Pass) (granted : Result ⊤ Errno) (new : Pass) : Type 0 where
+    calls : List Called
+    rests : AllByRecursion Resting calls
+    works : (start : Pass) (made : List Called) → Works start made old → Works start (made ++ calls) new
+    asks : (made : List Called) →
+        holding.AsksForWriting MakesCall ReadsBeside ShowsBeside cred id (log old made) granted (log new (made ++ calls))
+
+  asks_makes : (id : ℤ) (old : Pass) (granted : Result ⊤ Errno) (new : Pass) → AsksForWriting cred id old granted new →
+      AsksMakes id old granted new
+  asks_makes id old granted new (answer, ending, ends, tells, grants) = record {
+    calls = call_of old cred (MsgctlStat id) 0 ends.0 (Over ending) ∷ [];
+    rests = (tt, tt);
+    works = λ start made. one_call no_moment unstamped cred (MsgctlStat id) 0 start old made ends.0 (Over ending) new
+        ends.1;
+    asks = λ made. (answer, ending, (ends.0, ends.1, refl), tells, grants);
+  }
+
   -- The calls of any other request.
   beside : (ask : Ask) (text : List ℕ) (old : Holder Pass) (outcome : RequestOutcome) (given : List ℕ)
       (new : Holder Pass) → Asks may may_leave version cred ask text old.at outcome given new.at →
@@ -227,13 +247,37 @@ module _ (may : ℕ → Type 0) (may_leave : Type 0) (any : EachRunIsAtAnyMoment
     works = λ start made works. still start old.at new.at made (ap (λ (h : Holder Pass). h.at) refused.0) works;
     asks = λ made. inl (same_held old new made refused.0, refused.1, refused.2);
   }
-  hold_makes (Hold id size mtype flags seconds) text old outcome given new (inr (can, came, receives, is, held)) =
-      let one = beside (Rcv id size mtype flags) text old came given new receives in
+  hold_makes (Hold id size mtype flags seconds) text old outcome given new
+      (inr (inl (can, why, asks, is, same, none))) =
+      let one = asks_makes id old.at (Err why) new.at asks in
       record {
         calls = one.calls;
         rests = one.rests;
         works = one.works;
-        asks = λ made. inr (can, came, one.asks made, is, held);
+        asks = λ made. inr (inl (can, why, one.asks made, is, same, none));
+      }
+  hold_makes (Hold id size mtype flags seconds) text old outcome given new
+      (inr (inr (can, came, granted, asks, receives, is, held))) =
+      let one = asks_makes id old.at (Ok tt) granted asks in
+      let two = makes may may_leave any unstamped version cred (Rcv id size mtype flags) text granted came given new.at
+      receives in
+      record {
+        calls = one.calls ++ two.calls;
+        rests = both one.calls two.calls one.rests two.rests;
+        works = λ start made works.
+            subst (λ calls. Works start calls new.at) (append_assoc made one.calls two.calls)
+            (two.works start (made ++ one.calls) (one.works start made works));
+        asks = λ made. inr (inr (
+          can,
+          came,
+          log granted (made ++ one.calls),
+          one.asks made,
+          subst (λ calls. requests.Asks MakesCall ReadsBeside ShowsBeside may may_leave version cred
+              (Rcv id size mtype flags) text (log granted (made ++ one.calls)) came given (log new.at calls))
+              (append_assoc made one.calls two.calls) (two.asks (made ++ one.calls)),
+          is,
+          held,
+        ));
       }
   hold_makes Done text old outcome given new asked = record {
     calls = [];
@@ -241,12 +285,21 @@ module _ (may : ℕ → Type 0) (may_leave : Type 0) (any : EachRunIsAtAnyMoment
     works = λ start made works. still start old.at new.at made (ap (λ (h : Holder Pass). h.at) asked.0) works;
     asks = λ made. (same_held (empty_handed old.at) new made asked.0, asked.1, asked.2);
   }
-  hold_makes Back text old outcome given new asked = record {
+  hold_makes Back text old outcome given new (inl (none, same, told, empty)) = record {
     calls = [];
     rests = tt;
-    works = λ start made works. still start old.at new.at made (ap (λ (h : Holder Pass). h.at) asked.0) works;
-    asks = λ made. (same_held old new made asked.0, asked.1, asked.2);
+    works = λ start made works. still start old.at new.at made (ap (λ (h : Holder Pass). h.at) same) works;
+    asks = λ made. inl (none, same_held old new made same, told, empty);
   }
+  hold_makes Back text old outcome given new (inr (message, is, came, sends, told, held, empty)) =
+      let one = makes may may_leave any unstamped Three message.cred (Snd message.id message.mtype no_flags) message.text
+      old.at came [] new.at (sends, refl) in
+      record {
+        calls = one.calls;
+        rests = one.rests;
+        works = one.works;
+        asks = λ made. inr (message, is, came, (one.asks made).0, told, held, empty);
+      }
   hold_makes ask text old outcome given new asked =
       let one = beside ask text old outcome given new asked.0 in
       record {

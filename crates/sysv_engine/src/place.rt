@@ -407,10 +407,20 @@ impl<'a, R: Wait, T: NonBlocking> Place<'a, R, T> {
     /// Returns what the parked call waits for, or the send that gives back a message, if one waits.
     pub(crate) fn key(&self) -> Option<Key> {
         let (waiting, length) = match &self.client {
-            Some(client) => (client.waiting()?, client.parked_length()),
+            Some(client) => (client.waiting()?, self.parked_length(client)),
             None => (Waiting::Send(self.returning?), self.handler.return_length()),
         };
         Some(key_of(&waiting, length))
+    }
+
+    /// Returns the number of bytes in the frame of the client's parked call. That of a back is the
+    /// send of the message that is held.
+    fn parked_length(&self, client: &Client<T>) -> usize {
+        if client.awaits_back() {
+            self.handler.return_length()
+        } else {
+            client.parked_length()
+        }
     }
 
     /// Returns the number of blocks that calls at the place reserved and did not release, modulo

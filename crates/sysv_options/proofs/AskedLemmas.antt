@@ -1,13 +1,14 @@
 -- What a client's command asks for, a command line with it asks for.
 use Rattle.std.proofs.Common.{◌≡◌, ◌∙◌, ℕ, Bool, true, false, List, Option, Some, Result, Ok, Err, codes, refl, sym}
-use Rattle.std.proofs.Common.{subst}
-use Rattle.std.specs.Prelude.{IfOk, ◌&&◌}
+use Rattle.std.proofs.Common.{inr, subst}
+use Rattle.std.specs.Prelude.{IfErr, IfOk, ◌&&◌}
 use Rattle.clap.specs.Words.{App, HasMatchesOf, Row, subcommand_rows_of, takes}
+use Rattle.clap.specs.declared.error.Error.{Error}
 use Rattle.clap.specs.declared.parser.matches.ArgMatches.{ArgMatches}
 use Rattle.sysv_clients.specs.declared.command.Task.{Task}
 use Rattle.sysv_options.specs.declared.asked.Asked.{Asked}
 use Rattle.sysv_options.specs.declared.asked.Asked.TheVariants.{Script, Serve, Look, Client}
-use Rattle.sysv_options.specs.Requests.{AsksFor, ClientAsks, CommandAsks, IsAskedBy, IsMeant}
+use Rattle.sysv_options.specs.Requests.{AreRefused, AsksFor, ClientAsks, CommandAsks, IsAskedBy, IsMeant, IsRefused}
 use Rattle.sysv_options.specs.Tasks.{HasTask}
 use Rattle.sysv_options.specs.Words.{IsRead}
 
@@ -63,3 +64,9 @@ pub is_meant : {E : Type 0} (r : Result Asked E) (line : App) (words : List (Lis
     IfOk r (IsAskedBy line words) → IfOk r (IsMeant words)
 is_meant (Ok asked) line words h = (line, h)
 is_meant (Err error) line words h = h
+
+-- What was refused on a command line was refused on some.
+pub are_refused : {A : Type 0} (r : Result A Error) (line : App) (words : List (List ℕ)) →
+    IfErr r (IsRefused line words) → IfErr r (AreRefused words)
+are_refused (Ok asked) line words h = h
+are_refused (Err error) line words h = inr (line, h)

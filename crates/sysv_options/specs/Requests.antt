@@ -1,5 +1,5 @@
 -- The request that a parsed command line makes (this project's programs).
-use Rattle.std.specs.Prelude.{◌≡◌, ℕ, true, List, codes, Option, Some, None}
+use Rattle.std.specs.Prelude.{◌≡◌, ◌⊎◌, ℕ, true, List, codes, Option, Some, None}
 use Rattle.clap.specs.Values.{kind_of}
 use Rattle.clap.specs.Words.{App, HasMatchesOf, Row, subcommand_rows_of, takes}
 use Rattle.clap.specs.declared.error.Error.{Error}
@@ -41,6 +41,10 @@ IsAskedBy line words asked =
 abbrev pub IsRefused : App → List (List ℕ) → Error → Type 0
 IsRefused line words error =
     takes line words ≡ true → ¬ (kind_of error ≡ OutOfMemory) → (asked : Asked) → ¬ IsAskedBy line words asked
+
+-- These words were refused by this error, on the command line of some table of commands, or for want of memory.
+abbrev pub AreRefused : List (List ℕ) → Error → Type 0
+AreRefused words error = (kind_of error ≡ OutOfMemory) ⊎ ((line : App) × IsRefused line words error)
 
 -- These words, on the command line of some table of commands, make this request.
 abbrev pub IsMeant : List (List ℕ) → Asked → Type 0

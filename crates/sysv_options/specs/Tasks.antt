@@ -36,9 +36,11 @@ IsAhead word ahead = IsNat32 word ahead × (1 ≤ ahead) × (ahead ≤ MAX_AHEAD
 pub record HasHow (words : List Row) (how : How) : Type 0 where
   pub from_input : HasFlag words (codes "stdin") how.from_input
   pub lines : HasFlag words (codes "lines") how.lines
+  pub objects : HasFlag words (codes "json") how.objects
   pub progress : HasFlag words (codes "progress") how.progress
   pub follow : HasFlag words (codes "follow") how.follow
   pub purge : HasFlag words (codes "purge") how.purge
+  pub holds : HasFlag words (codes "hold") how.holds
   pub count : HasMaybe IsNat32 (word_of words (codes "count")) how.count
   pub ahead : HasMaybe IsAhead (word_of words (codes "ahead")) how.ahead
   pub wait : HasMaybe IsTime (word_of words (codes "wait")) how.wait

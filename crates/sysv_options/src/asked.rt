@@ -5,7 +5,7 @@ ghost use Rattle.clap.specs.Values.{kind_of};
 ghost use Rattle.clap.specs.Words.{app_of, subcommand_rows_of};
 ghost use Rattle.clap.specs.declared.error.kind.ErrorKind.TheVariants.{InvalidValue, OutOfMemory};
 ghost use Rattle.sysv_options.specs.Asked.{AreAtOnce, AreBlocks, AreTerms, AreWorkers, HasLimits, IsWithinLimits};
-ghost use Rattle.sysv_options.specs.Requests.{AsksFor, ClientAsks, IsAskedBy, IsMeant, IsRefused};
+ghost use Rattle.sysv_options.specs.Requests.{AreRefused, AsksFor, ClientAsks, IsAskedBy, IsMeant, IsRefused};
 ghost use Rattle.sysv_options.specs.Servers.{AsksForAtOnce, AsksForBlocks, AsksForFile, AsksForFileAt, AsksForTerms, AsksForWorkers, AsksToLook, AsksToServe, HasPath, MayAskForStats};
 ghost use Rattle.sysv_options.specs.Tasks.{AsksToList, AsksToMake, AsksToReceive, AsksToRemove, AsksToSend, HasTask, HasHow, NamesTarget, IsAhead, Receives, ShowsIn, StatesWho, is_json};
 ghost use Rattle.sysv_options.specs.Words.{ArePartsOf, AreSeconds, Has, HasFlag, HasMaybe, HasOr, IsMode, IsOctalMode, IsOn, IsRead, IsThousandths, IsTime, IsUnsigned, WantsType, word_of, words_in};
@@ -163,6 +163,7 @@ fn invalid(name: &'static str, valid: &'static str) -> Bad {
 pub fn read_words<'a, S: AsStr>(alloc: Global, words: &'a [S]) -> Result<Asked<'a>, Error>
     ensures limits { IfOk result IsWithinLimits }
     ensures meaning { IfOk result (IsMeant (map S.text words.entry.now)) }
+    ensures refused { IfErr result (AreRefused (map S.text words.entry.now)) }
 {
     let mut line: CommandLine<'a> = command(alloc)?;
     read_line(alloc, &mut line, words)
@@ -296,9 +297,11 @@ fn how_of(words: &ArgMatches<'_>) -> Result<How, Bad>
     Ok(How {
         from_input: has_flag(words, "stdin"),
         lines: has_flag(words, "lines"),
+        objects: has_flag(words, "json"),
         progress: has_flag(words, "progress"),
         follow: has_flag(words, "follow"),
         purge: has_flag(words, "purge"),
+        holds: has_flag(words, "hold"),
         count: number_if(words, "count", COUNT)?,
         ahead: ahead_of(words)?,
         wait: time_if(words, "wait")?,

@@ -10,8 +10,8 @@ Clients state user 1000, group 1000 and process 1, and the server does not
 verify that. --me or SYSVMSG_ME=1 states your own.
 Errors of commands are printed on standard output, as `sysvmsg: ENOMSG`, and in
 a sentence on standard error if standard output is not a terminal. Those of an
-`rcv` with --count, --follow, --raw, --zero, --json or --show-type are sentences
-on standard error.
+`rcv` with --count, --follow, --hold, --raw, --zero, --json or --show-type are
+sentences on standard error.
 Exit status: 0 if all is done, 1 after an error, 2 if the command line is not
 understood, 3 if the time of --wait is over.
 
@@ -215,6 +215,11 @@ Example:
             "Sends each line of standard input as a message",
         ),
         (
+            "json",
+            Form::Flag,
+            "Sends the message in each line of standard input, as `rcv --json` prints it",
+        ),
+        (
             "progress",
             Form::Flag,
             "Reports on standard error how many lines were sent",
@@ -242,7 +247,7 @@ Example:
     ],
     groups: &[
         Group {
-            of: &["text", "stdin", "lines"],
+            of: &["text", "stdin", "lines", "json"],
             required: true,
         },
         Group {
@@ -254,11 +259,15 @@ Example:
             required: false,
         },
         Group {
+            of: &["type", "json"],
+            required: false,
+        },
+        Group {
             of: &["nowait", "wait"],
             required: false,
         },
     ],
-    usage: Some("sysvmsg snd [OPTIONS] <PATH> <KEY> <TEXT|--stdin|--lines>"),
+    usage: Some("sysvmsg snd [OPTIONS] <PATH> <KEY> <TEXT|--stdin|--lines|--json>"),
 };
 
 const RCV: Known = Known {
@@ -301,6 +310,11 @@ Example:
             "purge",
             Form::Flag,
             "Takes all messages and prints only their number",
+        ),
+        (
+            "hold",
+            Form::Flag,
+            "Takes each message only once it is printed whole; the server needs --hold",
         ),
         (
             "show-type",
@@ -365,6 +379,18 @@ Example:
         },
         Group {
             of: &["ahead", "follow"],
+            required: false,
+        },
+        Group {
+            of: &["hold", "ahead"],
+            required: false,
+        },
+        Group {
+            of: &["hold", "noerror"],
+            required: false,
+        },
+        Group {
+            of: &["hold", "purge"],
             required: false,
         },
         Group {
@@ -576,13 +602,15 @@ impl fmt::Display for Shown {
 fn command_of<'a>(alloc: Global, known: Known) -> Result<Command<'a>, AllocError> {
     let mut command = with_arguments(alloc, known)?;
     for (place, group) in known.groups.iter().enumerate() {
-        command = command.group(group_of(alloc, NAMES[place.min(4)], *group)?)?;
+        command = command.group(group_of(alloc, NAMES[place.min(7)], *group)?)?;
     }
     Ok(command)
 }
 
-/// The names of the groups of a command, which has at most five.
-const NAMES: [&str; 5] = ["one", "two", "three", "four", "five"];
+/// The names of the groups of a command, which has at most eight.
+const NAMES: [&str; 8] = [
+    "one", "two", "three", "four", "five", "six", "seven", "eight",
+];
 
 fn with_arguments<'a>(alloc: Global, known: Known) -> Result<Command<'a>, AllocError> {
     let mut command = Command::new(alloc, known.name)

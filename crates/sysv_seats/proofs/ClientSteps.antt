@@ -41,6 +41,7 @@ use Rattle.sysv_wire.specs.declared.fault.Fault.TheVariants.{Truncated, TooLong,
 use Rattle.sysv_wire.specs.declared.frame.Op.{Op}
 use Rattle.sysv_wire.specs.declared.frame.Op.TheVariants as op
 use Rattle.sysv_wire.specs.declared.frame.Version.{Version}
+use Rattle.sysv_wire.specs.declared.frame.Version.TheVariants.{Three}
 use Rattle.sysv_wire.specs.declared.reply.ReplyContent.{ReplyContent}
 use Rattle.sysv_wire.specs.declared.reply.ReplyContent.TheVariants as content
 use Rattle.sysv_wire.specs.declared.request.Ask.{Ask}
@@ -51,13 +52,14 @@ use Rattle.sysv_seats.specs.declared.parked.Parked.{Parked}
 use Rattle.sysv_seats.specs.declared.waiting.Waiting.{Waiting}
 use Rattle.sysv_seats.specs.declared.waiting.Waiting.TheVariants.{Send, Receive, Get}
 use Rattle.sysv_seats.specs.Asked.{Asks}
-use Rattle.sysv_seats.specs.Held.{AnyGoesOn, HoldAsks, HoldBegun, HoldProgress, hold_progress, holds_with}
-use Rattle.sysv_seats.specs.Holding.{Holder, Message, done_outcome, empty_handed, hold_outcome, received}
+use Rattle.sysv_seats.specs.Held.{AnyGoesOn, HoldAsks, HoldBegun, HoldProgress, IsHoldWaitOf, back_progress}
+use Rattle.sysv_seats.specs.Held.{hold_progress, holds_with}
+use Rattle.sysv_seats.specs.Holding.{Holder, Message, back_outcome, done_outcome, empty_handed, hold_outcome, no_flags}
 use Rattle.sysv_seats.specs.Parked.{GoesOn, IsReplied, IsWaitOf, Proceeds}
 use Rattle.sysv_seats.specs.Parked.{kind_in, get_progress, receive_progress, send_progress}
 use Rattle.sysv_seats.specs.Replies.{done_reply, given_reply, id_reply, row_reply, stat_reply}
 use Rattle.sysv_seats.specs.Sits.{GreetsAs, HasAsked, HasFrame, HasStopped, IsAt, IsBehind, IsFree, IsPending, IsReady}
-use Rattle.sysv_seats.specs.Sits.{IsWaiting, ReadsNext, Sits, Sitting, is_early, is_wait_of}
+use Rattle.sysv_seats.specs.Sits.{IsWaiting, ReadsNext, Sits, Sitting, is_early, is_hold_wait_of, is_wait_of}
 use Rattle.sysv_seats.specs.Sits.{messages_so_far, stopped_for, conversing, with_input, zero_moment}
 use Rattle.sysv_seats.proofs.HeldPieces.{hold_asks_any}
 
@@ -106,12 +108,21 @@ is_of (kind.Rcv id size mtype flags) (Receive w) is = refl
 is_of (kind.Get key flags) (Get w) is = refl
 is_of ask waiting is = absurd is
 
+is_hold_of : (ask : Ask) (waiting : Waiting) → IsHoldWaitOf ask waiting → is_hold_wait_of ask waiting ≡ true
+is_hold_of (kind.Hold id size mtype flags seconds) (Receive w) is = refl
+is_hold_of (kind.Hold id size mtype flags seconds) (Send w) is = absurd is
+is_hold_of (kind.Hold id size mtype flags seconds) (Get w) is = absurd is
+is_hold_of kind.Back (Send w) is = refl
+is_hold_of kind.Back (Receive w) is = absurd is
+is_hold_of kind.Back (Get w) is = absurd is
+is_hold_of ask waiting is = is_of ask waiting is
+
 -- A call that waits waits by a wait of its request.
 pub waits_by : (version : Version) (ask : Ask) (came : Progress Waiting RequestOutcome) (given : List ℕ)
     (waiting : Waiting) → came ≡ progress.Waits waiting → HoldProgress version ask came given →
-    is_wait_of (received ask) waiting ≡ true
+    is_hold_wait_of ask waiting ≡ true
 waits_by version ask came given waiting is may =
-    is_of (received ask) waiting
+    is_hold_of ask waiting
     (subst (λ (p : Progress Waiting RequestOutcome). HoldProgress version ask p given) is may)
 
 -- The outcome of a call that is over.
@@ -230,6 +241,11 @@ hold_has version (Reply reply) has = tt
 hold_has version (Got delivery) has = tt
 hold_has version WasLeft has = absurd has
 
+back_has : (version : Version) (outcome : RequestOutcome) → HasReply outcome → HasReply (back_outcome version outcome)
+back_has version (Reply reply) has = tt
+back_has version (Got delivery) has = tt
+back_has version WasLeft has = absurd has
+
 spent_has : (version : Version) (message : Option Message) → HasReply (done_outcome version message)
 spent_has version None = tt
 spent_has version (Some message) = tt
@@ -240,12 +256,20 @@ hold_asks_replied : (may : ℕ → Type 0) (version : Version) (cred : Cred) (as
 hold_asks_replied may version cred (kind.Hold id size mtype flags seconds) text before outcome given after
     (inl refused) = subst HasReply (sym refused.2) tt
 hold_asks_replied may version cred (kind.Hold id size mtype flags seconds) text before outcome given after
-    (inr (can, came, receives, is, held)) =
+    (inr (inl (can, why, asks, is, same, none))) = subst HasReply (sym is) tt
+hold_asks_replied may version cred (kind.Hold id size mtype flags seconds) text before outcome given after
+    (inr (inr (can, came, granted, asks, receives, is, held))) =
     subst HasReply (sym is) (hold_has version came
-    (asks_replied may version cred (kind.Rcv id size mtype flags) text before.at came given after.at receives))
+    (asks_replied may version cred (kind.Rcv id size mtype flags) text granted came given after.at receives))
 hold_asks_replied may version cred kind.Done text before outcome given after asked =
     subst HasReply (sym asked.1) (spent_has version before.message)
-hold_asks_replied may version cred kind.Back text before outcome given after asked = subst HasReply (sym asked.1) tt
+hold_asks_replied may version cred kind.Back text before outcome given after (inl refused) =
+    subst HasReply (sym refused.2) tt
+hold_asks_replied may version cred kind.Back text before outcome given after
+    (inr (message, is, came, sends, told, held, none)) =
+    subst HasReply (sym told) (back_has version came
+    (asks_replied may Three message.cred (kind.Snd message.id message.mtype no_flags) message.text before.at came []
+    after.at (sends, refl)))
 hold_asks_replied may version cred ask text before outcome given after asked =
     asks_replied may version cred ask text before.at outcome given after.at asked.0
 
@@ -291,6 +315,11 @@ hold_on_has : (version : Version) (came : Progress Waiting RequestOutcome) → I
 hold_on_has version (progress.Waits waiting) has = tt
 hold_on_has version (progress.Over outcome) has = hold_has version outcome has
 
+back_on_has : (version : Version) (came : Progress Waiting RequestOutcome) → IsReplied came →
+    IsReplied (back_progress version came)
+back_on_has version (progress.Waits waiting) has = tt
+back_on_has version (progress.Over outcome) has = back_has version outcome has
+
 pub any_goes_replied : (may : ℕ → Type 0) (version : Version) (cred : Cred) (ask : Ask) (waiting : Waiting)
     (text : List ℕ) (before : Holder Pass) (came : Progress Waiting RequestOutcome) (given : List ℕ)
     (after : Holder Pass) → AnyGoesOn may version cred ask waiting text before came given after → IsReplied came
@@ -300,6 +329,12 @@ any_goes_replied may version cred (kind.Hold id size mtype flags seconds) waitin
     (inr (inner, goes, is, held)) =
     subst IsReplied (sym is)
     (hold_on_has version inner (goes_replied may version waiting text before.at inner given after.at goes))
+any_goes_replied may version cred kind.Back waiting text before came given after (inl waits) =
+    subst IsReplied (sym waits.1) tt
+any_goes_replied may version cred kind.Back waiting text before came given after
+    (inr (message, some, inner, goes, is, held, none)) =
+    subst IsReplied (sym is)
+    (back_on_has version inner (goes_replied may Three waiting message.text before.at inner [] after.at goes))
 any_goes_replied may version cred ask waiting text before came given after goes =
     goes_replied may version waiting text before.at came given after.at goes.0
 

@@ -1,6 +1,6 @@
 -- Each message that a hold gave is spent or held.
 use Rattle.std.proofs.Common.{◌≡◌, ◌∙◌, ◌+◌, ℕ, ℤ, List, [], ◌∷◌, Option, None, Some, Result, Ok, Err, inl, inr}
-use Rattle.std.proofs.Common.{ap, refl, subst, sym, arith}
+use Rattle.std.proofs.Common.{ap, ap₂, refl, subst, sym, arith}
 use Rattle.std.specs.Prelude.{⊤}
 use Rattle.sysv_model.specs.declared.attributes.Row.{Row as Line}
 use Rattle.sysv_model.specs.declared.attributes.Stat.{Stat as Attributes}
@@ -12,13 +12,14 @@ use Rattle.sysv_session.specs.declared.handler.RequestOutcome.TheVariants.{Left}
 use Rattle.sysv_service.specs.Ran.{Pass}
 use Rattle.sysv_wire.specs.declared.frame.Op.TheVariants as op
 use Rattle.sysv_wire.specs.declared.frame.Version.{Version}
+use Rattle.sysv_wire.specs.declared.frame.Version.TheVariants.{Three}
 use Rattle.sysv_wire.specs.declared.reply.ReplyContent.TheVariants as content
 use Rattle.sysv_wire.specs.declared.request.Ask.{Ask}
 use Rattle.sysv_wire.specs.declared.request.Ask.TheVariants.{Hello, Get, Snd, Rcv, Stat, Set, Rm, Row, Hold, Done, Back}
 use Rattle.sysv_seats.specs.Asked.{Asks}
-use Rattle.sysv_seats.specs.Fates.{EachMessageIsSpentOrHeld, given_by, held_count, spent_by}
+use Rattle.sysv_seats.specs.Fates.{EachMessageIsSpentOrHeld, given_by, held_count, returned_by, spent_by}
 use Rattle.sysv_seats.specs.Held.{HoldAsks}
-use Rattle.sysv_seats.specs.Holding.{Holder, Message, done_outcome, held_by, hold_outcome}
+use Rattle.sysv_seats.specs.Holding.{Holder, Message, back_outcome, done_outcome, held_by, hold_outcome, kept_by}
 use Rattle.sysv_seats.specs.Sits.{zero_moment}
 use Rattle.sysv_seats.specs.Replies.{done_reply, given_reply, id_reply, row_reply, stat_reply}
 use Rattle.sysv_seats.proofs.HeldPieces.{none_held}
@@ -103,13 +104,52 @@ module _ (may : ℕ → Type 0) (may_leave : Type 0) (version : Version) (cred :
       held_count old + given_by outcome ≡ spent_by outcome + held_count new
   same_count outcome old new is same = omega (arith, is.0, is.1, ap held_count same)
 
+  -- A back gives back what is held, and its outcome neither gives nor spends a message.
+  backs_one : (message : Message) (outcome : RequestOutcome) (answer : Result ⊤ Errno) →
+      outcome ≡ done_reply Three op.Snd content.Snd answer →
+      IsNeither (back_outcome version outcome)
+      × (1 ≡ returned_by Back (back_outcome version outcome) (Some message)
+      + held_count (kept_by (Some message) outcome))
+  backs_one message outcome (Ok zero) is = rw is ((refl, refl), refl)
+  backs_one message outcome (Err why) is = rw is ((refl, refl), refl)
+
+  -- What was sent again is given back, and what was left at its wait is held.
+  back : (old : Holder Pass) (outcome : RequestOutcome) (new : Holder Pass) (message : Message)
+      (came : RequestOutcome) → old.message ≡ Some message → outcome ≡ back_outcome version came →
+      new.message ≡ kept_by old.message came → IsNeither (back_outcome version came) →
+      1 ≡ returned_by Back (back_outcome version came) (Some message) + held_count (kept_by (Some message) came) →
+      held_count old.message + given_by outcome
+      ≡ spent_by outcome + returned_by Back outcome old.message + held_count new.message
+  back old outcome new message came is told held neither counts =
+      let kept : new.message ≡ kept_by (Some message) came =
+      held ∙ ap (λ (h : Option Message). kept_by h came) is in
+      let returned : returned_by Back outcome old.message ≡ returned_by Back (back_outcome version came) (Some message) =
+      ap₂ (returned_by Back) told is in
+      omega (
+        arith,
+        ap held_count is,
+        ap given_by told,
+        ap spent_by told,
+        neither.0,
+        neither.1,
+        returned,
+        counts,
+        ap held_count kept,
+      )
+
   one : (ask : Ask) (text : List ℕ) (old : Holder Pass) (outcome : RequestOutcome) (given : List ℕ)
       (new : Holder Pass) → HoldAsks may may_leave version cred ask text old outcome given new →
-      held_count old.message + given_by outcome ≡ spent_by outcome + held_count new.message
+      held_count old.message + given_by outcome
+      ≡ spent_by outcome + returned_by ask outcome old.message + held_count new.message
   one (Hold id size mtype flags seconds) text old outcome given new (inl refused) =
-      same_count outcome old.message new.message (subst IsNeither (sym refused.2) (refl, refl))
-      (ap (λ (h : Holder Pass). h.message) refused.0)
-  one (Hold id size mtype flags seconds) text old outcome given new (inr (can, came, inl over, is, held)) =
+      let counts = same_count outcome old.message new.message (subst IsNeither (sym refused.2) (refl, refl))
+      (ap (λ (h : Holder Pass). h.message) refused.0) in
+      omega (arith, counts)
+  one (Hold id size mtype flags seconds) text old outcome given new (inr (inl (can, why, asks, is, same, none))) =
+      let counts = same_count outcome old.message new.message (subst IsNeither (sym is) (refl, refl)) same in
+      omega (arith, counts)
+  one (Hold id size mtype flags seconds) text old outcome given new
+      (inr (inr (can, came, granted, asks, inl over, is, held))) =
       let none = none_held flags seconds old.message can in
       let whole : came ≡ given_reply version over.0 = over.4 in
       let counts = subst (λ (o : RequestOutcome). given_by (hold_outcome version o)
@@ -123,7 +163,8 @@ module _ (may : ℕ → Type 0) (may_leave : Type 0) (version : Version) (cred :
         ap given_by is,
         ap spent_by is,
       )
-  one (Hold id size mtype flags seconds) text old outcome given new (inr (can, came, inr left, is, held)) =
+  one (Hold id size mtype flags seconds) text old outcome given new
+      (inr (inr (can, came, granted, asks, inr left, is, held))) =
       let none = none_held flags seconds old.message can in
       let gone : outcome ≡ Left = is ∙ ap (hold_outcome version) left.2 in
       let nothing : new.message ≡ None =
@@ -138,12 +179,27 @@ module _ (may : ℕ → Type 0) (may_leave : Type 0) (version : Version) (cred :
         ap given_by asked.1,
         ap spent_by asked.1,
       )
-  one Back text old outcome given new asked =
-      same_count outcome old.message new.message (subst IsNeither (sym asked.1) (refl, refl))
-      (ap (λ (h : Holder Pass). h.message) asked.0)
+  one Back text old outcome given new (inl (none, same, told, empty)) =
+      let nothing : returned_by Back outcome old.message ≡ 0 =
+      ap₂ (returned_by Back) told none in
+      let counts = same_count outcome old.message new.message (subst IsNeither (sym told) (refl, refl))
+      (ap (λ (h : Holder Pass). h.message) same) in
+      omega (arith, nothing, counts)
+  one Back text old outcome given new
+      (inr (message, is, came, (released, mid, read, inl over), told, held, empty)) =
+      let ends = backs_one message came over.0 over.4 in
+      back old outcome new message came is told held ends.0 ends.1
+  one Back text old outcome given new
+      (inr (message, is, came, (released, mid, read, inr left), told, held, empty)) =
+      let gone : came ≡ Left = left.1 in
+      back old outcome new message came is told held
+      (subst (λ (o : RequestOutcome). IsNeither (back_outcome version o)) (sym gone) (refl, refl))
+      (subst (λ (o : RequestOutcome). 1 ≡ returned_by Back (back_outcome version o) (Some message)
+      + held_count (kept_by (Some message) o)) (sym gone) refl)
   one ask text old outcome given new asked =
-      same_count outcome old.message new.message
-      (neither ask text old.at outcome given new.at (λ is. cc is) asked.0) asked.1
+      let counts = same_count outcome old.message new.message
+      (neither ask text old.at outcome given new.at (λ is. cc is) asked.0) asked.1 in
+      omega (arith, counts)
 
 pub each_message : EachMessageIsSpentOrHeld
 each_message cred old [] new is = omega (arith, ap (λ (h : Holder Pass). held_count h.message) is)

@@ -1,7 +1,8 @@
 -- The pieces of a request of a session that may hold a message, one after another, are the request.
 use Rattle.std.proofs.Common.{◌≡◌, ◌∙◌, ℕ, ℤ, Bool, true, false, List, [], Option, None, Some, inl, inr, refl, sym}
-use Rattle.std.proofs.Common.{subst, length, arith, ap}
-use Rattle.std.specs.Prelude.{◌≤◌, ◌&&◌, ◌==◌, not, cond, Result}
+use Rattle.std.proofs.Common.{Ok, Err}
+use Rattle.std.proofs.Common.{subst, subst₂, length, arith, ap}
+use Rattle.std.specs.Prelude.{⊤, ◌≤◌, ◌&&◌, ◌==◌, not, cond, Result}
 use Rattle.sysv_model.specs.declared.cred.Cred.{Cred}
 use Rattle.sysv_model.specs.declared.errno.Errno.{Errno}
 use Rattle.sysv_model.specs.declared.errno.Errno.TheVariants.{EAGAIN, EINVAL}
@@ -18,26 +19,33 @@ use Rattle.sysv_service.specs.declared.progress.Progress.TheVariants as progress
 use Rattle.sysv_service.specs.Pending.{ReceivesOn}
 use Rattle.sysv_service.specs.Ran.{Pass}
 use Rattle.sysv_steps.specs.declared.receive.ReceiveWait.{ReceiveWait}
+use Rattle.sysv_steps.specs.declared.send.SendWait.{SendWait}
 use Rattle.sysv_steps.specs.Call.{Receives}
 use Rattle.sysv_steps.specs.State.{State}
 use Rattle.sysv_wire.specs.declared.frame.Op.TheVariants as op
 use Rattle.sysv_wire.specs.declared.frame.Version.{Version}
+use Rattle.sysv_wire.specs.declared.frame.Version.TheVariants.{Three}
 use Rattle.sysv_wire.specs.declared.reply.ReplyContent.{ReplyContent}
 use Rattle.sysv_wire.specs.declared.reply.ReplyContent.TheVariants as content
 use Rattle.sysv_wire.specs.declared.request.Ask.{Ask}
-use Rattle.sysv_wire.specs.declared.request.Ask.TheVariants.{Rcv, Hold, Done, Back}
+use Rattle.sysv_wire.specs.declared.request.Ask.TheVariants.{Snd, Rcv, Hold, Done, Back}
 use Rattle.sysv_wire.specs.Frames.{op_number}
 use Rattle.sysv_wire.specs.Replies.{IsAnswer}
 use Rattle.sysv_seats.specs.declared.waiting.Waiting.{Waiting}
 use Rattle.sysv_seats.specs.declared.waiting.Waiting.TheVariants.{Send, Receive, Get}
-use Rattle.sysv_seats.specs.Held.{AnyGoesOn, GoesOnBeside, HoldAsks, HoldBegun, HoldParked, HoldProgress, held_at}
-use Rattle.sysv_seats.specs.Held.{hold_progress}
-use Rattle.sysv_seats.specs.Holding.{Holder, Message, can_hold, received}
-use Rattle.sysv_seats.specs.InPieces.{asks_any, left}
+use Rattle.sysv_seats.specs.Asked.{ComesFrom, ReadsReleased}
+use Rattle.sysv_service.specs.Told.{TellsRow}
+use Rattle.sysv_seats.specs.GivingBack.{waits_to_send}
+use Rattle.sysv_seats.specs.Held.{AsksForWriting}
+use Rattle.sysv_seats.specs.Held.{AnyGoesOn, BackParked, GoesOnBeside, HoldAsks, HoldBegun, HoldParked, HoldProgress}
+use Rattle.sysv_seats.specs.Held.{IsHoldWaitOf, back_progress, held_after, held_at, hold_progress}
+use Rattle.sysv_seats.specs.Holding as holding
+use Rattle.sysv_seats.specs.Holding.{Holder, Message, back_content, can_hold, kept_by, no_flags}
+use Rattle.sysv_seats.specs.InPieces.{asks_any, goes_on, left}
 use Rattle.sysv_seats.specs.Parked.{GoesOn, HasBegun, IsParked, IsWaitOf, MayProgress, receive_progress}
-use Rattle.sysv_seats.specs.Replies.{reply as the_reply}
+use Rattle.sysv_seats.specs.Replies.{done_reply, reply as the_reply}
 
--- A request that is no hold, no done and no back.
+-- A request that is no hold.
 abbrev pub IsNoHold : Ask → Type 0
 IsNoHold ask = (id : ℤ) (size : ℕ) (mtype : ℤ) (flags : Flags)
     (seconds : ℕ) → ask ≡ Hold id size mtype flags seconds → ⊥
@@ -64,12 +72,24 @@ module _ (may : ℕ → Type 0) (version : Version) (cred : Cred) where
       (given : List ℕ) (after : Holder Pass) → HoldAsks may ⊥ version cred ask text before outcome given after →
       HoldAsks may may_leave version cred ask text before outcome given after
   hold_asks_any may_leave (Hold id size mtype flags seconds) text before outcome given after (inl refused) = inl refused
+  hold_asks_any may_leave (Hold id size mtype flags seconds) text before outcome given after (inr (inl denied)) =
+      inr (inl denied)
   hold_asks_any may_leave (Hold id size mtype flags seconds) text before outcome given after
-      (inr (can, came, inl over, is, held)) = inr (can, came, inl over, is, held)
+      (inr (inr (can, came, granted, asks, inl over, is, held))) = inr (inr (can, came, granted, asks, inl over, is, held))
   hold_asks_any may_leave (Hold id size mtype flags seconds) text before outcome given after
-      (inr (can, came, inr leaves, is, held)) = absurd leaves.0.0
+      (inr (inr (can, came, granted, asks, inr leaves, is, held))) = absurd leaves.0.0
   hold_asks_any may_leave Done text before outcome given after asked = asked
-  hold_asks_any may_leave Back text before outcome given after asked = asked
+  hold_asks_any may_leave Back text before outcome given after (inl refused) = inl refused
+  hold_asks_any may_leave Back text before outcome given after (inr (message, is, came, sends, told, held, none)) = inr (
+    message,
+    is,
+    came,
+    (asks_any may Three message.cred may_leave (Snd message.id message.mtype no_flags) message.text before.at came []
+        after.at (sends, refl)).0,
+    told,
+    held,
+    none,
+  )
   hold_asks_any may_leave ask text before outcome given after asked =
       (asks_any may version cred may_leave ask text before.at outcome given after.at asked.0, asked.1)
 
@@ -77,17 +97,29 @@ module _ (may : ℕ → Type 0) (version : Version) (cred : Cred) where
   pub hold_left : (may_leave : Type 0) (ask : Ask) (text : List ℕ) (before : Holder Pass) (waiting : Waiting)
       (after : Holder Pass) → may_leave → HoldParked may cred ask text before waiting after →
       HoldAsks may may_leave version cred ask text before Left [] after
-  hold_left may_leave (Hold id size mtype flags seconds) text before waiting after leaves parked = inr (
-    parked.0,
+  hold_left may_leave (Hold id size mtype flags seconds) text before waiting after leaves
+      (can, granted, asks, parked, same) = inr (inr (
+    can,
     Left,
-    left may version cred may_leave (Rcv id size mtype flags) text before.at waiting after.at leaves parked.1,
+    granted,
+    asks,
+    left may version cred may_leave (Rcv id size mtype flags) text granted waiting after.at leaves parked,
     refl,
-    parked.2 ∙ none_held flags seconds before.message parked.0,
+    same ∙ none_held flags seconds before.message can,
+  ))
+  hold_left may_leave Done text before waiting after leaves parked = absurd parked.0
+  hold_left may_leave Back text before waiting after leaves (message, is, parked, same) = inr (
+    message,
+    is,
+    Left,
+    (left may Three message.cred may_leave (Snd message.id message.mtype no_flags) message.text before.at waiting
+        after.at leaves parked).0,
+    refl,
+    same,
+    refl,
   )
-  hold_left may_leave Done text before waiting after leaves parked = absurd parked.1
-  hold_left may_leave Back text before waiting after leaves parked = absurd parked.1
   hold_left may_leave ask text before waiting after leaves parked =
-      (left may version cred may_leave ask text before.at waiting after.at leaves parked.1, parked.2)
+      (left may version cred may_leave ask text before.at waiting after.at leaves parked.0, parked.1)
 
   -- ---- the beginning
 
@@ -96,7 +128,8 @@ module _ (may : ℕ → Type 0) (version : Version) (cred : Cred) where
       HoldParked may cred ask text before waiting after
   parked_beside (Hold id size mtype flags seconds) text before waiting after not parked same =
       absurd (not id size mtype flags seconds refl)
-  parked_beside ask text before waiting after not parked same = (refl, parked, same)
+  parked_beside Back text before waiting after not parked same = absurd parked
+  parked_beside ask text before waiting after not parked same = (parked, same)
 
   asks_beside : (ask : Ask) (text : List ℕ) (before : Holder Pass) (outcome : RequestOutcome) (given : List ℕ)
       (after : Holder Pass) → IsNoHold ask → (ask ≡ Done → ⊥) → (ask ≡ Back → ⊥) →
@@ -128,46 +161,165 @@ module _ (may : ℕ → Type 0) (version : Version) (cred : Cred) where
   hold_refused id size mtype flags seconds text before can given is none =
       inl (refl, none, ap (λ (b : Bool). the_reply version op.Hold (content.Refused (cond b EAGAIN EINVAL))) is)
 
+  -- A hold was refused, since its caller may not send to the queue.
+  pub hold_denied : (id : ℤ) (size : ℕ) (mtype : ℤ) (flags : Flags) (seconds : ℕ) (text : List ℕ)
+      (before : Holder Pass) (why : Errno) (given : List ℕ) (after : Holder Pass) →
+      can_hold flags seconds before.message ≡ true → AsksForWriting cred id before.at (Err why) after.at →
+      after.message ≡ before.message → given ≡ [] →
+      HoldBegun may version cred (Hold id size mtype flags seconds) text before
+      (progress.Over (the_reply version op.Hold (content.Refused why))) given after
+  hold_denied id size mtype flags seconds text before why given after can asks same none =
+      inr (inl (can, why, asks, refl, same, none))
+
   -- A hold has come as far as its receive.
   pub hold_begun : (id : ℤ) (size : ℕ) (mtype : ℤ) (flags : Flags) (seconds : ℕ) (text : List ℕ) (before : Holder Pass)
-      (came : Progress Waiting RequestOutcome) (given : List ℕ) (after : Holder Pass) →
-      can_hold flags seconds before.message ≡ true →
-      HasBegun may version cred (Rcv id size mtype flags) text before.at came given after.at →
+      (granted : Pass) (came : Progress Waiting RequestOutcome) (given : List ℕ) (after : Holder Pass) →
+      can_hold flags seconds before.message ≡ true → AsksForWriting cred id before.at (Ok tt) granted →
+      HasBegun may version cred (Rcv id size mtype flags) text granted came given after.at →
       after.message ≡ held_at cred id came given →
       HoldBegun may version cred (Hold id size mtype flags seconds) text before (hold_progress version came) given after
-  hold_begun id size mtype flags seconds text before (progress.Waits waiting) given after can begun held = (
-    (can, begun.0, held ∙ sym (none_held flags seconds before.message can)),
+  hold_begun id size mtype flags seconds text before granted (progress.Waits waiting) given after can asks begun held = (
+    (can, granted, asks, begun.0, held ∙ sym (none_held flags seconds before.message can)),
     begun.1,
   )
-  hold_begun id size mtype flags seconds text before (progress.Over outcome) given after can begun held =
-      inr (can, outcome, begun, refl, held)
+  hold_begun id size mtype flags seconds text before granted (progress.Over outcome) given after can asks begun held =
+      inr (inr (can, outcome, granted, asks, begun, refl, held))
 
   -- ---- a parked call goes on
 
   -- The call of any other request has gone on.
   pub on_beside : (ask : Ask) (text : List ℕ) (start : Holder Pass) (waiting : Waiting) (before : Holder Pass)
       (came : Progress Waiting RequestOutcome) (given : List ℕ) (after : Holder Pass) → IsNoHold ask →
-      (IsParked may cred ask text start.at waiting before.at →
+      (ask ≡ Back → ⊥) → (IsParked may cred ask text start.at waiting before.at →
       HasBegun may version cred ask text start.at came given after.at) → after.message ≡ before.message →
       HoldParked may cred ask text start waiting before → HoldBegun may version cred ask text start came given after
-  on_beside (Hold id size mtype flags seconds) text start waiting before came given after not on same parked =
+  on_beside (Hold id size mtype flags seconds) text start waiting before came given after not no_back on same parked =
       absurd (not id size mtype flags seconds refl)
-  on_beside Done text start waiting before came given after not on same parked = absurd parked.1
-  on_beside Back text start waiting before came given after not on same parked = absurd parked.1
-  on_beside ask text start waiting before came given after not on same parked =
-      begun_beside ask text start came given after not (λ is. cc is) (λ is. cc is) (on parked.1) (same ∙ parked.2)
+  on_beside Done text start waiting before came given after not no_back on same parked = absurd parked.0
+  on_beside Back text start waiting before came given after not no_back on same parked = absurd (no_back refl)
+  on_beside ask text start waiting before came given after not no_back on same parked =
+      begun_beside ask text start came given after not (λ is. cc is) (λ is. cc is) (on parked.0) (same ∙ parked.1)
 
   -- The receive of a hold has gone on.
   pub hold_on : (id : ℤ) (size : ℕ) (mtype : ℤ) (flags : Flags) (seconds : ℕ) (text : List ℕ) (start : Holder Pass)
       (waiting : Waiting) (before : Holder Pass) (came : Progress Waiting RequestOutcome) (given : List ℕ)
       (after : Holder Pass) →
-      (IsParked may cred (Rcv id size mtype flags) text start.at waiting before.at →
-      HasBegun may version cred (Rcv id size mtype flags) text start.at came given after.at) →
+      ((granted : Pass) → IsParked may cred (Rcv id size mtype flags) text granted waiting before.at →
+      HasBegun may version cred (Rcv id size mtype flags) text granted came given after.at) →
       after.message ≡ held_at cred id came given →
       HoldParked may cred (Hold id size mtype flags seconds) text start waiting before →
       HoldBegun may version cred (Hold id size mtype flags seconds) text start (hold_progress version came) given after
-  hold_on id size mtype flags seconds text start waiting before came given after on held parked =
-      hold_begun id size mtype flags seconds text start came given after parked.0 (on parked.1) held
+  hold_on id size mtype flags seconds text start waiting before came given after on held
+      (can, granted, asks, parked, same) =
+      hold_begun id size mtype flags seconds text start granted came given after can asks (on granted parked) held
+
+-- ---- the send of what is held
+
+-- One message is held.
+one_message : (held other : Option Message) (a b : Message) → held ≡ Some a → other ≡ Some b → other ≡ held → b ≡ a
+one_message held other a b first second same = cc
+
+-- A reply ends the holding.
+told_none : (held : Option Message) (version : Version) (answer : Result ⊤ Errno) →
+    kept_by held (done_reply version op.Snd content.Snd answer) ≡ None
+told_none held version (Ok zero) = refl
+told_none held version (Err why) = refl
+
+module _ (may : ℕ → Type 0) (version : Version) (cred : Cred) where
+  sent_none : (message : Message) (held : Option Message) (before : Pass) (outcome : RequestOutcome) (after : Pass) →
+      holding.SendsAgain ComesFrom ReadsReleased TellsRow may ⊥ message before outcome after →
+      kept_by held outcome ≡ None
+  sent_none message held before outcome after (released, mid, read, inl over) =
+      ap (kept_by held) over.4 ∙ told_none held Three over.0
+  sent_none message held before outcome after (released, mid, read, inr left) = absurd left.0.0
+
+  -- The send of what is held has come so far.
+  pub back_begun : (text : List ℕ) (message : Message) (before : Holder Pass) (came : Progress Waiting RequestOutcome)
+      (after : Holder Pass) → before.message ≡ Some message →
+      HasBegun may Three message.cred (Snd message.id message.mtype no_flags) message.text before.at came [] after.at →
+      after.message ≡ held_after before.message came →
+      HoldBegun may version cred Back text before (back_progress version came) [] after
+  back_begun text message before (progress.Waits waiting) after is begun held =
+      ((message, is, begun.0, held), refl)
+  back_begun text message before (progress.Over outcome) after is begun held = inr (
+    message,
+    is,
+    outcome,
+    begun.0,
+    refl,
+    held ∙ sym (sent_none message before.message before.at outcome after.at begun.0),
+    refl,
+  )
+
+  -- It waited, and has gone on.
+  pub back_on : (text : List ℕ) (message : Message) (start : Holder Pass) (waiting : Waiting) (before : Holder Pass)
+      (came : Progress Waiting RequestOutcome) (after : Holder Pass) → before.message ≡ Some message →
+      GoesOn may Three waiting message.text before.at came [] after.at →
+      after.message ≡ held_after before.message came → BackParked may start waiting before →
+      HoldBegun may version cred Back text start (back_progress version came) [] after
+  back_on text message start waiting before came after is looks held parked =
+      let same : parked.0 ≡ message = one_message before.message start.message message parked.0 is parked.1
+      (sym parked.3) in
+      let there = subst (λ (m : Message). IsParked may m.cred (Snd m.id m.mtype no_flags) m.text start.at waiting
+      before.at) same parked.2 in
+      let begun = goes_on may Three message.cred (Snd message.id message.mtype no_flags) message.text start.at waiting
+      before.at came [] after.at there looks in
+      back_begun text message start came after (sym parked.3 ∙ is) begun
+      (held ∙ ap (λ (h : Option Message). held_after h came) parked.3)
+
+-- No flags are set.
+none_set : (flags : Flags) → flags.0 ≡ 0 → flags ≡ no_flags
+none_set flags none = ap (λ (n : ℕ). let f : Flags = record { 0 = n } in f) none
+
+module _ (may : ℕ → Type 0) (version : Version) (cred : Cred) where
+  -- The send of what is held was begun, by the parts of the message.
+  pub back_came : (text : List ℕ) (message : Message) (who : Cred) (id mtype : ℤ) (flags : Flags) (body : List ℕ)
+      (before : Holder Pass) (came : Progress Waiting RequestOutcome) (after : Holder Pass)
+      (result : Progress Waiting RequestOutcome) (given : List ℕ) → before.message ≡ Some message →
+      who ≡ message.cred → id ≡ message.id → mtype ≡ message.mtype → flags.0 ≡ 0 → body ≡ message.text →
+      HasBegun may Three who (Snd id mtype flags) body before.at came [] after.at →
+      after.message ≡ held_after before.message came → result ≡ back_progress version came → given ≡ [] →
+      HoldBegun may version cred Back text before result given after
+  back_came text message who id mtype flags body before came after result given is same_cred same_id same_type none
+      same_body begun held told empty =
+      let one = subst (λ (c : Cred). HasBegun may Three c (Snd id mtype flags) body before.at came [] after.at) same_cred
+      begun in
+      let two = subst (λ (i : ℤ). HasBegun may Three message.cred (Snd i mtype flags) body before.at came [] after.at)
+      same_id one in
+      let three = subst (λ (t : ℤ). HasBegun may Three message.cred (Snd message.id t flags) body before.at came []
+      after.at) same_type two in
+      let four = subst (λ (f : Flags). HasBegun may Three message.cred (Snd message.id message.mtype f) body before.at
+      came [] after.at) (none_set flags none) three in
+      let five = subst (λ (b : List ℕ). HasBegun may Three message.cred (Snd message.id message.mtype no_flags) b
+      before.at came [] after.at) same_body four in
+      subst₂ (λ (r : Progress Waiting RequestOutcome) (g : List ℕ). HoldBegun may version cred Back text before r g after)
+      (sym told) (sym empty) (back_begun may version cred text message before came after is five held)
+
+  -- It looked at its count once.
+  pub back_looked : (text : List ℕ) (message : Message) (waiting : Waiting) (wait : SendWait) (body : List ℕ)
+      (before : Holder Pass) (came : Progress Waiting RequestOutcome) (after : Holder Pass)
+      (result : Progress Waiting RequestOutcome) (given : List ℕ) → before.message ≡ Some message →
+      body ≡ message.text → waiting ≡ Send wait → GoesOn may Three (Send wait) body before.at came [] after.at →
+      after.message ≡ held_after before.message came → result ≡ back_progress version came → given ≡ [] →
+      AnyGoesOn may version cred Back waiting text before result given after
+  back_looked text message waiting wait body before came after result given is same_body by_send goes held told empty =
+      let one = subst (λ (w : Waiting). GoesOn may Three w body before.at came [] after.at) (sym by_send) goes in
+      let two = subst (λ (b : List ℕ). GoesOn may Three waiting b before.at came [] after.at) same_body one in
+      inr (message, is, came, two, told, held, empty)
+
+  -- And it has gone on from where it was begun.
+  pub back_came_on : (text : List ℕ) (message : Message) (start : Holder Pass) (waiting : Waiting) (wait : SendWait)
+      (body : List ℕ) (before : Holder Pass) (came : Progress Waiting RequestOutcome) (after : Holder Pass)
+      (result : Progress Waiting RequestOutcome) (given : List ℕ) → before.message ≡ Some message →
+      body ≡ message.text → waiting ≡ Send wait → GoesOn may Three (Send wait) body before.at came [] after.at →
+      after.message ≡ held_after before.message came → result ≡ back_progress version came → given ≡ [] →
+      HoldParked may cred Back text start waiting before → HoldBegun may version cred Back text start result given after
+  back_came_on text message start waiting wait body before came after result given is same_body by_send goes held told
+      empty parked =
+      let one = subst (λ (w : Waiting). GoesOn may Three w body before.at came [] after.at) (sym by_send) goes in
+      let two = subst (λ (b : List ℕ). GoesOn may Three waiting b before.at came [] after.at) same_body one in
+      subst₂ (λ (r : Progress Waiting RequestOutcome) (g : List ℕ). HoldBegun may version cred Back text start r g after)
+      (sym told) (sym empty) (back_on may version cred text message start waiting before came after is two held parked)
 
 -- ---- what is received is short
 
@@ -216,17 +368,31 @@ goes_short may version id size mtype flags (Get w) text before (progress.Waits s
 -- The call of any other request looked at its count once.
 pub looks_beside : (may : ℕ → Type 0) (version : Version) (cred : Cred) (ask : Ask) (waiting : Waiting) (text : List ℕ)
     (before : Holder Pass) (came : Progress Waiting RequestOutcome) (given : List ℕ) (after : Holder Pass) →
-    IsNoHold ask → GoesOnBeside may version waiting text before came given after →
+    IsNoHold ask → (ask ≡ Back → ⊥) → GoesOnBeside may version waiting text before came given after →
     AnyGoesOn may version cred ask waiting text before came given after
-looks_beside may version cred (Hold id size mtype flags seconds) waiting text before came given after not looks =
+looks_beside may version cred (Hold id size mtype flags seconds) waiting text before came given after not no_back looks =
     absurd (not id size mtype flags seconds refl)
-looks_beside may version cred ask waiting text before came given after not looks = looks
+looks_beside may version cred Back waiting text before came given after not no_back looks = absurd (no_back refl)
+looks_beside may version cred ask waiting text before came given after not no_back looks = looks
 
 -- A wait of the call of any other request is one of that request.
-pub wait_beside : (ask : Ask) (waiting : Waiting) → IsNoHold ask → IsWaitOf (received ask) waiting →
+pub wait_beside : (ask : Ask) (waiting : Waiting) → IsNoHold ask → (ask ≡ Back → ⊥) → IsHoldWaitOf ask waiting →
     IsWaitOf ask waiting
-wait_beside (Hold id size mtype flags seconds) waiting not is = absurd (not id size mtype flags seconds refl)
-wait_beside ask waiting not is = is
+wait_beside (Hold id size mtype flags seconds) waiting not no_back is = absurd (not id size mtype flags seconds refl)
+wait_beside Back waiting not no_back is = absurd (no_back refl)
+wait_beside ask waiting not no_back is = is
+
+-- A wait of a hold is one of its receive, and a wait of a back is one of a send.
+pub wait_of_hold : (id : ℤ) (size : ℕ) (mtype : ℤ) (flags : Flags) (seconds : ℕ) (waiting : Waiting) →
+    IsHoldWaitOf (Hold id size mtype flags seconds) waiting → IsWaitOf (Rcv id size mtype flags) waiting
+wait_of_hold id size mtype flags seconds (Send wait) is = absurd is
+wait_of_hold id size mtype flags seconds (Receive wait) is = tt
+wait_of_hold id size mtype flags seconds (Get wait) is = absurd is
+
+pub wait_of_back : (waiting : Waiting) → IsHoldWaitOf Back waiting → waits_to_send waiting ≡ true
+wait_of_back (Send wait) is = refl
+wait_of_back (Receive wait) is = absurd is
+wait_of_back (Get wait) is = absurd is
 
 -- ---- what a handler may return
 
@@ -252,7 +418,9 @@ pub hold_answers : (version : Version) (id : ℤ) (size : ℕ) (mtype : ℤ) (fl
     (came : Progress Waiting RequestOutcome) (given : List ℕ) →
     MayProgress version (Rcv id size mtype flags) came given →
     HoldProgress version (Hold id size mtype flags seconds) (hold_progress version came) given
-hold_answers version id size mtype flags seconds (progress.Waits waiting) given answers = answers
+hold_answers version id size mtype flags seconds (progress.Waits (Send wait)) given answers = absurd answers
+hold_answers version id size mtype flags seconds (progress.Waits (Receive wait)) given answers = tt
+hold_answers version id size mtype flags seconds (progress.Waits (Get wait)) given answers = absurd answers
 hold_answers version id size mtype flags seconds (progress.Over (Reply reply)) given answers = (
   refl,
   refl,
@@ -264,6 +432,50 @@ hold_answers version id size mtype flags seconds (progress.Over (Reply reply)) g
 hold_answers version id size mtype flags seconds (progress.Over (Got delivery)) given answers =
     (refl, refl, refl, refl, answers.2)
 hold_answers version id size mtype flags seconds (progress.Over Left) given answers = answers
+
+-- What a send may be answered with, a back may be answered with.
+back_fits : (version : Version) (number : ℕ) (answer : ReplyContent) → number ≡ op_number op.Snd →
+    IsAnswer Three number answer → IsAnswer version (op_number op.Back) (back_content answer)
+back_fits version number (content.Refused why) is fits = omega arith
+back_fits version number content.Hello is fits = absurd (omega (arith, is, fits.1))
+back_fits version number (content.HelloSlots slots) is fits = absurd (omega (arith, is, fits.1))
+back_fits version number (content.Get id) is fits = absurd (omega (arith, is, fits))
+back_fits version number content.Snd is fits = refl
+back_fits version number (content.Rcv mtype) is fits = absurd (omega (arith, is, fits))
+back_fits version number (content.Stat stat) is fits = absurd (omega (arith, is, fits.0))
+back_fits version number content.Set is fits = absurd (omega (arith, is, fits))
+back_fits version number content.Rm is fits = absurd (omega (arith, is, fits))
+back_fits version number (content.Row None) is fits = absurd (omega (arith, is, fits))
+back_fits version number (content.Row (Some row)) is fits = absurd (omega (arith, is, fits.0))
+back_fits version number (content.Hold mtype) is fits = absurd (omega (arith, is, fits))
+back_fits version number content.Done is fits = absurd (omega (arith, is, fits))
+back_fits version number content.Back is fits = absurd (omega (arith, is, fits))
+
+-- A reply to a send is no message, and neither is that to its back.
+back_is_none : (answer : ReplyContent) → is_received answer ≡ false → is_received (back_content answer) ≡ false
+back_is_none content.Snd is = refl
+back_is_none answer is = is
+
+pub back_answers : (version : Version) (id mtype : ℤ) (flags : Flags) (came : Progress Waiting RequestOutcome) →
+    MayProgress Three (Snd id mtype flags) came [] → HoldProgress version Back (back_progress version came) []
+back_answers version id mtype flags (progress.Waits (Send wait)) answers = tt
+back_answers version id mtype flags (progress.Waits (Receive wait)) answers = absurd answers
+back_answers version id mtype flags (progress.Waits (Get wait)) answers = absurd answers
+back_answers version id mtype flags (progress.Over (Reply reply)) answers = (
+  refl,
+  refl,
+  back_fits version reply.op reply.result answers.1
+      (subst (λ (v : Version). IsAnswer v reply.op reply.result) answers.0 answers.2),
+  back_is_none reply.result answers.3,
+  answers.4,
+)
+back_answers version id mtype flags (progress.Over (Got delivery)) answers = absurd (cc answers.0)
+back_answers version id mtype flags (progress.Over Left) answers = answers
+
+-- Nothing is held that could be given back.
+pub none_to_give_back : (version : Version) → HoldProgress version Back
+    (progress.Over (the_reply version op.Back (content.Refused EINVAL))) []
+none_to_give_back version = (refl, refl, omega arith, refl, omega arith)
 
 -- A hold may be refused with any error.
 pub refused_answers : (version : Version) (id : ℤ) (size : ℕ) (mtype : ℤ) (flags : Flags) (seconds : ℕ) (why : Errno)
@@ -279,4 +491,5 @@ pub answers_beside : (version : Version) (ask : Ask) (came : Progress Waiting Re
 answers_beside version ask (progress.Over outcome) given not answers = answers
 answers_beside version (Hold id size mtype flags seconds) (progress.Waits waiting) given not answers =
     absurd (not id size mtype flags seconds refl)
+answers_beside version Back (progress.Waits waiting) given not answers = absurd answers
 answers_beside version ask (progress.Waits waiting) given not answers = answers

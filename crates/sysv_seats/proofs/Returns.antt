@@ -17,7 +17,8 @@ use Rattle.sysv_seats.specs.declared.returning.Return.{Return}
 use Rattle.sysv_seats.specs.declared.waiting.Waiting.{Waiting}
 use Rattle.sysv_seats.specs.declared.waiting.Waiting.TheVariants.{Send, Receive, Get}
 use Rattle.sysv_seats.specs.GivingBack.{ComesBack, EachReturnCanBeLeft, GoesBack, GoesBackOn, IsOfSend, IsReturn}
-use Rattle.sysv_seats.specs.GivingBack.{held_after, return_by, return_of}
+use Rattle.sysv_seats.specs.GivingBack.{return_by, return_of}
+use Rattle.sysv_seats.specs.Held.{held_after}
 use Rattle.sysv_seats.specs.Holding.{Holder, Message, no_flags}
 use Rattle.sysv_seats.specs.InPieces.{asks_any, left}
 use Rattle.sysv_seats.specs.Parked.{HasBegun, IsParked, MayProgress}

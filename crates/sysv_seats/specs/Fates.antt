@@ -1,5 +1,5 @@
--- What becomes of the messages that holds give (this project's profile). Each is spent by a done, or it is held at the
--- end of the session, and is then given back.
+-- What becomes of the messages that holds give (this project's profile). Each is spent by a done, or given back by a
+-- back, or it is held at the end of the session, and is then given back.
 use Rattle.std.specs.Prelude.{◌≡◌, ◌+◌, ⊤, ℕ, List, [], ◌∷◌, Option, None, Some}
 use Rattle.sysv_model.specs.declared.cred.Cred.{Cred}
 use Rattle.sysv_session.specs.declared.handler.RequestOutcome.{RequestOutcome}
@@ -8,6 +8,8 @@ use Rattle.sysv_session.specs.Calls.{Call, Leads}
 use Rattle.sysv_service.specs.Ran.{Pass}
 use Rattle.sysv_wire.specs.declared.reply.ReplyContent.{ReplyContent}
 use Rattle.sysv_wire.specs.declared.reply.ReplyContent.TheVariants as content
+use Rattle.sysv_wire.specs.declared.request.Ask.{Ask}
+use Rattle.sysv_wire.specs.declared.request.Ask.TheVariants.{Back}
 use Rattle.sysv_seats.specs.Held.{holds_with}
 use Rattle.sysv_seats.specs.Holding.{Holder, Message}
 use Rattle.sysv_seats.specs.Sits.{zero_moment}
@@ -41,14 +43,26 @@ abbrev pub spent_in : List Call → ℕ
 spent_in [] = 0
 spent_in (call ∷ calls) = spent_by call.outcome + spent_in calls
 
+-- 1 for the reply of a back that found this message held.
+abbrev pub returned_by : Ask → RequestOutcome → Option Message → ℕ
+returned_by Back (Reply answer) (Some message) = 1
+returned_by ask outcome held = 0
+
+-- The number of messages that these calls gave back.
+abbrev pub returned_in : (cred : Cred) (old : Holder Pass) (calls : List Call) (new : Holder Pass) →
+    Leads (holds_with zero_moment ⊤) cred old calls new → ℕ
+returned_in cred old [] new leads = 0
+returned_in cred old (call ∷ calls) new leads =
+    returned_by call.request.ask call.outcome old.message + returned_in cred leads.0 calls new leads.2
+
 -- 1 if a message is held.
 abbrev pub held_count : Option Message → ℕ
 held_count None = 0
 held_count (Some message) = 1
 
--- Each message that was held before these calls, or that a hold of them gave, was spent by one of them, or is held
--- after them. These are the calls of a client: every time is 0, and the client may leave.
+-- Each message that was held before these calls, or that a hold of them gave, was spent or given back by one of them,
+-- or is held after them. These are the calls of a client: every time is 0, and the client may leave.
 abbrev pub EachMessageIsSpentOrHeld : Type 0
 EachMessageIsSpentOrHeld = (cred : Cred) (old : Holder Pass) (calls : List Call) (new : Holder Pass) →
-    Leads (holds_with zero_moment ⊤) cred old calls new →
-    held_count old.message + given_in calls ≡ spent_in calls + held_count new.message
+    (leads : Leads (holds_with zero_moment ⊤) cred old calls new) → held_count old.message + given_in calls
+    ≡ spent_in calls + returned_in cred old calls new leads + held_count new.message

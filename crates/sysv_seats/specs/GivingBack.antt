@@ -17,7 +17,8 @@ use Rattle.sysv_service.specs.declared.progress.Progress.TheVariants as progress
 use Rattle.sysv_service.specs.Ran.{Pass}
 use Rattle.sysv_steps.specs.declared.send.SendWait.{SendWait}
 use Rattle.sysv_wire.specs.declared.frame.Version.TheVariants.{Three}
-use Rattle.sysv_wire.specs.declared.request.Ask.TheVariants.{Snd}
+use Rattle.sysv_wire.specs.declared.request.Ask.{Ask}
+use Rattle.sysv_wire.specs.declared.request.Ask.TheVariants.{Snd, Back}
 use Rattle.sysv_wire.specs.declared.request.Request.{Request}
 use Rattle.sysv_seats.specs.declared.waiting.Waiting.{Waiting}
 use Rattle.sysv_seats.specs.declared.waiting.Waiting.TheVariants.{Send, Receive, Get}
@@ -34,6 +35,11 @@ return_of message = record { version = Three; ask = Snd message.id message.mtype
 
 abbrev pub return_length : Message → ℕ
 return_length message = 22 + length message.text
+
+-- The request whose call a request makes, if it is another one: for a back, the send of what is held.
+abbrev pub made_by : Option Message → Ask → Ask
+made_by (Some message) Back = Snd message.id message.mtype no_flags
+made_by held ask = ask
 
 abbrev pub held_length : Option Message → ℕ
 held_length None = 0
@@ -96,11 +102,6 @@ abbrev pub return_by : Progress Waiting RequestOutcome → Return
 return_by (progress.Waits (Send wait)) = come.Waits wait
 return_by (progress.Waits waiting) = come.Nothing
 return_by (progress.Over outcome) = come.Over (fate_of outcome)
-
--- What is still held.
-abbrev pub held_after : Option Message → Progress Waiting RequestOutcome → Option Message
-held_after held (progress.Waits waiting) = held
-held_after held (progress.Over outcome) = None
 
 -- It is the progress of a send: a wait is one of a send, and an outcome has no message.
 abbrev pub IsOfSend : Progress Waiting RequestOutcome → Type 0

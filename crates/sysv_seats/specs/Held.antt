@@ -1,8 +1,10 @@
 -- What a handler that may hold a message does to its pass and its message (this project's profile). These
 -- are the definitions of `Holding`, for a pass, and the pieces of a request, as in `Parked`.
-use Rattle.std.specs.Prelude.{◌≡◌, ◌⊎◌, ℕ, ℤ, true, List, [], Option, None}
+use Rattle.std.specs.Prelude.{◌≡◌, ◌⊎◌, ⊤, ℕ, ℤ, true, List, [], Option, Some, None, Result, Ok}
 use Rattle.sysv_keys.specs.declared.identifier.TheConstants.{SLOTS}
 use Rattle.sysv_model.specs.declared.cred.Cred.{Cred}
+use Rattle.sysv_model.specs.declared.errno.Errno.{Errno}
+use Rattle.sysv_model.specs.declared.flags.Flags.{Flags}
 use Rattle.sysv_session.specs.declared.handler.RequestOutcome.{RequestOutcome}
 use Rattle.sysv_session.specs.declared.served.Served.{Served}
 use Rattle.sysv_session.specs.Answers.{MayAnswer}
@@ -15,12 +17,15 @@ use Rattle.sysv_service.specs.Told.{TellsRow}
 use Rattle.sysv_steps.specs.declared.clock.Clock.{Ghosts as ClockGhosts}
 use Rattle.sysv_wire.specs.declared.frame.Version.{Version}
 use Rattle.sysv_wire.specs.declared.request.Ask.{Ask}
-use Rattle.sysv_wire.specs.declared.request.Ask.TheVariants.{Hold}
+use Rattle.sysv_wire.specs.declared.frame.Version.TheVariants.{Three}
+use Rattle.sysv_wire.specs.declared.request.Ask.TheVariants.{Snd, Rcv, Hold, Back}
 use Rattle.sysv_seats.specs.declared.keeper.Keeper.{Keeper}
 use Rattle.sysv_seats.specs.declared.waiting.Waiting.{Waiting}
+use Rattle.sysv_seats.specs.declared.waiting.Waiting.TheVariants.{Send, Receive}
 use Rattle.sysv_seats.specs.Asked.{ComesFrom, ReadsReleased}
 use Rattle.sysv_seats.specs.Holding as holding
-use Rattle.sysv_seats.specs.Holding.{Holder, empty_handed, held_by, hold_outcome, may_call, received}
+use Rattle.sysv_seats.specs.Holding.{Holder, Message, back_outcome, can_hold, empty_handed, held_by, hold_outcome}
+use Rattle.sysv_seats.specs.Holding.{no_flags}
 use Rattle.sysv_seats.specs.Parked.{GoesOn, IsParked, IsWaitOf}
 
 -- The pass of the handler, and the message that its session holds.
@@ -50,11 +55,37 @@ ServesHolding newest may may_leave served old new left rest taken more =
 
 -- ---- requests in pieces
 
--- A request was begun, and its call is parked. That of a hold is a receive, and the session may hold its
--- message. What is held stays.
+-- The wait is one of the call of this request. A hold waits like a receive, and a back like a send.
+abbrev pub IsHoldWaitOf : Ask → Waiting → Type 0
+IsHoldWaitOf (Hold id size mtype flags seconds) (Receive wait) = ⊤
+IsHoldWaitOf Back (Send wait) = ⊤
+IsHoldWaitOf ask waiting = IsWaitOf ask waiting
+
+-- The attributes of the queue were requested, and the caller may send to it, or not for this reason.
+abbrev pub AsksForWriting : Cred → ℤ → Pass → Result ⊤ Errno → Pass → Type 0
+AsksForWriting = holding.AsksForWriting ComesFrom ReadsReleased TellsRow
+
+-- The session may hold a message of the queue, and the receive of its hold is parked.
+abbrev pub ReceiveParked : (ℕ → Type 0) → Cred → ℤ → ℕ → ℤ → Flags → (seconds : ℕ) → List ℕ → Holder Pass → Waiting →
+    Holder Pass → Type 0
+ReceiveParked may cred id size mtype flags seconds text before waiting after =
+    (can_hold flags seconds before.message ≡ true) × (granted : Pass) × AsksForWriting cred id before.at (Ok tt) granted
+    × IsParked may cred (Rcv id size mtype flags) text granted waiting after.at × (after.message ≡ before.message)
+
+-- The send of what is held is parked.
+abbrev pub BackParked : (ℕ → Type 0) → Holder Pass → Waiting → Holder Pass → Type 0
+BackParked may before waiting after = (message : Message) × (before.message ≡ Some message)
+    × IsParked may message.cred (Snd message.id message.mtype no_flags) message.text before.at waiting after.at
+    × (after.message ≡ before.message)
+
+-- A request was begun, and its call is parked: that of a hold is a receive, and that of a back is a send of what is
+-- held. What is held stays.
 abbrev pub HoldParked : (ℕ → Type 0) → Cred → Ask → List ℕ → Holder Pass → Waiting → Holder Pass → Type 0
-HoldParked may cred ask text before waiting after = (may_call ask before.message ≡ true)
-    × IsParked may cred (received ask) text before.at waiting after.at × (after.message ≡ before.message)
+HoldParked may cred (Hold id size mtype flags seconds) text before waiting after =
+    ReceiveParked may cred id size mtype flags seconds text before waiting after
+HoldParked may cred Back text before waiting after = BackParked may before waiting after
+HoldParked may cred ask text before waiting after =
+    IsParked may cred ask text before.at waiting after.at × (after.message ≡ before.message)
 
 -- A request was begun. It is over, as a request of a caller that does not leave, or it is parked and has
 -- no body.
@@ -67,7 +98,7 @@ HoldBegun may version cred ask text before (progress.Over outcome) given after =
 
 -- If the request is over, a handler may return its outcome. If it waits, the wait is one of its call.
 abbrev pub HoldProgress : Version → Ask → Progress Waiting RequestOutcome → List ℕ → Type 0
-HoldProgress version ask (progress.Waits waiting) given = IsWaitOf (received ask) waiting
+HoldProgress version ask (progress.Waits waiting) given = IsHoldWaitOf ask waiting
 HoldProgress version ask (progress.Over outcome) given = MayAnswer version ask outcome given
 
 -- How far a hold has come, by how far its receive has come.
@@ -75,8 +106,18 @@ abbrev pub hold_progress : Version → Progress Waiting RequestOutcome → Progr
 hold_progress version (progress.Waits waiting) = progress.Waits waiting
 hold_progress version (progress.Over outcome) = progress.Over (hold_outcome version outcome)
 
+-- How far a back has come, by how far its send has come.
+abbrev pub back_progress : Version → Progress Waiting RequestOutcome → Progress Waiting RequestOutcome
+back_progress version (progress.Waits waiting) = progress.Waits waiting
+back_progress version (progress.Over outcome) = progress.Over (back_outcome version outcome)
+
+-- What is still held once the send of it has come so far.
+abbrev pub held_after : Option Message → Progress Waiting RequestOutcome → Option Message
+held_after held (progress.Waits waiting) = held
+held_after held (progress.Over outcome) = None
+
 -- What is held once the receive of a hold has come so far. While it waits, nothing is held.
-abbrev pub held_at : Cred → ℤ → Progress Waiting RequestOutcome → List ℕ → Option holding.Message
+abbrev pub held_at : Cred → ℤ → Progress Waiting RequestOutcome → List ℕ → Option Message
 held_at cred id (progress.Waits waiting) given = None
 held_at cred id (progress.Over outcome) given = held_by cred id outcome given
 
@@ -95,10 +136,21 @@ abbrev pub GoesOnBeside : (ℕ → Type 0) → Version → Waiting → List ℕ 
 GoesOnBeside may version waiting text before result given after =
     GoesOn may version waiting text before.at result given after.at × (after.message ≡ before.message)
 
+-- The send of what is held looked at its count once.
+abbrev pub BackGoesOn : (ℕ → Type 0) → Version → Waiting → Holder Pass → Progress Waiting RequestOutcome → List ℕ →
+    Holder Pass → Type 0
+BackGoesOn may version waiting before result given after =
+    ((before.message ≡ None) × (result ≡ progress.Waits waiting) × (after ≡ before) × (given ≡ []))
+    ⊎ ((message : Message) × (before.message ≡ Some message) × (came : Progress Waiting RequestOutcome)
+    × GoesOn may Three waiting message.text before.at came [] after.at × (result ≡ back_progress version came)
+    × (after.message ≡ held_after before.message came) × (given ≡ []))
+
 -- The parked call of a request looked at its count once, or is a hold without memory.
 abbrev pub AnyGoesOn : (ℕ → Type 0) → Version → Cred → Ask → Waiting → List ℕ → Holder Pass →
     Progress Waiting RequestOutcome → List ℕ → Holder Pass → Type 0
 AnyGoesOn may version cred (Hold id size mtype flags seconds) waiting text before result given after =
     HoldGoesOn may version cred id waiting text before result given after
+AnyGoesOn may version cred Back waiting text before result given after =
+    BackGoesOn may version waiting before result given after
 AnyGoesOn may version cred ask waiting text before result given after =
     GoesOnBeside may version waiting text before result given after

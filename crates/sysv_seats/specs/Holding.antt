@@ -1,26 +1,35 @@
 -- Messages that sessions hold (this project's profile). A hold is a receive whose message the session
--- remembers, and a done spends it. A session holds one message at most. If the session ends before the
--- message is spent, a `msgsnd` gives it back: of the same body, with the same type, to the same queue,
--- without flags and with the session's credentials.
+-- remembers, a done spends it, and a back gives it back: by a `msgsnd` of the same body, with the same
+-- type, to the same queue, without flags and with the session's credentials. A session holds one message
+-- at most. If it ends before the message is spent or given back, such a `msgsnd` follows it.
 use Rattle.std.specs.Prelude.{◌≡◌, ◌⊎◌, ◌&&◌, ◌==◌, ⊤, ℕ, ℤ, Bool, true, not, List, [], Option, None, Some, Result}
+use Rattle.std.specs.Prelude.{Ok, Err}
 use Rattle.std.specs.Prelude.{cond, is_some}
 use Rattle.sysv_model.specs.declared.attributes.Row.{Row as Line}
+use Rattle.sysv_model.specs.declared.attributes.Stat.{Stat as Attributes}
 use Rattle.sysv_model.specs.declared.cred.Cred.{Cred}
 use Rattle.sysv_model.specs.declared.errno.Errno.{Errno}
-use Rattle.sysv_model.specs.declared.errno.Errno.TheVariants.{EAGAIN, EINVAL}
+use Rattle.sysv_model.specs.declared.errno.Errno.TheVariants.{EACCES, EAGAIN, EINVAL}
 use Rattle.sysv_model.specs.declared.flags.Flags.{Flags}
 use Rattle.sysv_model.specs.declared.flags.TheConstants.Flags.{MSG_NOERROR}
 use Rattle.sysv_model.specs.HasFlag.{has_flag}
+use Rattle.sysv_rules.specs.declared.permission.Want.TheVariants.{Write}
+use Rattle.sysv_rules.specs.Permission.{IsPermitted}
+use Rattle.sysv_service.specs.Told.{TellsStat}
 use Rattle.sysv_session.specs.declared.handler.RequestOutcome.{RequestOutcome}
 use Rattle.sysv_session.specs.declared.handler.RequestOutcome.TheVariants.{Reply, Got, Left}
 use Rattle.sysv_wire.specs.declared.frame.Op.TheVariants as op
 use Rattle.sysv_wire.specs.declared.frame.Version.{Version}
 use Rattle.sysv_wire.specs.declared.frame.Version.TheVariants.{Three}
+use Rattle.sysv_wire.specs.declared.reply.ReplyContent.{ReplyContent}
 use Rattle.sysv_wire.specs.declared.reply.ReplyContent.TheVariants as content
 use Rattle.sysv_wire.specs.declared.request.Ask.{Ask}
 use Rattle.sysv_wire.specs.declared.request.Ask.TheVariants.{Rcv, Hold, Done, Back}
 use Rattle.sysv_seats.specs.Replies.{reply}
-use Rattle.sysv_seats.specs.Requests.{Going, Asks, Receives, Sends}
+use Rattle.sysv_seats.specs.Requests.{Going, Asks, Ends, Receives, Sends}
+use Rattle.sysv_steps.specs.Call.{MsgctlStat}
+use Rattle.sysv_steps.specs.State.{Ending}
+use Rattle.sysv_steps.specs.Stepping.{no_moment}
 
 -- A message that a session holds, and how it is given back: by a send with these credentials to this
 -- queue.
@@ -66,15 +75,28 @@ abbrev pub done_outcome : Version → Option Message → RequestOutcome
 done_outcome version None = reply version op.Done (content.Refused EINVAL)
 done_outcome version (Some message) = reply version op.Done content.Done
 
--- The receive that a hold makes, and any other request itself.
-abbrev pub received : Ask → Ask
-received (Hold id size mtype flags seconds) = Rcv id size mtype flags
-received ask = ask
+-- The outcome of a back, by that of its send.
+abbrev pub back_content : ReplyContent → ReplyContent
+back_content content.Snd = content.Back
+back_content answer = answer
 
--- The request may make its call if this is held.
-abbrev pub may_call : Ask → Option Message → Bool
-may_call (Hold id size mtype flags seconds) message = can_hold flags seconds message
-may_call ask message = true
+abbrev pub back_outcome : Version → RequestOutcome → RequestOutcome
+back_outcome version (Reply answer) = reply version op.Back (back_content answer.result)
+back_outcome version (Got delivery) = Got delivery
+back_outcome version Left = Left
+
+-- What is still held after the send of it has this outcome. A send that was left at its wait did nothing.
+abbrev pub kept_by : Option Message → RequestOutcome → Option Message
+kept_by held (Reply answer) = None
+kept_by held (Got delivery) = None
+kept_by held Left = held
+
+-- Whether a caller may send to the queue of which `IPC_STAT` says this, and if not, why.
+abbrev pub Grants : Cred → Result Attributes Errno → Result ⊤ Errno → Type 0
+Grants cred (Ok stat) (Ok granted) = IsPermitted cred stat.perm Write
+Grants cred (Ok stat) (Err why) = (IsPermitted cred stat.perm Write → ⊥) × (why ≡ EACCES)
+Grants cred (Err refusal) (Ok granted) = ⊥
+Grants cred (Err refusal) (Err why) = why ≡ refusal
 
 -- The flags of the send that gives a message back.
 abbrev pub no_flags : Flags
@@ -89,20 +111,36 @@ module _ {K : Type 0} (Comes : Going K) (ReadsReleased : ℕ → K → K → Typ
   HoldIsRefused version flags seconds before outcome given after = (after ≡ before) × (given ≡ [])
       × (outcome ≡ reply version op.Hold (content.Refused (why_refused flags seconds before.message)))
 
+  -- The attributes of the queue were requested, and the caller may send to it, or not for this reason. Who
+  -- may not send to a queue cannot give a message back to it.
+  abbrev pub AsksForWriting : Cred → ℤ → K → Result ⊤ Errno → K → Type 0
+  AsksForWriting cred id before granted after = (answer : Result Attributes Errno) × (ending : Ending)
+      × Ends Comes ReadsReleased TellsRow no_moment cred (MsgctlStat id) 0 before ending after
+      × TellsStat ending answer × Grants cred answer granted
+
+  -- The caller may not send to the queue, and the hold was refused for this reason.
+  abbrev pub HoldIsDenied : Version → Cred → ℤ → Flags → (seconds : ℕ) → Holder K → RequestOutcome → List ℕ → Holder K →
+      Type 0
+  HoldIsDenied version cred id flags seconds before outcome given after =
+      (can_hold flags seconds before.message ≡ true) × (why : Errno)
+      × AsksForWriting cred id before.at (Err why) after.at × (outcome ≡ reply version op.Hold (content.Refused why))
+      × (after.message ≡ before.message) × (given ≡ [])
+
   -- A receive of the same fields ended or was left. The session holds its message, if it took one.
   abbrev pub HoldReceives : (ℕ → Type 0) → Type 0 → Version → Cred → ℤ → ℕ → ℤ → Flags → (seconds : ℕ) → Holder K →
       RequestOutcome → List ℕ → Holder K → Type 0
   HoldReceives may may_leave version cred id size mtype flags seconds before outcome given after =
-      (can_hold flags seconds before.message ≡ true) × (came : RequestOutcome)
-      × Receives Comes ReadsReleased TellsRow may may_leave version cred id size mtype flags before.at came given
-      after.at
+      (can_hold flags seconds before.message ≡ true) × (came : RequestOutcome) × (granted : K)
+      × AsksForWriting cred id before.at (Ok tt) granted
+      × Receives Comes ReadsReleased TellsRow may may_leave version cred id size mtype flags granted came given after.at
       × (outcome ≡ hold_outcome version came) × (after.message ≡ held_by cred id came given)
 
-  -- A hold was refused, or its receive ended or was left.
+  -- A hold was refused, before or after the attributes of its queue were requested; or its receive ended or was left.
   abbrev pub Holds : (ℕ → Type 0) → Type 0 → Version → Cred → ℤ → ℕ → ℤ → Flags → (seconds : ℕ) → Holder K →
       RequestOutcome → List ℕ → Holder K → Type 0
   Holds may may_leave version cred id size mtype flags seconds before outcome given after =
       HoldIsRefused version flags seconds before outcome given after
+      ⊎ HoldIsDenied version cred id flags seconds before outcome given after
       ⊎ HoldReceives may may_leave version cred id size mtype flags seconds before outcome given after
 
   -- What was held is spent. No call was made. If nothing was held, the reply is EINVAL.
@@ -110,10 +148,27 @@ module _ {K : Type 0} (Comes : Going K) (ReadsReleased : ℕ → K → K → Typ
   Spends version before outcome given after =
       (after ≡ empty_handed before.at) × (outcome ≡ done_outcome version before.message) × (given ≡ [])
 
-  -- A back is refused: to give a message back, a client ends its session. No call was made.
+  -- The message was sent again, and that send ended with this outcome, or its caller left it at a wait.
+  abbrev pub SendsAgain : (ℕ → Type 0) → Type 0 → Message → K → RequestOutcome → K → Type 0
+  SendsAgain may may_leave message before outcome after =
+      Sends Comes ReadsReleased TellsRow may may_leave Three message.cred message.id message.mtype no_flags message.text
+      before outcome after
+
+  -- A back was refused, since nothing is held. No call was made.
   abbrev pub BackIsRefused : Version → Holder K → RequestOutcome → List ℕ → Holder K → Type 0
-  BackIsRefused version before outcome given after =
-      (after ≡ before) × (outcome ≡ reply version op.Back (content.Refused EINVAL)) × (given ≡ [])
+  BackIsRefused version before outcome given after = (before.message ≡ None) × (after ≡ before)
+      × (outcome ≡ reply version op.Back (content.Refused EINVAL)) × (given ≡ [])
+
+  -- What is held was sent again. With the reply to that nothing is held.
+  abbrev pub BackSends : (ℕ → Type 0) → Type 0 → Version → Holder K → RequestOutcome → List ℕ → Holder K → Type 0
+  BackSends may may_leave version before outcome given after = (message : Message) × (before.message ≡ Some message)
+      × (came : RequestOutcome) × SendsAgain may may_leave message before.at came after.at
+      × (outcome ≡ back_outcome version came) × (after.message ≡ kept_by before.message came) × (given ≡ [])
+
+  -- A back was refused, or its send ended or was left.
+  abbrev pub Backs : (ℕ → Type 0) → Type 0 → Version → Holder K → RequestOutcome → List ℕ → Holder K → Type 0
+  Backs may may_leave version before outcome given after = BackIsRefused version before outcome given after
+      ⊎ BackSends may may_leave version before outcome given after
 
   -- Any other request is one of what makes the calls. What is held stays.
   abbrev pub AsksBeside : (ℕ → Type 0) → Type 0 → Version → Cred → Ask → List ℕ → Holder K → RequestOutcome → List ℕ →
@@ -129,7 +184,7 @@ module _ {K : Type 0} (Comes : Going K) (ReadsReleased : ℕ → K → K → Typ
       Holds may may_leave version cred id size mtype flags seconds before outcome given after
   HoldAsks may may_leave version cred Done text before outcome given after = Spends version before outcome given after
   HoldAsks may may_leave version cred Back text before outcome given after =
-      BackIsRefused version before outcome given after
+      Backs may may_leave version before outcome given after
   HoldAsks may may_leave version cred ask text before outcome given after =
       AsksBeside may may_leave version cred ask text before outcome given after
 
@@ -137,9 +192,7 @@ module _ {K : Type 0} (Comes : Going K) (ReadsReleased : ℕ → K → K → Typ
 
   -- The message was sent again, and that send ended with this outcome, or was left at a wait.
   abbrev pub IsReturn : (ℕ → Type 0) → Message → K → RequestOutcome → K → Type 0
-  IsReturn may message before outcome after =
-      Sends Comes ReadsReleased TellsRow may ⊤ Three message.cred message.id message.mtype no_flags message.text before
-      outcome after
+  IsReturn may message before outcome after = SendsAgain may ⊤ message before outcome after
 
   -- What follows a session: nothing if it held nothing at its end, or the return of what it held.
   abbrev pub GivesBack : (ℕ → Type 0) → Holder K → Option RequestOutcome → K → Type 0

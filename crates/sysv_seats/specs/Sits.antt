@@ -24,14 +24,14 @@ use Rattle.sysv_service.specs.Ran.{Pass}
 use Rattle.sysv_wire.specs.declared.fault.Fault.TheVariants.{Truncated, TooLong, BadOp, BadField, Read}
 use Rattle.sysv_wire.specs.declared.frame.Version.{Version}
 use Rattle.sysv_wire.specs.declared.request.Ask.{Ask}
-use Rattle.sysv_wire.specs.declared.request.Ask.TheVariants.{Get as AskGet, Snd, Rcv, Hold}
+use Rattle.sysv_wire.specs.declared.request.Ask.TheVariants.{Get as AskGet, Snd, Rcv, Hold, Back}
 use Rattle.sysv_wire.specs.declared.request.Request.{Request}
 use Rattle.sysv_wire.specs.Requests.{request_encoding}
 use Rattle.sysv_seats.specs.declared.parked.Parked.{Parked}
 use Rattle.sysv_seats.specs.declared.waiting.Waiting.{Waiting}
 use Rattle.sysv_seats.specs.declared.waiting.Waiting.TheVariants.{Send, Receive, Get}
 use Rattle.sysv_seats.specs.Held.{HoldParked, ServesHolding, holds_with}
-use Rattle.sysv_seats.specs.Holding.{Holder, empty_handed, received}
+use Rattle.sysv_seats.specs.Holding.{Holder, empty_handed}
 use Rattle.sysv_seats.specs.Untold.{Closing}
 
 -- What the parked call waits for, if a call is parked.
@@ -52,6 +52,15 @@ is_hold ask = false
 abbrev pub is_hold_parked : Option Parked → Bool
 is_hold_parked None = false
 is_hold_parked (Some parked) = is_hold parked.request.ask
+
+-- The parked call is the send of a back.
+abbrev pub is_back : Ask → Bool
+is_back Back = true
+is_back ask = false
+
+abbrev pub is_back_parked : Option Parked → Bool
+is_back_parked None = false
+is_back_parked (Some parked) = is_back parked.request.ask
 
 -- What the contracts see of a client.
 pub record Sitting (T : Type 0) : Type 0 where
@@ -265,10 +274,16 @@ is_wait_of (Rcv id size mtype flags) (Receive wait) = true
 is_wait_of (AskGet key flags) (Get wait) = true
 is_wait_of ask waiting = false
 
--- The frame of a parked call is in the input, and its wait is one of a call of its request.
+-- The same, where a hold waits like a receive, and a back like a send.
+abbrev pub is_hold_wait_of : Ask → Waiting → Bool
+is_hold_wait_of (Hold id size mtype flags seconds) (Receive wait) = true
+is_hold_wait_of Back (Send wait) = true
+is_hold_wait_of ask waiting = is_wait_of ask waiting
+
+-- The frame of a parked call is in the input, and its wait is one of the call of its request.
 abbrev pub HasFrame : List ℕ → Option Parked → Type 0
 HasFrame input parked =
-    IfSome parked (λ p. (p.length ≤ length input) × (is_wait_of (received p.request.ask) p.waiting ≡ true))
+    IfSome parked (λ p. (p.length ≤ length input) × (is_hold_wait_of p.request.ask p.waiting ≡ true))
 
 -- The number of messages that were counted or are in the outbox.
 abbrev pub messages_so_far : Dialogue → ℕ

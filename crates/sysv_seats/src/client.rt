@@ -13,7 +13,7 @@ ghost use Rattle.sysv_wire.specs.declared.frame.Version.{Version as Known};
 ghost use Rattle.sysv_seats.specs.Parked.{IsReplied};
 ghost use Rattle.sysv_seats.specs.Holding.{Holder, empty_handed};
 ghost use Rattle.sysv_seats.specs.Held.{HoldBegun, HoldProgress, holder_of};
-ghost use Rattle.sysv_seats.specs.Sits.{Arrives, GreetsAs, HasAsked, IsFree, IsOver, IsPending, Keeps, KeepsWith, ReadsNext, Sits, broken_off_for, end_at_close, is_early as early, is_finished, is_hold_parked, parked_bytes, parked_wait, stopped_for, zero_moment};
+ghost use Rattle.sysv_seats.specs.Sits.{Arrives, GreetsAs, HasAsked, IsFree, IsOver, IsPending, Keeps, KeepsWith, ReadsNext, Sits, broken_off_for, end_at_close, is_back_parked, is_early as early, is_finished, is_hold_parked, parked_bytes, parked_wait, stopped_for, zero_moment};
 
 use crate::keeper::Keeper;
 use crate::limits::Limit;
@@ -151,6 +151,16 @@ impl<T: NonBlocking> Client<T> {
     {
         match self.parked {
             Some(parked) => matches!(parked.request.ask, Ask::Hold { .. }),
+            None => false,
+        }
+    }
+
+    /// Returns whether the parked call is the send of a back.
+    pub fn awaits_back(&self) -> bool
+        ensures { result ≡ is_back_parked self.now.parked }
+    {
+        match self.parked {
+            Some(parked) => matches!(parked.request.ask, Ask::Back),
             None => false,
         }
     }
@@ -342,8 +352,9 @@ impl<T: NonBlocking> Client<T> {
             waiting,
             length,
         } = parked;
+        let made = handler.made_by(request.ask);
         let progress = handler.go_on(cred, &request, &tools.text, &mut tools.given, waiting);
-        self.settle(cred, request, length, progress, tools);
+        self.settle(cred, request, &made, length, progress, tools);
         self.has_input = self.is_within_request();
     }
 
@@ -598,17 +609,19 @@ impl<T: NonBlocking> Client<T> {
             ≡ T.closes.breaks self.old.connection }
     {
         tools.given.clear();
+        let made = handler.made_by(request.ask);
         let progress = handler.begin(cred, &request, &tools.text, &mut tools.given);
-        self.settle(cred, request, size, progress, tools);
+        self.settle(cred, request, &made, size, progress, tools);
     }
 
     /// Gathers the outcome of a request whose frame of this length is at the front of the input, or
-    /// parks its call.
+    /// parks its call, which is that of the request `made`.
     #[inline(always)]
     fn settle(
         &mut self,
         cred: Cred,
         request: Request,
+        made: &Ask,
         size: usize,
         progress: Progress<Waiting, RequestOutcome>,
         tools: &mut Tools,
@@ -624,14 +637,14 @@ impl<T: NonBlocking> Client<T> {
             HoldBegun zero_moment request.version cred request.ask text before progress
             tools.old.given now →
             Sits T.incoming T.outgoing newest start origin self.new now }
-        ensures notifications { KeepsNotification (notifications_of (told_of request.ask progress))
+        ensures notifications { KeepsNotification (notifications_of (told_of made.now progress))
             tools.old tools.new }
         ensures breaks { T.closes.breaks self.new.connection
             ≡ T.closes.breaks self.old.connection }
     {
         match progress {
             Progress::Over(outcome) => {
-                tools.tell(Told::by_end(&request, &outcome));
+                tools.tell(Told::by_end(made, &outcome));
                 self.parked = None;
                 self.start += size;
                 if let Err(why) = self

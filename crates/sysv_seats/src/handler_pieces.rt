@@ -4,6 +4,7 @@ ghost use Rattle.std.specs.Prelude.{◌≡◌, ◌≢◌, ◌≤◌, ℕ, List, 
 ghost use Rattle.sysv_model.specs.declared.limits.TheConstants.{MESSAGE_BYTES};
 ghost use Rattle.sysv_service.specs.Ran.{Pass as Seen};
 ghost use Rattle.sysv_wire.specs.Requests.{op_of};
+ghost use Rattle.sysv_seats.specs.Held.{AsksForWriting};
 ghost use Rattle.sysv_seats.specs.Parked.{GoesOn, HasBegun, IsParked, IsWaitOf, MayProgress, get_progress, receive_progress, send_progress};
 
 use crate::handler::{ServiceHandler, reply};
@@ -11,6 +12,7 @@ use crate::waiting::Waiting;
 use std::sync::Wait;
 use sysv_model::{Body, Cred, Errno, Flags};
 use sysv_queue::Delivery;
+use sysv_rules::{Want, may};
 use sysv_service::{Clock, GetWait, Progress, ReceiveWait, SendWait};
 use sysv_session::{Handler, RequestOutcome};
 use sysv_wire::{Ask, Op, ReplyContent, Request, Version};
@@ -80,7 +82,7 @@ impl<'a, C: Clock, R: Wait> ServiceHandler<'a, C, R> {
 
     /// Begins a `msgsnd` of the body.
     #[inline(always)]
-    fn begin_send(
+    pub(crate) fn begin_send(
         &mut self,
         version: Version,
         cred: Cred,
@@ -123,6 +125,24 @@ impl<'a, C: Clock, R: Wait> ServiceHandler<'a, C, R> {
             self.rt, pass, self.clock, cred, id, given, size, mtype, flags,
         );
         receive_came(version, came)
+    }
+
+    /// Requests the attributes of a queue. Returns whether the caller may send to it, and if not, why.
+    ///
+    /// # Errors
+    ///
+    /// - `EACCES` if the caller may not.
+    /// - That of a `msgctl` with `IPC_STAT` if it has failed.
+    pub(crate) fn ask_for_writing(&mut self, cred: Cred, id: i32) -> Result<(), Errno>
+        ensures asks { AsksForWriting cred id self.old.pass result self.new.pass }
+        ensures handles { KeepsHandles self.old self.new }
+    {
+        let stat = self.service.msgctl_stat(self.rt, &mut self.pass, cred, id)?;
+        if may(cred, stat.perm, Want::Write) {
+            Ok(())
+        } else {
+            Err(Errno::EACCES)
+        }
     }
 
     /// Continues a request that waits, if its wait is over. Looks once at the count for which the
@@ -179,7 +199,7 @@ impl<'a, C: Clock, R: Wait> ServiceHandler<'a, C, R> {
     }
 
     /// Continues a `msgsnd` of the body.
-    fn send_on(
+    pub(crate) fn send_on(
         &mut self,
         version: Version,
         text: &Body,

@@ -66,6 +66,20 @@ impl HeldMessage {
         self.cred
     }
 
+    /// Returns the queue from which the message was received.
+    pub(crate) fn id(&self) -> i32
+        ensures { result ≡ self.now.id }
+    {
+        self.id
+    }
+
+    /// Returns the type of the message.
+    pub(crate) fn mtype(&self) -> i64
+        ensures { result ≡ self.now.mtype }
+    {
+        self.mtype
+    }
+
     /// Returns the send that gives the message back.
     pub(crate) fn send(&self) -> Request
         ensures { result ≡ return_of self.now }

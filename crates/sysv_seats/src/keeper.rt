@@ -1,18 +1,23 @@
 //! The handler of sessions that may hold a message.
-ghost use Rattle.std.specs.Prelude.{◌≡◌, ◌≢◌, ◌≤◌, ℕ, List, [], None, IfSome, is_some, length, vec_capacity};
+ghost use Rattle.std.specs.Prelude.{◌≡◌, ◌≢◌, ◌≤◌, ℕ, List, [], None, IfSome, false, is_some, length, true, vec_capacity};
 ghost use Rattle.sysv_model.specs.declared.limits.TheConstants.{MESSAGE_BYTES};
 ghost use Rattle.sysv_service.specs.Ran.{Pass as Seen};
 ghost use Rattle.sysv_service.specs.Seats.{AreOf};
 ghost use Rattle.sysv_wire.specs.Requests.{op_of};
 ghost use Rattle.sysv_session.specs.Answers.{MayAnswer};
 ghost use Rattle.sysv_seats.specs.HandlesKept.{KeepsHandles};
-ghost use Rattle.sysv_seats.specs.Holding.{Holder, can_hold as may_hold, received as the_received};
-ghost use Rattle.sysv_seats.specs.Held.{AnyGoesOn, HoldBegun, HoldParked, HoldProgress, Spends, held_at, hold_progress, holder_of};
-ghost use Rattle.sysv_seats.specs.Parked.{IsWaitOf, MayProgress};
+ghost use Rattle.sysv_session.specs.Answers.{is_message};
+ghost use Rattle.sysv_seats.specs.Holding.{Holder, can_hold as may_hold};
+ghost use Rattle.sysv_seats.specs.Holding.{back_content as the_back_content, back_outcome as the_back_outcome};
+ghost use Rattle.sysv_seats.specs.Held.{AnyGoesOn, HoldBegun, HoldParked, HoldProgress, IsHoldWaitOf, Spends};
+ghost use Rattle.sysv_seats.specs.Held.{back_progress, held_after, held_at, hold_progress, holder_of};
+ghost use Rattle.sysv_seats.specs.GivingBack.{IsOfSend, made_by as the_made_by, waits_to_send};
+ghost use Rattle.sysv_seats.specs.Parked.{MayProgress};
 ghost use Rattle.sysv_seats.specs.Replies.{reply as the_reply};
 
 use crate::handler::{ServiceHandler, reply};
 use crate::holding::HeldMessage;
+use crate::returning::send_wait;
 use crate::waiting::Waiting;
 use bitflags::Flags as _;
 use std::alloc::Global;
@@ -26,8 +31,8 @@ use sysv_wire::{Ask, Op, ReplyContent, Request, Version};
 /// The handler of one session after another over a service, of which each may hold a message.
 ///
 /// It makes the calls of a session as its `ServiceHandler` does, in pieces. A hold is a receive
-/// whose message the keeper keeps, and a done spends it. A session that ends with a message is
-/// followed by its return.
+/// whose message the keeper keeps, a done spends it, and a back is a send of it. A session that ends
+/// with a message is followed by its return.
 pub struct Keeper<'a, C: Clock, R: Wait> {
     pub(crate) handler: ServiceHandler<'a, C, R>,
     /// The message that the session holds.
@@ -83,7 +88,8 @@ impl<'a, C: Clock, R: Wait> Keeper<'a, C, R> {
 
     /// Begins a request, as `ServiceHandler::begin` does. A hold makes the steps of its receive.
     ///
-    /// If memory for a message is refused, a hold is refused with `EAGAIN`, and nothing is taken.
+    /// If memory for a message is refused, a hold is refused with `EAGAIN`, and nothing is taken. If
+    /// the caller may not send to the queue, it is refused with `EACCES`.
     ///
     /// # Conditions
     ///
@@ -122,7 +128,7 @@ impl<'a, C: Clock, R: Wait> Keeper<'a, C, R> {
                 given,
             ),
             Ask::Done => Progress::Over(self.spend(request.version)),
-            Ask::Back => Progress::Over(refusal(request.version, Op::Back, Errno::EINVAL)),
+            Ask::Back => self.begin_back(request.version, given),
             _beside => self.handler.begin(cred, request, text, given),
         }
     }
@@ -155,10 +161,40 @@ impl<'a, C: Clock, R: Wait> Keeper<'a, C, R> {
         let Some(memory) = self.room() else {
             return Progress::Over(refusal(version, Op::Hold, Errno::EAGAIN));
         };
+        match self.handler.ask_for_writing(cred, id) {
+            Err(why) => Progress::Over(refusal(version, Op::Hold, why)),
+            Ok(()) => {
+                let came = self
+                    .handler
+                    .begin_receive(version, cred, id, size, mtype, flags, given);
+                self.keep(version, cred, id, came, given, memory)
+            }
+        }
+    }
+
+    /// Begins to give back the message that is held, if there is one: sends it again.
+    fn begin_back(
+        &mut self,
+        version: Version,
+        given: &mut Body,
+    ) -> Progress<Waiting, RequestOutcome>
+        requires empty { given.old ≡ [] }
+        ensures begun { (cred : Cred) (text : List ℕ) → HoldBegun (C.may self.old.handler.clock.now)
+            version cred Ask.Back text (holder_of self.old) result given.new (holder_of self.new) }
+        ensures answer { HoldProgress version Ask.Back result given.new }
+        ensures handles { KeepsHandles self.old.handler self.new.handler }
+    {
+        let Some(message) = &self.message else {
+            return Progress::Over(refusal(version, Op::Back, Errno::EINVAL));
+        };
+        let (cred, id, mtype) = (message.cred(), message.id(), message.mtype());
+        message.recall(given);
+        let none = Flags::from_bits_retain(0);
         let came = self
             .handler
-            .begin_receive(version, cred, id, size, mtype, flags, given);
-        self.keep(version, cred, id, came, given, memory)
+            .begin_send(Version::Three, cred, id, mtype, none, given);
+        given.clear();
+        self.settle_back(version, came)
     }
 
     /// Continues a request that waits, as `ServiceHandler::go_on` does. If memory for a message is
@@ -176,7 +212,7 @@ impl<'a, C: Clock, R: Wait> Keeper<'a, C, R> {
         given: &mut Body,
         waiting: Waiting,
     ) -> Progress<Waiting, RequestOutcome>
-        requires kind { IsWaitOf (the_received request.now.ask) waiting }
+        requires kind { IsHoldWaitOf request.now.ask waiting }
         requires short { length text.now ≤ MESSAGE_BYTES }
         requires empty { given.old ≡ [] }
         ensures begun { (start : Holder Seen) →
@@ -190,14 +226,117 @@ impl<'a, C: Clock, R: Wait> Keeper<'a, C, R> {
         ensures answer { HoldProgress request.now.version request.now.ask result given.new }
         ensures handles { KeepsHandles self.old.handler self.new.handler }
     {
-        let Ask::Hold { id, .. } = request.ask else {
-            return self.handler.go_on(request, text, given, waiting);
-        };
+        match request.ask {
+            Ask::Hold {
+                id,
+                size,
+                mtype,
+                flags,
+                seconds,
+            } => self.hold_on(
+                request.version,
+                cred,
+                id,
+                size,
+                mtype,
+                flags,
+                seconds,
+                text,
+                given,
+                waiting,
+            ),
+            Ask::Back => self.back_on(request.version, given, waiting),
+            _beside => self.handler.go_on(request, text, given, waiting),
+        }
+    }
+
+    /// Continues a hold that waits: its receive.
+    fn hold_on(
+        &mut self,
+        version: Version,
+        cred: Cred,
+        id: i32,
+        size: u32,
+        mtype: i64,
+        flags: Flags,
+        seconds: u32,
+        text: &Body,
+        given: &mut Body,
+        waiting: Waiting,
+    ) -> Progress<Waiting, RequestOutcome>
+        requires kind { IsHoldWaitOf (Ask.Hold id size mtype flags seconds) waiting }
+        requires short { length text.now ≤ MESSAGE_BYTES }
+        requires empty { given.old ≡ [] }
+        ensures begun { (start : Holder Seen) →
+            HoldParked (C.may self.old.handler.clock.now) cred
+            (Ask.Hold id size mtype flags seconds) text.now start waiting (holder_of self.old) →
+            HoldBegun (C.may self.old.handler.clock.now) version cred
+            (Ask.Hold id size mtype flags seconds) text.now start result given.new
+            (holder_of self.new) }
+        ensures looks { AnyGoesOn (C.may self.old.handler.clock.now) version cred
+            (Ask.Hold id size mtype flags seconds) waiting text.now (holder_of self.old) result
+            given.new (holder_of self.new) }
+        ensures answer { HoldProgress version (Ask.Hold id size mtype flags seconds) result
+            given.new }
+        ensures handles { KeepsHandles self.old.handler self.new.handler }
+    {
         let Some(memory) = self.room() else {
             return Progress::Waits(waiting);
         };
-        let came = self.handler.go_on(&received(request), text, given, waiting);
-        self.keep(request.version, cred, id, came, given, memory)
+        let receive = receive_of(version, id, size, mtype, flags);
+        let came = self.handler.go_on(&receive, text, given, waiting);
+        self.keep(version, cred, id, came, given, memory)
+    }
+
+    /// Continues a back that waits: the send of the message that is held.
+    fn back_on(
+        &mut self,
+        version: Version,
+        given: &mut Body,
+        waiting: Waiting,
+    ) -> Progress<Waiting, RequestOutcome>
+        requires kind { waits_to_send waiting ≡ true }
+        requires empty { given.old ≡ [] }
+        ensures begun { (start : Holder Seen) (cred : Cred) (text : List ℕ) →
+            HoldParked (C.may self.old.handler.clock.now) cred Ask.Back text start waiting
+            (holder_of self.old) →
+            HoldBegun (C.may self.old.handler.clock.now) version cred Ask.Back text start result
+            given.new (holder_of self.new) }
+        ensures looks { (cred : Cred) (text : List ℕ) →
+            AnyGoesOn (C.may self.old.handler.clock.now) version cred Ask.Back waiting text
+            (holder_of self.old) result given.new (holder_of self.new) }
+        ensures answer { HoldProgress version Ask.Back result given.new }
+        ensures handles { KeepsHandles self.old.handler self.new.handler }
+    {
+        let Some(message) = &self.message else {
+            return Progress::Waits(waiting);
+        };
+        message.recall(given);
+        let wait = send_wait(waiting);
+        let came = self.handler.send_on(Version::Three, given, wait);
+        given.clear();
+        self.settle_back(version, came)
+    }
+
+    /// Takes note that the send of the message that is held has come so far. Returns how far its
+    /// back has come.
+    fn settle_back(
+        &mut self,
+        version: Version,
+        came: Progress<Waiting, RequestOutcome>,
+    ) -> Progress<Waiting, RequestOutcome>
+        requires { IsOfSend came }
+        ensures progress { result ≡ back_progress version came }
+        ensures message { self.new.message ≡ held_after self.old.message came }
+        ensures handler { self.new.handler ≡ self.old.handler }
+    {
+        match came {
+            Progress::Waits(waiting) => Progress::Waits(waiting),
+            Progress::Over(outcome) => {
+                self.message = None;
+                Progress::Over(back_outcome(version, outcome))
+            }
+        }
     }
 
     /// Keeps the message of a receive that has come so far, if it took one, in `memory`. Returns
@@ -234,6 +373,17 @@ impl<'a, C: Clock, R: Wait> Keeper<'a, C, R> {
         }
     }
 
+    /// Returns the request whose call a request makes, if it is another one: for a back, the send of
+    /// the message that is held.
+    pub(crate) fn made_by(&self, ask: Ask) -> Ask
+        ensures { result ≡ the_made_by self.now.message ask }
+    {
+        match (ask, &self.message) {
+            (Ask::Back, Some(message)) => message.send().ask,
+            _ => ask,
+        }
+    }
+
     /// Spends the message that is held, and returns the reply.
     fn spend(&mut self, version: Version) -> RequestOutcome
         ensures spends { Spends version (holder_of self.old) result [] (holder_of self.new) }
@@ -267,29 +417,41 @@ impl<'a, C: Clock, R: Wait> Keeper<'a, C, R> {
     }
 }
 
-/// Returns the receive that a hold makes, or another request itself.
-fn received(request: &Request) -> Request
-    ensures ask { result.ask ≡ the_received request.now.ask }
-    ensures version { result.version ≡ request.now.version }
+/// Returns the outcome of a back whose send has this outcome.
+fn back_outcome(version: Version, outcome: RequestOutcome) -> RequestOutcome
+    requires { is_message outcome ≡ false }
+    ensures { result ≡ the_back_outcome version outcome }
 {
-    let ask = match request.ask {
-        Ask::Hold {
-            id,
-            size,
-            mtype,
-            flags,
-            seconds: _,
-        } => Ask::Rcv {
+    match outcome {
+        RequestOutcome::Got(_delivery) => unreachable!(),
+        RequestOutcome::Left => RequestOutcome::Left,
+        RequestOutcome::Reply(told) => reply(version, Op::Back, back_content(told.result)),
+    }
+}
+
+/// Returns the content of the reply to a back whose send has this reply.
+fn back_content(answer: ReplyContent) -> ReplyContent
+    ensures { result ≡ the_back_content answer }
+{
+    match answer {
+        ReplyContent::Snd => ReplyContent::Back,
+        answer => answer,
+    }
+}
+
+/// Returns a receive with these fields.
+fn receive_of(version: Version, id: i32, size: u32, mtype: i64, flags: Flags) -> Request
+    ensures ask { result.ask ≡ Ask.Rcv id size mtype flags }
+    ensures version { result.version ≡ version }
+{
+    Request {
+        version,
+        ask: Ask::Rcv {
             id,
             size,
             mtype,
             flags,
         },
-        ask => ask,
-    };
-    Request {
-        version: request.version,
-        ask,
     }
 }
 

@@ -8,7 +8,7 @@ use sysv_keys::slot_of_id;
 use sysv_model::{Flags, IPC_PRIVATE};
 use sysv_service::SendWait;
 use sysv_session::RequestOutcome;
-use sysv_wire::{Ask, Reply, ReplyContent, Request};
+use sysv_wire::{Ask, Reply, ReplyContent};
 
 /// What a call may have changed for calls that wait.
 #[derive(Clone, Copy, PartialEq, Eq, Debug)]
@@ -67,22 +67,22 @@ impl Told {
     /// returned them. A set of a queue counts as a return of blocks, so that sends that wait for
     /// blocks look at the queue again. A get that may make a queue has settled its identifier, or
     /// has forgotten it if the get failed. A removal has forgotten the identifier of its queue.
-    pub(crate) fn by_end(request: &Request, outcome: &RequestOutcome) -> Told
-        ensures { result ≡ told_by request.now.ask outcome.now }
+    pub(crate) fn by_end(ask: &Ask, outcome: &RequestOutcome) -> Told
+        ensures { result ≡ told_by ask.now outcome.now }
     {
         Told {
-            there: there(request, outcome),
-            released: releases(request, outcome),
-            settled: settles(request, outcome),
+            there: there(ask, outcome),
+            released: releases(ask, outcome),
+            settled: settles(ask, outcome),
         }
     }
 }
 
 /// Returns what the call changed at a slot.
-fn there(request: &Request, outcome: &RequestOutcome) -> Option<Notification>
-    ensures { result ≡ changed_by request.now.ask outcome.now }
+fn there(ask: &Ask, outcome: &RequestOutcome) -> Option<Notification>
+    ensures { result ≡ changed_by ask.now outcome.now }
 {
-    match request.ask {
+    match *ask {
         Ask::Rcv { id, .. } => freed(id, outcome),
         Ask::Hold { id, .. } => freed(id, outcome),
         Ask::Snd { id, mtype, .. } if is_done(outcome) => Some(Notification::Arrived {
@@ -100,10 +100,10 @@ fn there(request: &Request, outcome: &RequestOutcome) -> Option<Notification>
 }
 
 /// Returns whether the call may have raised the released count.
-fn releases(request: &Request, outcome: &RequestOutcome) -> bool
-    ensures { result ≡ may_release request.now.ask outcome.now }
+fn releases(ask: &Ask, outcome: &RequestOutcome) -> bool
+    ensures { result ≡ may_release ask.now outcome.now }
 {
-    match request.ask {
+    match *ask {
         Ask::Snd { .. } => !is_done(outcome),
         Ask::Rcv { .. } | Ask::Hold { .. } | Ask::Set { .. } | Ask::Rm { .. } => is_done(outcome),
         _ => false,
@@ -111,10 +111,10 @@ fn releases(request: &Request, outcome: &RequestOutcome) -> bool
 }
 
 /// Returns whether the call may have raised the settled count.
-fn settles(request: &Request, outcome: &RequestOutcome) -> bool
-    ensures { result ≡ may_settle request.now.ask outcome.now }
+fn settles(ask: &Ask, outcome: &RequestOutcome) -> bool
+    ensures { result ≡ may_settle ask.now outcome.now }
 {
-    match request.ask {
+    match *ask {
         Ask::Get { key, flags } => may_make(key, flags),
         Ask::Rm { .. } => is_done(outcome),
         _ => false,

@@ -1,9 +1,9 @@
 //! Messages that are given back, and what became of them.
 ghost use Rattle.std.specs.Prelude.{◌≡◌, false, true};
 ghost use Rattle.sysv_session.specs.Answers.{is_message};
-ghost use Rattle.sysv_seats.specs.GivingBack.{GoesBack, GoesBackOn, IsOfSend, fate_of, held_after, held_length, return_by, waits_to_send};
+ghost use Rattle.sysv_seats.specs.GivingBack.{GoesBack, GoesBackOn, IsOfSend, fate_of, held_length, return_by, waits_to_send};
 ghost use Rattle.sysv_seats.specs.HandlesKept.{KeepsHandles};
-ghost use Rattle.sysv_seats.specs.Held.{holder_of};
+ghost use Rattle.sysv_seats.specs.Held.{held_after, holder_of};
 
 use crate::keeper::Keeper;
 use crate::notification::Told;
@@ -102,7 +102,7 @@ impl<'a, R: Wait> Keeper<'a, Zero, R> {
     {
         match progress {
             Progress::Over(outcome) => {
-                tools.tell(Told::by_end(request, &outcome));
+                tools.tell(Told::by_end(&request.ask, &outcome));
                 self.message = None;
                 Return::Over(fate_after(outcome))
             }
@@ -115,7 +115,7 @@ impl<'a, R: Wait> Keeper<'a, Zero, R> {
 }
 
 /// Returns the wait, which is one of a send.
-fn send_wait(waiting: Waiting) -> SendWait
+pub(crate) fn send_wait(waiting: Waiting) -> SendWait
     requires { waits_to_send waiting ≡ true }
     ensures { waiting ≡ Waiting.Send result }
 {

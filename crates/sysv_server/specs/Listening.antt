@@ -1,8 +1,18 @@
 -- What a socket has accepted, and when an input is over (this project's profile).
-use Rattle.std.specs.Prelude.{◌≡◌, ◌≢◌, ◌≤◌, ℕ, List, Option, None, Some, ◌++◌, Result, Ok, Err}
+use Rattle.std.specs.Prelude.{◌≡◌, ◌≢◌, ◌≤◌, ℕ, Bool, List, Option, None, Some, ◌++◌, Result, Ok, Err, is_some}
 use Rattle.std.specs.IoError.{error_kind}
 use Rattle.std.specs.declared.io.Error.{Error}
 use Rattle.std.specs.declared.io.ErrorKind.TheVariants.{Interrupted}
+use Rattle.sysv_server.specs.declared.listening.Hosted.{Hosted}
+use Rattle.sysv_server.specs.declared.listening.Reading.{Reading}
+
+-- The host has opened its socket.
+abbrev pub has_opened : {H : Type 0} → Hosted H → Bool
+has_opened hosted = is_some hosted.listener
+
+-- What the input of a server is read from.
+abbrev pub read_from : {I : Type 0} → Reading I → I
+read_from reading = reading.0
 
 -- These values and then the others, if they are told.
 abbrev pub added : {A : Type 0} → Option (List A) → List A → Option (List A)

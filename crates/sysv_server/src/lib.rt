@@ -12,10 +12,10 @@ mod terms;
 mod visitor;
 
 pub use host::{Host, Notice, Reason};
-pub use listening::{Input, Listens};
+pub use listening::{Hosted, Input, Listens, Reading};
 pub use serving::{MAX_CLIENTS, serve_from, serve_listener, serve_on};
 pub use sysv_engine::{Ended, Fates, Patience, ServeFault, Sums};
 pub use terms::Terms;
 
 /// The version of the server and of its clients.
-pub const VERSION: &str = "0.3.0";
+pub const VERSION: &str = "0.4.0-dev";

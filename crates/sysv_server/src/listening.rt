@@ -3,7 +3,7 @@ ghost use Rattle.std.specs.Prelude.{◌≡◌, ℕ, Bool, true, false, is_some, 
 ghost use Rattle.std.specs.declared.io.Error.{Error};
 ghost use Rattle.sysv_seats.specs.declared.socket_stream.SocketStream.{SocketStream};
 ghost use Rattle.sysv_seats.specs.Untold.{limits_of};
-ghost use Rattle.sysv_server.specs.Listening.{added};
+ghost use Rattle.sysv_server.specs.Listening.{added, has_opened, read_from};
 
 use crate::host::Host;
 use std::io;
@@ -131,14 +131,16 @@ impl Listens for Lent<'_> {
 
 /// The socket that a host opens. It does not tell the connections.
 #[derive(Drop)]
-pub(crate) struct Hosted<'a, H> {
+pub struct Hosted<'a, H> {
     host: &'a H,
     listener: Option<UnixListener>,
 }
 
 impl<'a, H> Hosted<'a, H> {
     /// Creates the socket, which its host has not opened yet.
-    pub(crate) fn new(host: &'a H) -> Hosted<'a, H> {
+    pub fn new(host: &'a H) -> Hosted<'a, H>
+        ensures { has_opened result ≡ false }
+    {
         Hosted {
             host,
             listener: None,
@@ -193,7 +195,16 @@ fn accept_from(listener: &UnixListener, limits: Limits) -> io::Result<SocketStre
 
 /// An input of the standard library.
 #[derive(Drop)]
-pub(crate) struct Reading<I: Drop>(I);
+pub struct Reading<I: Drop>(I);
+
+impl<I: Drop> Reading<I> {
+    /// Creates the input of a server that reads from this one.
+    pub fn new(input: I) -> Reading<I>
+        ensures { read_from result ≡ input }
+    {
+        Reading(input)
+    }
+}
 
 impl<I: Read + AsRawFd + Drop> Input for Reading<I> {
     ghost use Rattle.std.specs.Prelude.{◌≡◌, ◌<◌, ⊤, MatchResult};
@@ -216,7 +227,7 @@ pub(crate) fn input_of<I: Drop>(input: Option<I>) -> Option<Reading<I>>
     ensures { is_some result ≡ is_some input }
 {
     match input {
-        Some(input) => Some(Reading(input)),
+        Some(input) => Some(Reading::new(input)),
         None => None,
     }
 }

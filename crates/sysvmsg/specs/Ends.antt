@@ -1,8 +1,13 @@
 -- How a server ends (this project's programs).
 use Rattle.std.specs.Prelude.{◌≡◌, ⊤, ℕ, Bool, true, false, List, [], ◌∷◌, ◌++◌, codes, Option, None, Some, min}
+use Rattle.std.specs.Prelude.{IfErr, IfOk, IsOkAnd, Result}
+use Rattle.std.specs.declared.io.Error.{Error}
+use Rattle.std.specs.declared.process.ExitCode.{ExitCode}
 use Rattle.std.specs.Fmt.{decimal}
 use Rattle.std.specs.Io.KnownBytes.{Appends}
-use Rattle.sysv_server.specs.Serving.{EndsOn, HasReason, limits_in}
+use Rattle.sysv_connect.specs.Ends.{Succeeds}
+use Rattle.sysv_seats.specs.declared.socket_stream.SocketStream.{SocketStream}
+use Rattle.sysv_server.specs.Serving.{EndsFrom, EndsOn, FailsFrom, FailsOn, HasCause, HasReason, limits_in}
 use Rattle.sysv_engine.specs.declared.fates.Fates.{Fates}
 use Rattle.sysv_engine.specs.declared.fault.ServeFault.{ServeFault}
 use Rattle.sysv_engine.specs.declared.fault.ServeFault.TheVariants as faults
@@ -62,29 +67,61 @@ abbrev pub HasServed : (has_input : Bool) → Ended → Option Reason → (shown
 HasServed has_input ended reason shown after =
     IsMeantToEnd reason × (ended.refused ≡ 0) × Appends shown after (sums_line has_input ended)
 
--- A server on these terms ended so, under this limit of open files. It had as many places as the terms
--- have sessions at once, or as many as there are descriptors for. It cut off clients only under the
+-- The number of places of a server on these terms, under this limit of open files: as many as the terms
+-- have sessions at once, or as many as there are descriptors for.
+abbrev pub places_of : Option ℕ → Terms → ℕ
+places_of limit terms = places_within limit terms.stats terms.workers terms.at_once
+
+-- A server on these terms ended so, under this limit of open files. It cut off clients only under the
 -- limits that the terms have.
 abbrev pub EndsWithin : Option ℕ → Terms → Ended → Type 0
 EndsWithin limit terms ended =
-    EndsOn terms.stats terms.blocks (places_within limit terms.stats terms.workers terms.at_once) terms.sessions
-    (limits_in terms) ended
+    EndsOn terms.stats terms.blocks (places_of limit terms) terms.sessions (limits_in terms) ended
+
+-- A server on these terms ended by this fault, under this limit of open files.
+abbrev pub FailsWithin : Option ℕ → Terms → ServeFault → Type 0
+FailsWithin limit terms why = FailsOn terms.stats terms.blocks (places_of limit terms) terms.sessions why
 
 -- A server on these terms ran with as many workers as they have, or as many as it had places under this
 -- limit of open files, and with the limits of time that they have. Its clients might hold messages if the terms say so.
 abbrev pub RanWithin : Option ℕ → Terms → Setting → Type 0
 RanWithin limit terms setting =
-    RunsWith (min terms.workers (places_within limit terms.stats terms.workers terms.at_once)) terms.patience
-    terms.drain terms.hold setting
+    RunsWith (min terms.workers (places_of limit terms)) terms.patience terms.drain terms.hold setting
 
--- A server that may have an input served on these terms until the input was over or the maximum
--- number of sessions was reached, and the sums of its sessions were printed. It did so under this limit of
--- open files.
-pub record HasServedAll (limit : Option ℕ) (has_input : Bool) (terms : Terms) (shown after : Option (List ℕ)) :
-    Type 0 where
-  pub ended : Ended
+-- What a server ended with, which may have an input, and why it accepted no more connections.
+pub record Outcome : Type 0 where
+  pub ended : Result Ended ServeFault
   pub reason : Option Reason
-  pub ends : EndsWithin limit terms ended
-  pub setting : RanWithin limit terms ended.setting
-  pub meant : HasReason has_input terms.sessions ended.sums.sessions reason
-  pub served : HasServed has_input ended reason shown after
+
+-- The program succeeds only if the server was to end, and its sums were printed.
+abbrev pub Reports : ExitCode → (has_input : Bool) → Outcome → (shown after : Option (List ℕ)) → Type 0
+Reports exit has_input outcome shown after =
+    Succeeds exit → IsOkAnd outcome.ended (λ ended. HasServed has_input ended outcome.reason shown after)
+
+-- A server that may have an input served on these terms, under this limit of open files, whatever the exit
+-- status is.
+pub record HasServedAll (limit : Option ℕ) (has_input : Bool) (terms : Terms) (exit : ExitCode)
+    (shown after : Option (List ℕ)) : Type 0 where
+  pub outcome : Outcome
+  pub ends : IfOk outcome.ended (EndsWithin limit terms)
+  pub setting : IfOk outcome.ended (λ ended. RanWithin limit terms ended.setting)
+  pub meant : IfOk outcome.ended (λ ended. HasReason has_input terms.sessions ended.sums.sessions outcome.reason)
+  pub fails : IfErr outcome.ended (FailsWithin limit terms)
+  pub reports : Reports exit has_input outcome shown after
+
+module _ {L I : Type 0} (told : L → Option (List SocketStream)) (listens : L → Bool)
+    (reads : I → ℕ → Result ℕ Error → I → Type 0) (fails : L → Error → L → Type 0) where
+  -- The same of a server on this listener, which went from the one state to the other. The sessions were on
+  -- the connections that it has accepted. An input that is over was read to its end, or could not be read,
+  -- and an accept that is told as failed has failed.
+  pub record HasServedFrom (limit : Option ℕ) (has_input : Bool) (terms : Terms) (exit : ExitCode)
+      (shown after : Option (List ℕ)) (before now : L) : Type 0 where
+    pub outcome : Outcome
+    pub ends : IfOk outcome.ended (λ ended. EndsFrom told listens terms.stats terms.blocks (places_of limit terms)
+        terms.sessions (limits_in terms) before ended now)
+    pub setting : IfOk outcome.ended (λ ended. RanWithin limit terms ended.setting)
+    pub meant : IfOk outcome.ended (λ ended. HasCause reads fails has_input terms.sessions ended.sums.sessions
+        outcome.reason)
+    pub failed : IfErr outcome.ended (λ why. FailsFrom told terms.stats terms.blocks (places_of limit terms)
+        terms.sessions before why now)
+    pub reports : Reports exit has_input outcome shown after

@@ -3,6 +3,8 @@
 use Rattle.std.specs.Prelude.{◌≡◌, ◌⊎◌, ℕ, Bool, List, Option, Some}
 use Rattle.std.specs.declared.io.Error.{Error}
 use Rattle.std.specs.declared.process.ExitCode.{ExitCode}
+use Rattle.clap.specs.Values.{kind_of}
+use Rattle.clap.specs.declared.error.Error.{Error as CommandError}
 use Rattle.clap.specs.declared.error.kind.ErrorKind.{ErrorKind}
 use Rattle.clap.specs.declared.error.kind.ErrorKind.TheVariants.{DisplayHelp, DisplayVersion}
 use Rattle.sysv_clients.specs.declared.command.Task.{Task}
@@ -11,7 +13,7 @@ use Rattle.sysv_connect.specs.declared.contact.Contact.TheVariants.{Unused}
 use Rattle.sysv_connect.specs.declared.how.How.{How}
 use Rattle.sysv_connect.specs.declared.link.Link.{Link}
 use Rattle.sysv_connect.specs.Clients.{IsDone, IsUnmade}
-use Rattle.sysv_connect.specs.Ends.{Fails, SucceedsOnlyIf}
+use Rattle.sysv_connect.specs.Ends.{Fails, Succeeds}
 use Rattle.sysv_connect.specs.Links.{left_by, taken_by}
 use Rattle.sysv_connect.specs.Several.{way_by}
 use Rattle.sysv_connect.specs.Stats.{HasLooked}
@@ -22,7 +24,7 @@ use Rattle.sysv_options.specs.declared.asked.Asked.TheVariants.{Script, Serve, L
 use Rattle.sysv_options.specs.declared.process.NoWords.{NoWords}
 use Rattle.sysv_options.specs.declared.who.Surroundings.{Surroundings}
 use Rattle.sysv_options.specs.Process.{AreTold, Told, Unread, Words}
-use Rattle.sysv_options.specs.Requests.{IsMeant}
+use Rattle.sysv_options.specs.Requests.{AreRefused, IsMeant}
 use Rattle.sysv_options.specs.Who.{stated_by, told_by}
 use Rattle.sysvmsg.specs.Ends.{HasServedAll}
 use Rattle.sysvmsg.specs.Scripts.{AnswersScript}
@@ -60,7 +62,7 @@ module _ {P R W : Type 0} (remaining : R → Option (List ℕ)) (contents : W �
   Answers Script exit fed shown after contact = (contact ≡ Unused place)
       × ((text : List ℕ) → fed ≡ Some text → (left : Option (List ℕ)) × AnswersScript exit text shown after left)
   Answers (Serve serving) exit fed shown after contact = (contact ≡ Unused place)
-      × SucceedsOnlyIf (HasServedAll around.open_files serving.until_eof serving.terms shown after) exit
+      × HasServedAll around.open_files serving.until_eof serving.terms exit shown after
   Answers (Look looking) exit fed shown after contact =
       ShowsState looking.path.now looking.json exit shown after contact
   Answers (Client path who task how) exit fed shown after contact =
@@ -70,12 +72,18 @@ module _ {P R W : Type 0} (remaining : R → Option (List ℕ)) (contents : W �
   abbrev pub DoesNothing : (shown after : Option (List ℕ)) → Contact P (Link R W) → Type 0
   DoesNothing shown after contact = (contact ≡ Unused place) × (after ≡ shown)
 
+  -- These words were refused by an error, and nothing was done. The program fails then, unless they request
+  -- the help or the version.
+  abbrev pub RefusesWords : List (List ℕ) → ExitCode → (shown after : Option (List ℕ)) → Contact P (Link R W) → Type 0
+  RefusesWords words exit shown after contact = (error : CommandError) × AreRefused words error
+      × (Succeeds exit → IsHelp (kind_of error)) × DoesNothing shown after contact
+
   -- What these words mean was done; or they were found to mean nothing, or memory was refused.
   abbrev pub AnswersWords : List (List ℕ) → ExitCode → (fed shown after : Option (List ℕ)) →
       Contact P (Link R W) → Type 0
   AnswersWords words exit fed shown after contact =
       ((asked : Asked) × IsMeant words asked × Answers asked exit fed shown after contact)
-      ⊎ DoesNothing shown after contact
+      ⊎ RefusesWords words exit shown after contact
 
   -- Either that, for words that can be read; or the words cannot be read, and the program failed and has
   -- shown nothing on the screen.

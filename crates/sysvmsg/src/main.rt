@@ -10,6 +10,7 @@ mod socket;
 
 use process::System;
 use running::exit_of;
+use serving::OnSockets;
 use std::fs::File;
 use std::io;
 use std::process::ExitCode;
@@ -23,7 +24,15 @@ fn main(rt: HostRuntime) -> ExitCode {
         rt: &rt,
         stream: &mut stream,
     };
-    exit_of(&System { rt: &rt }, &rt, rt.stdin(), place, &mut screen)
+    let server = OnSockets::new(&rt);
+    exit_of(
+        &System { rt: &rt },
+        &rt,
+        rt.stdin(),
+        place,
+        server,
+        &mut screen,
+    )
 }
 
 /// Opens a stand-in for a closed standard stream, so that no socket gets its descriptor. A read

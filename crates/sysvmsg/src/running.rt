@@ -6,7 +6,7 @@ ghost use Rattle.sysv_options.specs.Asked.{IsWithinLimits};
 ghost use Rattle.sysvmsg.specs.Running.{Answers, AnswersWords, EndsIn, IsHelp};
 
 use crate::scripts::answer_script;
-use crate::serving::serve_at;
+use crate::serving::{OnSockets, serve_on_sockets};
 use clap::Error;
 use clap::error::ErrorKind;
 use std::io::{Eprint, Read, Write};
@@ -28,21 +28,31 @@ use sysv_options::{
 const NOT_UNDERSTOOD: u8 = 2;
 
 /// Runs the program in this process, with the words and the surroundings that the system tells it.
-/// It reads `input`, connects through `place` and shows on `screen`. Returns the exit status.
+/// It reads `input`, connects through `place`, serves by `server`, and shows on `screen`. It has no
+/// other way to connect or to serve: only `serve_on_sockets` can use what `server` has. Returns the
+/// exit status.
 pub(crate) fn exit_of<
     Own: Process,
-    R: Files + Net + Threads + Wait + Sync + Print + Eprint + AllocGlobal + Clone + Drop,
+    R: Print + Eprint + AllocGlobal,
     I: Read + AsRawFd + Drop,
     P: Place,
+    V: Files + Net + Threads + Wait + Sync + Eprint + AllocGlobal + Clone + Drop,
     S: Write,
->(process: &Own, rt: &R, input: I, place: P, screen: &mut Screen<S>) -> ExitCode
+>(
+    process: &Own,
+    rt: &R,
+    input: I,
+    place: P,
+    server: OnSockets<'_, V>,
+    screen: &mut Screen<S>,
+) -> ExitCode
     ensures { EndsIn P.Input.remaining P.Output.contents P.incoming P.outgoing P.refuses
         (Own.tells process.now) place result (I.remaining input)
         (S.contents screen.old.writer) (S.contents screen.new.writer) }
 {
     let around = surroundings(process);
     match process.words() {
-        Ok(words) => run(rt, words.as_slice(), &around, input, place, screen).exit,
+        Ok(words) => run(rt, words.as_slice(), &around, input, place, server, screen).exit,
         Err(why) => refuse(rt, why, &around),
     }
 }
@@ -61,11 +71,12 @@ fn refuse(rt: &(impl Print + Eprint + AllocGlobal), why: NoWords, around: &Surro
 }
 
 /// Runs the program with these words, the first of which is its name. A client connects to its
-/// server through `place`.
+/// server through `place`, and a server serves by `server`.
 fn run<
-    R: Files + Net + Threads + Wait + Sync + Print + Eprint + AllocGlobal + Clone + Drop,
+    R: Print + Eprint + AllocGlobal,
     I: Read + AsRawFd + Drop,
     P: Place,
+    V: Files + Net + Threads + Wait + Sync + Eprint + AllocGlobal + Clone + Drop,
     S: Write,
 >(
     rt: &R,
@@ -73,6 +84,7 @@ fn run<
     around: &Surroundings,
     input: I,
     place: P,
+    server: OnSockets<'_, V>,
     screen: &mut Screen<S>,
 ) -> Visit<P, Link<P::Input, P::Output>>
     ensures { AnswersWords P.Input.remaining P.Output.contents P.incoming P.outgoing P.refuses
@@ -80,7 +92,7 @@ fn run<
         (S.contents screen.old.writer) (S.contents screen.new.writer) result.contact }
 {
     match read_words(rt.alloc(), words) {
-        Ok(asked) => answer(rt, asked, around, input, place, screen),
+        Ok(asked) => answer(rt, asked, around, input, place, server, screen),
         Err(error) => {
             let asked = telling(telling_of(words), around);
             unused(tell(rt, &error, asked), place)
@@ -101,9 +113,10 @@ fn unused<P, C>(exit: ExitCode, place: P) -> Visit<P, C>
 
 /// Does what the words ask for.
 fn answer<
-    R: Files + Net + Threads + Wait + Sync + Print + Eprint + AllocGlobal + Clone + Drop,
+    R: Print + Eprint + AllocGlobal,
     I: Read + AsRawFd + Drop,
     P: Place,
+    V: Files + Net + Threads + Wait + Sync + Eprint + AllocGlobal + Clone + Drop,
     S: Write,
 >(
     rt: &R,
@@ -111,6 +124,7 @@ fn answer<
     around: &Surroundings,
     input: I,
     place: P,
+    server: OnSockets<'_, V>,
     screen: &mut Screen<S>,
 ) -> Visit<P, Link<P::Input, P::Output>>
     requires { IsWithinLimits asked }
@@ -126,7 +140,7 @@ fn answer<
         Asked::Serve(serving) => {
             let limit = around.open_files;
             unused(
-                serve_at(rt, input, &serving, limit, &mut screen.writer),
+                serve_on_sockets(server, input, &serving, limit, &mut screen.writer),
                 place,
             )
         }

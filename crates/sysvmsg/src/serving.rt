@@ -1,11 +1,11 @@
 //! The server.
-ghost use Rattle.std.specs.Prelude.{◌≡◌, ◌∷◌, ◌++◌, [], codes, IfOk};
+ghost use Rattle.std.specs.Prelude.{◌≡◌, ◌∷◌, ◌++◌, [], codes, IfErr, IfOk};
 ghost use Rattle.std.specs.Fmt.{decimal};
 ghost use Rattle.std.specs.Io.KnownBytes.{Appends};
 ghost use Rattle.sysv_connect.specs.Ends.{Fails, SucceedsOnlyIf};
 ghost use Rattle.sysv_options.specs.Asked.{HasLimits};
-ghost use Rattle.sysv_server.specs.Serving.{HasReason};
-ghost use Rattle.sysvmsg.specs.Ends.{EndsWithin, HasServed, HasServedAll, RanWithin};
+ghost use Rattle.sysv_server.specs.Serving.{EndsFrom, FailsFrom, HasCause, limits_in};
+ghost use Rattle.sysvmsg.specs.Ends.{HasServed, HasServedAll, HasServedFrom, RanWithin, places_of};
 ghost use Rattle.sysvmsg.specs.Ends.{fates_of, line_of, sums_line, words_of};
 
 use crate::room::room;
@@ -23,9 +23,61 @@ use sysv_connect::{FAULT, complain};
 use sysv_model::BLOCK_BYTES;
 use sysv_options::Serving;
 use sysv_server::{
-    Ended, Fates, Host, MAX_CLIENTS, Notice, Reason, ServeFault, Sums, Terms, serve_listener,
+    Ended, Fates, Host, Hosted, Input, Listens, MAX_CLIENTS, Notice, Reading, Reason, ServeFault,
+    Sums, Terms, serve_from,
 };
 use sysv_system::{Event, Watched, await_event};
+
+/// What can serve on the sockets of the system. Only this module has its runtime, and uses it for one
+/// server.
+#[derive(Drop)]
+pub(crate) struct OnSockets<'a, R> {
+    rt: &'a R,
+}
+
+impl<'a, R> OnSockets<'a, R> {
+    /// Creates what serves by this runtime, which creates the sockets and starts the threads.
+    pub(crate) fn new(rt: &'a R) -> OnSockets<'a, R>
+        ensures { result.rt.now ≡ rt.now }
+    {
+        OnSockets { rt }
+    }
+}
+
+/// Serves at a path under this limit of open files, reports on standard error that it listens, and
+/// prints the sums of the sessions on the screen. The input is read only if the server is to end after
+/// it has ended.
+pub(crate) fn serve_on_sockets<
+    R: Files + Net + Threads + Wait + Sync + Eprint + AllocGlobal + Clone + Drop,
+    I: Read + AsRawFd + Drop,
+    S: Write,
+>(
+    server: OnSockets<'_, R>,
+    input: I,
+    serving: &Serving<'_>,
+    limit: Option<u64>,
+    screen: &mut S,
+) -> ExitCode
+    requires { HasLimits serving.now }
+    ensures { HasServedAll limit serving.now.until_eof serving.now.terms result
+        (S.contents screen.old) (S.contents screen.new) }
+{
+    let rt = server.rt;
+    let Terms {
+        stats,
+        workers,
+        at_once,
+        ..
+    } = serving.terms;
+    let host = Reporter {
+        rt,
+        serving,
+        at_once: room(limit, stats, workers, at_once),
+    };
+    let mut listener = Hosted::new(&host);
+    let input = Reading::new(input);
+    serve_at(rt, &mut listener, &host, input, serving, limit, screen)
+}
 
 /// The host of a server: it opens the socket, and reports on standard error.
 #[derive(Drop)]
@@ -122,20 +174,31 @@ fn takes_line() -> bool {
     await_event(Event::writable(Watched::STANDARD_ERROR), Some(0))
 }
 
-/// Serves at a path under this limit of open files, reports on standard error that it listens, and
-/// prints the sums of the sessions. The input is read only if the server is to end after it has
-/// ended. Standard output is the screen, and nothing else prints on it.
-pub(crate) fn serve_at<
-    I: Read + AsRawFd + Drop,
-    R: Files + Net + Threads + Wait + Sync + Eprint + AllocGlobal + Clone + Drop,
+/// Serves on this listener under this limit of open files, and prints the sums of the sessions. The
+/// input is read only if the server is to end after it has ended. Standard output is the screen, and
+/// nothing else prints on it.
+fn serve_at<
+    L: Listens,
+    H: Host,
+    I: Input + Drop,
+    R: Net + Threads + Wait + Sync + Eprint + AllocGlobal,
     S: Write,
->(rt: &R, input: I, serving: &Serving<'_>, limit: Option<u64>, screen: &mut S) -> ExitCode
+>(
+    rt: &R,
+    listener: &mut L,
+    host: &H,
+    input: I,
+    serving: &Serving<'_>,
+    limit: Option<u64>,
+    screen: &mut S,
+) -> ExitCode
     requires { HasLimits serving.now }
-    ensures { SucceedsOnlyIf (HasServedAll limit serving.now.until_eof serving.now.terms
-        (S.contents screen.old) (S.contents screen.new)) result }
+    ensures { HasServedFrom L.accepted L.listens I.reads L.fails limit serving.now.until_eof
+        serving.now.terms result (S.contents screen.old) (S.contents screen.new)
+        listener.old listener.new }
 {
     let mut reason = None;
-    match run_server(rt, input, serving, limit, &mut reason) {
+    match run_server(rt, listener, host, input, serving, limit, &mut reason) {
         Ok(ended) => end(rt, &ended, serving.until_eof, reason, screen),
         Err(fault) => {
             explain(rt, fault, &serving.terms);
@@ -146,31 +209,30 @@ pub(crate) fn serve_at<
 
 /// Runs a server under this limit of open files. It ends after its input has ended only if the
 /// command line says so.
-fn run_server<
-    I: Read + AsRawFd + Drop,
-    R: Files + Net + Threads + Wait + Sync + Eprint + AllocGlobal + Clone + Drop,
->(
+fn run_server<L: Listens, H: Host, I: Input + Drop, R: Net + Threads + Wait + Sync + AllocGlobal>(
     rt: &R,
+    listener: &mut L,
+    host: &H,
     input: I,
     serving: &Serving<'_>,
     limit: Option<u64>,
     reason: &mut Option<Reason>,
 ) -> Result<Ended, ServeFault>
     requires { HasLimits serving.now }
-    ensures ends { IfOk result (EndsWithin limit serving.now.terms) }
+    ensures ends { IfOk result (λ ended. EndsFrom L.accepted L.listens serving.now.terms.stats
+        serving.now.terms.blocks (places_of limit serving.now.terms) serving.now.terms.sessions
+        (limits_in serving.now.terms) listener.old ended listener.new) }
     ensures setting { IfOk result (λ ended. RanWithin limit serving.now.terms ended.setting) }
-    ensures meant { IfOk result (λ ended. HasReason serving.now.until_eof
+    ensures meant { IfOk result (λ ended. HasCause I.reads L.fails serving.now.until_eof
         serving.now.terms.sessions ended.sums.sessions reason.new) }
+    ensures fails { IfErr result (λ why. FailsFrom L.accepted serving.now.terms.stats
+        serving.now.terms.blocks (places_of limit serving.now.terms) serving.now.terms.sessions
+        listener.old why listener.new) }
 {
     let mut terms = serving.terms;
     terms.at_once = room(limit, terms.stats, terms.workers, terms.at_once);
-    let host = Reporter {
-        rt,
-        serving,
-        at_once: terms.at_once,
-    };
     let input = serving.until_eof.then_some(input);
-    serve_listener(rt, rt.alloc(), host, input, terms, reason)
+    serve_from(rt, rt.alloc(), listener, host, input, terms, reason)
 }
 
 /// Prints how a server ended, which may have had an input, and which accepted no more connections

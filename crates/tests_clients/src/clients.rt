@@ -2,6 +2,8 @@
 mod ahead;
 mod connecting;
 mod growths;
+mod holding;
+mod objects;
 mod options;
 mod progress;
 mod several;

@@ -36,9 +36,11 @@ const NOBODY: Who = Who {
 const PLAIN: How = How {
     from_input: false,
     lines: false,
+    objects: false,
     progress: false,
     follow: false,
     purge: false,
+    holds: false,
     count: None,
     ahead: None,
     wait: None,
@@ -131,11 +133,44 @@ fn a_receive_is_requested(rt: HostRuntime) {
     });
     let who = Who { me: true, ..NOBODY };
     let how = How {
+        objects: true,
         count: Some(2),
         telling: Telling::Sentence,
         ..PLAIN
     };
     assert_asks(&rt, &words, client(who, task, how));
+}
+
+#[test]
+fn a_copy_of_a_queue_is_requested(rt: HostRuntime) {
+    let words = ["sysvmsg", "snd", "./q", "7", "--json"];
+    let task = Task::Send {
+        key: 7,
+        text: b"",
+        mtype: 1,
+        nowait: false,
+    };
+    let how = How {
+        objects: true,
+        ..PLAIN
+    };
+    assert_asks(&rt, &words, client(NOBODY, task, how));
+}
+
+#[test]
+fn options_exclude_one_another(rt: HostRuntime) {
+    let table: [&[&str]; 5] = [
+        &["sysvmsg", "snd", "./q", "7", "--json", "--type", "5"],
+        &["sysvmsg", "snd", "./q", "7", "--json", "--lines"],
+        &["sysvmsg", "rcv", "./q", "7", "--hold", "--noerror"],
+        &["sysvmsg", "rcv", "./q", "7", "--hold", "--purge"],
+        &[
+            "sysvmsg", "rcv", "./q", "7", "--hold", "--count", "2", "--ahead", "2",
+        ],
+    ];
+    for words in table {
+        assert_refused(&rt, words, "cannot be used with");
+    }
 }
 
 #[test]

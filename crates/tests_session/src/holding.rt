@@ -7,7 +7,9 @@ use crate::serving::ended;
 use std::alloc::Global;
 use std::process::Abort;
 use std::sync::Wait;
-use sysv_seats::{Client, Fate, Keeper, MemoryStream, Return, ServiceHandler, Tools, ZERO, Zero};
+use sysv_seats::{
+    Client, Fate, Keeper, MemoryStream, Notification, Return, ServiceHandler, Tools, ZERO, Zero,
+};
 use sysv_session::End;
 use sysv_wire::Version;
 
@@ -36,6 +38,35 @@ const HELD: usize = 46;
 const REFUSED: &[u8] = &[
     0, 0, 0, 7, 3, 0, 0, 0, 0, 1, 0, 0, 0, 0, 7, 3, 1, 0, 0, 0, 0, 0, 0, 0, 0, 3, 3, 2, 0, 0, 0, 0,
     3, 3, 8, 11,
+];
+
+/// The requests of `SPENDING` up to the hold, a back, and another back.
+const RETURNING: &[u8] = &[
+    0, 0, 0, 14, 3, 0, 0, 0, 3, 0xe8, 0, 0, 3, 0xe8, 0, 0, 0, 101, 0, 0, 0, 10, 3, 1, 0, 0, 0, 7, 0,
+    0, 3, 0x80, 0, 0, 0, 20, 3, 2, 0, 0, 0, 0, 0, 0, 0, 0, 0, 0, 0, 5, 0, 0, 0, 0, 104, 105, 0, 0,
+    0, 26, 3, 8, 0, 0, 0, 0, 0, 0, 0, 100, 0, 0, 0, 0, 0, 0, 0, 0, 0, 0, 0, 0, 0, 0, 0, 0, 0, 0, 0,
+    2, 3, 10, 0, 0, 0, 2, 3, 10,
+];
+
+/// The replies to `RETURNING`: the second back fails with EINVAL.
+const RETURNED: &[u8] = &[
+    0, 0, 0, 7, 3, 0, 0, 0, 0, 1, 0, 0, 0, 0, 7, 3, 1, 0, 0, 0, 0, 0, 0, 0, 0, 3, 3, 2, 0, 0, 0, 0,
+    13, 3, 8, 0, 0, 0, 0, 0, 0, 0, 0, 5, 104, 105, 0, 0, 0, 3, 3, 10, 0, 0, 0, 0, 3, 3, 10, 22,
+];
+
+/// The requests of `SPENDING` up to the hold, a set of the limit of the queue to 1 byte, and a back.
+const CROWDING: &[u8] = &[
+    0, 0, 0, 14, 3, 0, 0, 0, 3, 0xe8, 0, 0, 3, 0xe8, 0, 0, 0, 101, 0, 0, 0, 10, 3, 1, 0, 0, 0, 7, 0,
+    0, 3, 0x80, 0, 0, 0, 20, 3, 2, 0, 0, 0, 0, 0, 0, 0, 0, 0, 0, 0, 5, 0, 0, 0, 0, 104, 105, 0, 0,
+    0, 26, 3, 8, 0, 0, 0, 0, 0, 0, 0, 100, 0, 0, 0, 0, 0, 0, 0, 0, 0, 0, 0, 0, 0, 0, 0, 0, 0, 0, 0,
+    22, 3, 5, 0, 0, 0, 0, 0, 0, 3, 0xe8, 0, 0, 3, 0xe8, 0, 0, 1, 0x80, 0, 0, 0, 1, 0, 0, 0, 2, 3,
+    10,
+];
+
+/// The replies to `CROWDING`: the back fails with EIDRM.
+const CROWDED_OUT: &[u8] = &[
+    0, 0, 0, 7, 3, 0, 0, 0, 0, 1, 0, 0, 0, 0, 7, 3, 1, 0, 0, 0, 0, 0, 0, 0, 0, 3, 3, 2, 0, 0, 0, 0,
+    13, 3, 8, 0, 0, 0, 0, 0, 0, 0, 0, 5, 104, 105, 0, 0, 0, 3, 3, 5, 0, 0, 0, 0, 3, 3, 10, 43,
 ];
 
 /// A hello in version 1, and a set of the limit of the first queue to 1 byte.
@@ -131,6 +162,49 @@ fn a_message_that_is_held_at_the_end_comes_back(rt: HostRuntime) {
     assert_that(&rt, !handler.has_message());
     let pass = handler.into_pass();
     ended(&rt, service, pass, 1);
+}
+
+// Clients that wait for a message of this type are told.
+#[test]
+fn a_back_sends_the_message_again(rt: HostRuntime) {
+    let alloc = rt.alloc();
+    let (service, pass) = opened(&rt, alloc, 128, 0);
+    let mut handler = Keeper::new(ServiceHandler::new(&rt, &service, &ZERO, pass));
+    let mut tools = tools(&rt, alloc);
+    handler.set_memory(Some(alloc));
+    serve(&rt, alloc, &mut handler, &mut tools, RETURNING, 6, RETURNED);
+    assert_that(&rt, !handler.has_message());
+    let told = Notification::Arrived { slot: 0, mtype: 5 };
+    assert_is(&rt, tools.take_notification(), Some(told));
+    let pass = handler.into_pass();
+    ended(&rt, service, pass, 1);
+}
+
+// The message is held until its send is over, here because its queue was removed.
+#[test]
+fn a_back_waits_like_any_send(rt: HostRuntime) {
+    let alloc = rt.alloc();
+    let (service, mut pass) = opened(&rt, alloc, 128, 0);
+    let other = split(&rt, alloc, &service, &mut pass);
+    let mut handler = Keeper::new(ServiceHandler::new(&rt, &service, &ZERO, pass));
+    let mut theirs = Keeper::new(ServiceHandler::new(&rt, &service, &ZERO, other));
+    let mut tools = tools(&rt, alloc);
+    handler.set_memory(Some(alloc));
+    let connection = stream(&rt, alloc, CROWDING, &[], &[]);
+    let mut client: Client<MemoryStream<'_>> = Client::open(alloc, connection, Version::Three);
+    turn(&mut handler, &mut tools, &mut client);
+    client.go_on(&mut handler, &mut tools);
+    assert_that(&rt, client.awaits_back());
+    assert_that(&rt, handler.has_message());
+    serve(&rt, alloc, &mut theirs, &mut tools, REMOVING, 2, REMOVED);
+    client.go_on(&mut handler, &mut tools);
+    assert_that(&rt, !client.awaits_back());
+    assert_that(&rt, !handler.has_message());
+    turn(&mut handler, &mut tools, &mut client);
+    assert_closed(&rt, alloc, client, End::Ended, (6, 0, 0), CROWDED_OUT);
+    let mut pass = handler.into_pass();
+    service.join_pass(&mut pass, theirs.into_pass());
+    ended(&rt, service, pass, 0);
 }
 
 #[test]

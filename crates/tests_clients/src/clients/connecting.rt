@@ -61,9 +61,11 @@ impl<'a> Place for Desk<'a> {
 const PLAIN: How = How {
     from_input: false,
     lines: false,
+    objects: false,
     progress: false,
     follow: false,
     purge: false,
+    holds: false,
     count: None,
     ahead: None,
     wait: None,
@@ -217,6 +219,49 @@ fn a_queue_is_emptied(rt: HostRuntime) {
     let requests = [HELLO, FIND, TAKE, TAKE, TAKE];
     dialogue.assert_requests(&rt, rt.alloc(), &requests);
     dialogue.assert_shown(&rt, b"2\n", 0);
+}
+
+/// What a client that holds one message requests, with the replies.
+const TO_HOLD: [&[u8]; 4] = [
+    b"\0\0\0\x0e\x03\0\0\0\x03\xe8\0\0\x03\xe8\0\0\0\x01",
+    b"\0\0\0\x0a\x03\x01\0\0\0\x07\0\0\0\0",
+    b"\0\0\0\x1a\x03\x08\0\0\0\x40\0\0\x20\0\0\0\0\0\0\0\0\0\0\0\0\0\0\0\0\0",
+    b"\0\0\0\x02\x03\x09",
+];
+
+const HELD: [&[u8]; 4] = [
+    b"\0\0\0\x07\x03\0\0\0\0\0\x40",
+    b"\0\0\0\x07\x03\x01\0\0\0\0\x40",
+    b"\0\0\0\x0e\x03\x08\0\0\0\0\0\0\0\0\x05abc",
+    b"\0\0\0\x03\x03\x09\0",
+];
+
+#[test]
+fn a_message_at_a_place_is_held_until_it_was_shown(rt: HostRuntime) {
+    let mut dialogue = Dialogue::new(&rt, rt.alloc(), &HELD);
+    let mut input = Tape::new(&rt, rt.alloc());
+    let how = How {
+        holds: true,
+        ..PLAIN
+    };
+    let exit = run(&rt, &mut dialogue, &mut input, RECEIVE_ANY, &how);
+    assert_is(&rt, exit, ExitCode::SUCCESS);
+    dialogue.assert_requests(&rt, rt.alloc(), &TO_HOLD);
+    dialogue.assert_shown(&rt, b"abc\n", 0);
+}
+
+#[test]
+fn an_object_of_an_input_is_sent(rt: HostRuntime) {
+    let mut dialogue = Dialogue::new(&rt, rt.alloc(), &[WELCOME, GOT, SENT]);
+    let mut input = joined(&rt, rt.alloc(), &[b"{\"type\":1,\"body\":\"abc\"}\n"]);
+    let how = How {
+        objects: true,
+        ..PLAIN
+    };
+    let exit = run(&rt, &mut dialogue, &mut input, SEND, &how);
+    assert_is(&rt, exit, ExitCode::SUCCESS);
+    dialogue.assert_requests(&rt, rt.alloc(), &[HELLO, MAKE, SEND_ABC]);
+    dialogue.assert_shown(&rt, b"", 0);
 }
 
 #[test]

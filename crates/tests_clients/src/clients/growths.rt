@@ -1,7 +1,10 @@
 //! A client whose growth of memory may be refused. It then reports that, and nothing was read or
 //! written.
 use super::*;
-use sysv_clients::{ClientFault, Receiving, Sending, Stop, receive_all, remove_all, send_lines};
+use sysv_clients::{
+    ClientFault, Receiving, Sending, Stop, Unheld, Unsent, Wording, hold_all, receive_all,
+    remove_all, send_lines,
+};
 use tests_kit::mark;
 
 #[test]
@@ -69,13 +72,77 @@ fn receives_of_client(rt: HostRuntime) {
 }
 
 #[test]
+fn holds_of_client(rt: HostRuntime) {
+    let mut dialogue = Dialogue::new(&rt, rt.alloc(), &holding::ROUNDS);
+    let receiving = Receiving {
+        cred: WHO,
+        receipt: ANY,
+        count: 2,
+        ahead: 1,
+    };
+    let _marked = mark(rt.alloc());
+    let outcome = hold_all(
+        rt.alloc(),
+        &receiving,
+        &mut dialogue.replies,
+        &mut dialogue.requests,
+        &mut dialogue.screen,
+    );
+    if outcome.is_ok() {
+        assert_is(&rt, dialogue.screen.text(), b"abc\nabc\n".as_slice());
+        assert_is(&rt, dialogue.replies.read, dialogue.replies.len());
+    } else {
+        assert_is(&rt, outcome, Err(Unheld::Fault(ClientFault::NoMemory)));
+        assert_is(
+            &rt,
+            (dialogue.replies.read, dialogue.requests.len()),
+            (0, 0),
+        );
+    }
+}
+
+#[test]
+fn sends_of_objects_of_client(rt: HostRuntime) {
+    let mut dialogue = Dialogue::new(&rt, rt.alloc(), &[WELCOME, GOT, SENT, SENT]);
+    let lines = b"{\"type\":5,\"body\":\"one\"}\n{\"type\":6,\"base64\":\"dHdv\"}\n";
+    let mut input = joined(&rt, rt.alloc(), &[lines]);
+    let sending = Sending {
+        cred: WHO,
+        key: 7,
+        wording: Wording::Objects,
+        nowait: false,
+    };
+    let _marked = mark(rt.alloc());
+    let outcome = send_lines(
+        rt.alloc(),
+        &sending,
+        &mut input,
+        &mut dialogue.replies,
+        &mut dialogue.requests,
+    );
+    match outcome {
+        Ok(()) => assert_is(&rt, dialogue.replies.read, dialogue.replies.len()),
+        Err(Unsent::Memory { before }) => assert_is(&rt, before, 1),
+        Err(unsent) => {
+            assert_is(&rt, unsent.line(), ClientFault::NoMemory.line());
+            assert_is(
+                &rt,
+                (dialogue.replies.read, dialogue.requests.len()),
+                (0, 0),
+            );
+            assert_is(&rt, input.read, 0);
+        }
+    }
+}
+
+#[test]
 fn sends_of_client(rt: HostRuntime) {
     let mut dialogue = Dialogue::new(&rt, rt.alloc(), &[WELCOME, GOT, SENT, SENT]);
     let mut input = joined(&rt, rt.alloc(), &[b"one\ntwo\n"]);
     let sending = Sending {
         cred: WHO,
         key: 7,
-        mtype: 1,
+        wording: Wording::Bodies { mtype: 1 },
         nowait: false,
     };
     let _marked = mark(rt.alloc());

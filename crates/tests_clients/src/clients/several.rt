@@ -2,13 +2,13 @@
 use super::*;
 use std::fmt::Display;
 use sysv_clients::{
-    ClientFault, Cut, Feed, Refusal, Sending, Stop, Unsent, Unshown, remove_all, send_feed,
-    send_lines,
+    ClientFault, Cut, Feed, Refusal, Sending, Stop, Unsent, Unshown, Wording, remove_all,
+    send_feed, send_lines,
 };
 use sysv_model::Errno;
 
 /// `msgget` of key 7 with IPC_CREAT and mode 0600.
-const MAKE: &[u8] = b"\0\0\0\x0a\x02\x01\0\0\0\x07\0\0\x03\x80";
+pub(super) const MAKE: &[u8] = b"\0\0\0\x0a\x02\x01\0\0\0\x07\0\0\x03\x80";
 
 /// The fields of a send of type 5 to identifier 64 after its length.
 const SENDS: &[u8] = b"\x02\x02\0\0\0\x40\0\0\0\0\0\0\0\x05\0\0\0\0";
@@ -19,7 +19,7 @@ const UNSENT: &[u8] = b"\0\0\0\x03\x02\x02\x01";
 const DENIED: &[u8] = b"\0\0\0\x03\x02\x06\x01";
 
 /// What ended a session of sends, by its line. It is empty if nothing did.
-fn line_of(outcome: &Result<(), Unsent>) -> &'static str {
+pub(super) fn line_of(outcome: &Result<(), Unsent>) -> &'static str {
     match outcome {
         Ok(()) => "",
         Err(unsent) => unsent.line(),
@@ -27,10 +27,10 @@ fn line_of(outcome: &Result<(), Unsent>) -> &'static str {
 }
 
 /// Sends with type 5 to the queue of key 7.
-const SENDING: Sending = Sending {
+pub(super) const SENDING: Sending = Sending {
     cred: WHO,
     key: 7,
-    mtype: 5,
+    wording: Wording::Bodies { mtype: 5 },
     nowait: false,
 };
 
@@ -46,7 +46,7 @@ fn send(dialogue: &mut Dialogue, alloc: Global, input: &mut Tape) -> &'static st
     line_of(&outcome)
 }
 
-const NO_MEMORY: &str = "sysvmsg: no memory\n";
+pub(super) const NO_MEMORY: &str = "sysvmsg: no memory\n";
 
 /// Appends the send of a text, which is short.
 fn put_send(asked: &mut Tape, text: &[u8]) {
@@ -325,7 +325,7 @@ fn a_removal_without_a_reply_ends_it(rt: HostRuntime) {
 }
 
 /// Asserts that a fault has this text. Tolerates one refusal of memory.
-fn assert_text<F: Display>(rt: &impl Abort, alloc: Global, fault: &F, wanted: &str) {
+pub(super) fn assert_text<F: Display>(rt: &impl Abort, alloc: Global, fault: &F, wanted: &str) {
     let text = match format!(in alloc; "{fault}") {
         Ok(text) => text,
         Err(_) => format!(in alloc; "{fault}").expect(rt, "a second try"),
@@ -344,6 +344,10 @@ fn ends_of_sessions_have_texts(rt: HostRuntime) {
     assert_text(&rt, alloc, &Unsent::Cut(LOST), "no reply");
     let long = Unsent::Long { before: 2 };
     assert_text(&rt, alloc, &long, "a line is too long after 2 lines");
+    let bad = Unsent::NoObject { before: 2 };
+    assert_text(&rt, alloc, &bad, "a line states no message after 2 lines");
+    let refused = Unsent::Memory { before: 2 };
+    assert_text(&rt, alloc, &refused, "no memory after 2 lines");
     assert_text(&rt, alloc, &Unsent::Many, "too many lines");
     let unread = Unsent::Input(io::Error::from(ErrorKind::NotFound));
     assert_text(&rt, alloc, &unread, "cannot read: entity not found");

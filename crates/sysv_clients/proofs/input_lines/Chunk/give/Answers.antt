@@ -5,20 +5,18 @@ use Rattle.sysv_clients.proofs.input_lines.Chunk.give.Goals as goal
 pub returns-in-Some : goal.returns-in-Some
 returns-in-Some c =
     let long = ap length c.bytes-bytes.ensures in
-    ends_line c.args.self.now c.bytes-bytes.result.now c.skip.new.self c.args.line.now c.push_piece.new.self
-    c.min.result c.in-Some.count c.push_piece.result c.bytes-bytes.ensures
+    ends_line c.args.most c.args.self.now c.bytes-bytes.result.now c.skip.new.self c.args.line.now c.put.new.self
+    c.min.result c.in-Some.count c.bytes-bytes.ensures
     (omega (arith, c.min.ensures, long))
-    (omega (arith, c.min.ensures, c.len.ensures.value, c.requires.room))
-    c.in-Some.ensures
-    c.push_piece.ensures.fits c.push_piece.ensures.after c.skip.ensures
+    (omega (arith, c.min.ensures, c.len.ensures, c.requires.fits))
+    c.in-Some.ensures c.put.ensures c.skip.ensures
 
 pub returns-in-None : goal.returns-in-None
 returns-in-None c =
     let long = ap length c.bytes-bytes.ensures in
-    ends_none c.args.self.now c.bytes-bytes.result.now c.skip-in-None.new.self c.args.line.now
-    c.push_piece-in-None.new.self c.min.result c.push_piece-in-None.result c.bytes-bytes.ensures
+    ends_none c.args.most c.args.self.now c.bytes-bytes.result.now c.skip-in-None.new.self c.args.line.now
+    c.put-in-None.new.self c.min.result c.bytes-bytes.ensures
     (omega (arith, c.min.ensures, long))
-    (omega (arith, c.min.ensures, c.len.ensures.value, c.requires.room))
-    (omega (arith, c.min.ensures, c.len.ensures.value, c.requires.room, c.requires.some, long))
-    c.in-None.ensures
-    c.push_piece-in-None.ensures.fits c.push_piece-in-None.ensures.after c.skip-in-None.ensures
+    (omega (arith, c.min.ensures, c.len.ensures, c.requires.fits))
+    (omega (arith, c.min.ensures, c.len.ensures, c.requires.fits, c.requires.some, long))
+    c.in-None.ensures c.put-in-None.ensures c.skip-in-None.ensures

@@ -22,9 +22,8 @@ returns-in_err-got-clause-opens g c =
 pub returns-clause-opens : goal.returns-clause-opens
 returns-clause-opens g c =
     rw (
-      c.send.ensures,
-      to_z-of_z w32 c.found-id.result (record { sfits = c.found-id.type_inv }),
-      c.found-id.ensures,
+      to_z-of_z w32 c.found-2.result (record { sfits = c.found-2.type_inv }),
+      c.found-2.ensures,
       to_z-of_z w32 c.found.result (record { sfits = c.found.type_inv }),
       c.found.ensures,
     )

@@ -1,6 +1,7 @@
 use Rattle.std.proofs.Common.{ℕ, [], arith, ◌∙◌, ◌-◌, ◌+◌, sym, refl, inl, inr, ap}
 use Rattle.sysv_wire.specs.declared.reply.ReplyContent.TheVariants.{Refused}
 use Rattle.sysv_clients.proofs.RefusalLemmas.{done_accepts, refuses, refuses_all, refuses_lost, refuses_more}
+use Rattle.sysv_clients.proofs.SendLemmas.{done_so}
 use Rattle.sysv_clients.proofs.sending.Sender.refused.Goals as goal
 use Rattle.sysv_clients.proofs.sending.Sender.refused.Goals.{in-Done, in-Refused}
 
@@ -23,11 +24,12 @@ loop-cut-preserved g c =
           record {
             refusing = λ sending left mid taken more fed unsent so_far replied.
                 rw w.cut-is
-                (refuses_more sending c.args.error h.0 h.1 left _ _ taken more fed unsent c.args.window.now.ask cut
+                (refuses_more sending c.args.error h.0 h.1 left _ _ taken more fed unsent cut
                 (cut.after + 1) (cut.unknown - 1)
                 (c.loop-cut.invariant.refusing sending left mid taken more fed unsent so_far replied)
                 (omega (arith, c.loop-cut-test.true))
-                (ap (λ (n : ℕ). cut.after + n) (sym (done_accepts h.0 h.3.done))) h.2 (λ text. inl h.3));
+                (ap (λ (n : ℕ). cut.after + n) (sym (done_accepts h.0 h.3.done))) h.2
+                (λ ask text send. inl (done_so ask h.0 h.1 send h.3)));
             few = rw w.cut-is (omega (arith, c.loop-cut-test.true, c.loop-cut.invariant.few));
             chunk = c.hear_send.ensures.chunk ∙ c.loop-cut.invariant.chunk;
             same_reader = c.hear_send.ensures.same_reader ∙ c.loop-cut.invariant.same_reader;
@@ -38,10 +40,10 @@ loop-cut-preserved g c =
             refusing = λ sending left mid taken more fed unsent so_far replied.
                 rw w.cut-is
                 (refuses_more sending c.args.error (Refused error) [] left _ _ taken more fed unsent
-                c.args.window.now.ask cut cut.after (cut.unknown - 1)
+                cut cut.after (cut.unknown - 1)
                 (c.loop-cut.invariant.refusing sending left mid taken more fed unsent so_far replied)
                 (omega (arith, c.loop-cut-test.true)) (omega arith) w.in-Refused.ensures.hears
-                (λ text. inr (error, (refl, refl))));
+                (λ ask text send. inr (error, (refl, refl))));
             few = rw w.cut-is (omega (arith, c.loop-cut-test.true, c.loop-cut.invariant.few));
             chunk = c.hear_send.ensures.chunk ∙ c.loop-cut.invariant.chunk;
             same_reader = c.hear_send.ensures.same_reader ∙ c.loop-cut.invariant.same_reader;
@@ -50,12 +52,12 @@ loop-cut-preserved g c =
 
 pub returns-in-Lost-clause-ends : goal.returns-in-Lost-clause-ends
 returns-in-Lost-clause-ends g c = λ sending left mid taken more fed unsent so_far replied unfed.
-    refuses_lost sending c.args.error left _ _ taken more fed unsent c.args.window.now.ask c.loop-cut.cut
+    refuses_lost sending c.args.error left _ _ taken more fed unsent c.loop-cut.cut
     (c.loop-cut.invariant.refusing sending left mid taken more fed unsent so_far replied)
     c.in-Lost.ensures.hears unfed
 
 pub returns-clause-ends : goal.returns-clause-ends
 returns-clause-ends g c = λ sending left mid taken more fed unsent so_far replied unfed.
-    refuses_all sending c.args.error left _ taken more fed unsent c.args.window.now.ask c.loop-cut.cut
+    refuses_all sending c.args.error left _ taken more fed unsent c.loop-cut.cut
     (c.loop-cut.invariant.refusing sending left mid taken more fed unsent so_far replied)
     (omega (arith, c.loop-cut-test.false)) unfed

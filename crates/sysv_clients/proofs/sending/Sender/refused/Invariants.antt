@@ -11,9 +11,8 @@ abbrev pub invariant-loop-cut : goal.invariant-loop-cut
 invariant-loop-cut g l = record {
   refusing : (sending : ASending) (left mid taken more fed unsent : Option (List ℕ))
       → Sends sending left mid taken more fed unsent l.window
-      → HearsSend l.window.ask (Refused l.fn.error) mid (g.R.Read.remaining (stream_of l.initial.reader))
-      → Refusing sending l.fn.error left (g.R.Read.remaining (stream_of l.reader)) taken more fed unsent l.window.ask
-      l.cut;
+      → HearsSend (Refused l.fn.error) mid (g.R.Read.remaining (stream_of l.initial.reader))
+      → Refusing sending l.fn.error left (g.R.Read.remaining (stream_of l.reader)) taken more fed unsent l.cut;
   few : l.cut.after + l.cut.unknown < l.window.waiting;
   chunk : l.self.chunk ≡ l.initial.self.chunk;
   same_reader : stream_name l.reader ≡ stream_name l.initial.reader;

@@ -4,8 +4,8 @@ use Rattle.sysv_clients.proofs.sending.Sender.send.Goals as goal
 
 pub returns-in-Ok-clause-sends : goal.returns-in-Ok-clause-sends
 returns-in-Ok-clause-sends g c = λ sending left rest taken fed unsent unfed so_far next room. (
-  sends_more sending c.args.self.now.text left rest taken _ _ fed unsent unfed c.args.window.now so_far next room
-      c.in-Ok.ensures.ok,
+  sends_more sending (record { ask = c.args.ask; text = c.args.self.now.text }) left rest taken _ _ fed unsent unfed
+      c.args.window.now so_far next room c.in-Ok.ensures.ok,
   omega arith,
   refl,
 )
@@ -13,5 +13,5 @@ returns-in-Ok-clause-sends g c = λ sending left rest taken fed unsent unfed so_
 pub returns-in-Err-clause-sends : goal.returns-in-Err-clause-sends
 returns-in-Err-clause-sends g c = λ sending left rest taken fed unsent unfed so_far next room unread.
     rw c.lost.ensures
-    (loses_write sending c.args.self.now.text left rest taken _ _ fed unsent unfed c.args.window.now so_far next room
-    c.in-Err.ensures.err unread)
+    (loses_write sending (record { ask = c.args.ask; text = c.args.self.now.text }) left rest taken _ _ fed unsent
+    unfed c.args.window.now so_far next room c.in-Err.ensures.err unread)

@@ -1,7 +1,8 @@
-use Rattle.std.proofs.Common.{[], ◌∙◌, arith, refl, sym}
+use Rattle.std.proofs.Common.{[], ◌∙◌, arith, refl, rules, sym}
 use Rattle.std.proofs.lemmas.Result.{err_from_is_err_and}
 use Rattle.sysv_clients.proofs.SendLemmas.{begins, begins_there, ends_unread, is_next, none_after, none_left, not_ahead}
-use Rattle.sysv_clients.proofs.SendLemmas.{fails_so, has_space, same_ahead, unopened}
+use Rattle.sysv_clients.proofs.SendLemmas.{ends_unstated, fails_so, has_space, next_send, same_ahead}
+use Rattle.sysv_clients.proofs.SendLemmas.{unopened}
 use Rattle.sysv_clients.proofs.sending.Sender.send_all.Goals as goal
 
 pub returns-in_err-window-clause-sends : goal.returns-in_err-window-clause-sends
@@ -42,10 +43,10 @@ loop-lines-init g c =
 
 pub returns-in-Err-clause-sends : goal.returns-in-Err-clause-sends
 returns-in-Err-clause-sends g c = (
-  c.fetch.new.chunk,
+  c.fetch.new.self.chunk,
   c.finish.ensures.ends c.args.sending.now _ _ _ _ _ c.loop-lines.invariant.sends
-      (ends_unread c.in-Err.why _ _ _ _ c.fetch.new.line (sym c.loop-lines.invariant.lines)
-      c.in-Err.ensures.fetches),
+      (ends_unread c.args.sending.now.wording c.in-Err.why _ _ _ _ c.fetch.new.self.line
+      (sym c.loop-lines.invariant.lines) c.in-Err.ensures.fetches),
 )
 
 pub returns-in-Err-clause-same_input : goal.returns-in-Err-clause-same_input
@@ -59,9 +60,9 @@ returns-in-Err-clause-same_writer g c = c.finish.ensures.same_writer ∙ c.loop-
 
 pub returns-then-is_nothing-clause-sends : goal.returns-then-is_nothing-clause-sends
 returns-then-is_nothing-clause-sends g c = (
-  c.fetch.new.chunk,
+  c.fetch.new.self.chunk,
   c.finish-then-is_nothing.ensures.ends c.args.sending.now _ _ _ _ _ c.loop-lines.invariant.sends
-      (none_left c.loop-lines.lines c.in-Ok.fetched _ _ c.fetch.new.line
+      (none_left _ c.loop-lines.lines c.in-Ok.fetched _ _ c.fetch.new.self.line
       (sym c.is_nothing.ensures ∙ c.if-is_nothing.true)
       c.in-Ok.ensures.fetches),
 )
@@ -80,15 +81,28 @@ pub returns-then-is_nothing-clause-same_writer : goal.returns-then-is_nothing-cl
 returns-then-is_nothing-clause-same_writer g c =
     c.finish-then-is_nothing.ensures.same_writer ∙ c.loop-lines.invariant.same_writer
 
+pub returns-in-Err-read-clause-sends : goal.returns-in-Err-read-clause-sends
+returns-in-Err-read-clause-sends g c = (
+  c.fetch.new.self.chunk,
+  c.finish-in-Err-read.ensures.ends c.args.sending.now _ _ _ _ _ c.loop-lines.invariant.sends
+      (ends_unstated c.args.sending.now.wording c.in-Err-read.why _ _ c.fetch.new.self.line c.read.new.self.text _ _
+      (sym c.loop-lines.invariant.lines)
+      (is_next _ c.loop-lines.lines c.in-Ok.fetched _ _ c.fetch.new.self.line
+      (sym c.is_nothing.ensures ∙ c.if-is_nothing.false) c.in-Ok.ensures.fetches)
+      c.in-Err-read.ensures.reads),
+)
+
 pub returns-in_err-send-clause-sends : goal.returns-in_err-send-clause-sends
 returns-in_err-send-clause-sends g c =
     let p = err_from_is_err_and c.from_residual-in_err-send.result c.from_residual-in_err-send.ensures.1 in
     rw (p.1, p.2) (
-      c.fetch.new.chunk,
+      c.fetch.new.self.chunk,
       c.in_err-send.ensures.sends c.args.sending.now _ _ _ _ _ _ c.loop-lines.invariant.sends
-          (is_next c.loop-lines.lines c.in-Ok.fetched _ _ c.fetch.new.line
-          (sym c.is_nothing.ensures ∙ c.if-is_nothing.false)
-          c.in-Ok.ensures.fetches)
+          (next_send c.args.sending.now c.loop-lines.window.id c.in-Ok-read.mtype c.send-ask.result
+          c.fetch.new.self.line c.read.new.self.text _ _
+          (is_next _ c.loop-lines.lines c.in-Ok.fetched _ _ c.fetch.new.self.line
+          (sym c.is_nothing.ensures ∙ c.if-is_nothing.false) c.in-Ok.ensures.fetches)
+          c.in-Ok-read.ensures.reads (search rules) (search rules) c.send-ask.ensures)
           c.loop-lines.invariant.room _,
     )
 
@@ -105,11 +119,14 @@ pub returns-then-not-is_line-clause-sends : goal.returns-then-not-is_line-clause
 returns-then-not-is_line-clause-sends g c =
     let some = sym c.is_nothing.ensures ∙ c.if-is_nothing.false in
     let sent = c.in_ok-send.ensures.sends c.args.sending.now _ _ _ _ _ _ c.loop-lines.invariant.sends
-    (is_next c.loop-lines.lines c.in-Ok.fetched _ _ c.fetch.new.line some c.in-Ok.ensures.fetches)
+    (next_send c.args.sending.now c.loop-lines.window.id c.in-Ok-read.mtype c.send-ask.result
+    c.fetch.new.self.line c.read.new.self.text _ _
+    (is_next _ c.loop-lines.lines c.in-Ok.fetched _ _ c.fetch.new.self.line some c.in-Ok.ensures.fetches)
+    c.in-Ok-read.ensures.reads (search rules) (search rules) c.send-ask.ensures)
     c.loop-lines.invariant.room in (
-      c.fetch.new.chunk,
+      c.fetch.new.self.chunk,
       c.finish-then-not-is_line.ensures.ends c.args.sending.now _ _ _ _ _ sent.0
-          (none_after c.loop-lines.lines c.in-Ok.fetched _ _ c.fetch.new.line some
+          (none_after _ c.loop-lines.lines c.in-Ok.fetched _ _ c.fetch.new.self.line some
           (sym c.is_line.ensures ∙ c.if-not-is_line.true)
           c.in-Ok.ensures.fetches),
     )
@@ -133,10 +150,13 @@ returns-in_err-drain-clause-sends g c =
     let p = err_from_is_err_and c.from_residual-in_err-drain.result c.from_residual-in_err-drain.ensures.1 in
     let some = sym c.is_nothing.ensures ∙ c.if-is_nothing.false in
     let sent = c.in_ok-send.ensures.sends c.args.sending.now _ _ _ _ _ _ c.loop-lines.invariant.sends
-    (is_next c.loop-lines.lines c.in-Ok.fetched _ _ c.fetch.new.line some c.in-Ok.ensures.fetches)
+    (next_send c.args.sending.now c.loop-lines.window.id c.in-Ok-read.mtype c.send-ask.result
+    c.fetch.new.self.line c.read.new.self.text _ _
+    (is_next _ c.loop-lines.lines c.in-Ok.fetched _ _ c.fetch.new.self.line some c.in-Ok.ensures.fetches)
+    c.in-Ok-read.ensures.reads (search rules) (search rules) c.send-ask.ensures)
     c.loop-lines.invariant.room in
     rw (p.1, p.2)
-    (c.fetch.new.chunk, c.in_err-drain.ensures.drains c.args.sending.now _ _ _ _ sent.0 _)
+    (c.fetch.new.self.chunk, c.in_err-drain.ensures.drains c.args.sending.now _ _ _ _ sent.0 _)
 
 pub returns-in_err-drain-clause-same_input : goal.returns-in_err-drain-clause-same_input
 returns-in_err-drain-clause-same_input g c = c.fetch.ensures.same ∙ c.loop-lines.invariant.same_input
@@ -152,12 +172,15 @@ pub loop-lines-preserved : goal.loop-lines-preserved
 loop-lines-preserved g c =
     let some = sym c.is_nothing.ensures ∙ c.if-is_nothing.false in
     let sent = c.in_ok-send.ensures.sends c.args.sending.now _ _ _ _ _ _ c.loop-lines.invariant.sends
-    (is_next c.loop-lines.lines c.in-Ok.fetched _ _ c.fetch.new.line some c.in-Ok.ensures.fetches)
+    (next_send c.args.sending.now c.loop-lines.window.id c.in-Ok-read.mtype c.send-ask.result
+    c.fetch.new.self.line c.read.new.self.text _ _
+    (is_next _ c.loop-lines.lines c.in-Ok.fetched _ _ c.fetch.new.self.line some c.in-Ok.ensures.fetches)
+    c.in-Ok-read.ensures.reads (search rules) (search rules) c.send-ask.ensures)
     c.loop-lines.invariant.room in
     let drained = c.in_ok-drain.ensures.drains c.args.sending.now _ _ _ _ sent.0 in
     record {
-      sends = same_ahead c.args.sending.now _ c.fetch.new.chunk _ _ _ _ _ _ c.drain.new.window
-          (c.drain.ensures.chunk ∙ c.send.ensures.chunk) drained.0;
+      sends = same_ahead c.args.sending.now _ c.fetch.new.self.chunk _ _ _ _ _ _ c.drain.new.window
+          (c.drain.ensures.chunk ∙ c.send.ensures.chunk ∙ c.read.ensures.chunk) drained.0;
       lines = omega (
         arith,
         c.in_ok-drain.ensures.len,

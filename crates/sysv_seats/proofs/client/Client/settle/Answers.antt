@@ -5,8 +5,7 @@ use Rattle.std.specs.Prelude.{⊤}
 use Rattle.sysv_session.specs.declared.served.End.{End}
 use Rattle.sysv_session.specs.Conversation.{Puts}
 use Rattle.sysv_seats.specs.declared.tools.Tools.{Tools}
-use Rattle.sysv_seats.specs.Holding.{received}
-use Rattle.sysv_seats.specs.Sits.{HasAsked, IsPending, Sits, Sitting, is_wait_of}
+use Rattle.sysv_seats.specs.Sits.{HasAsked, IsPending, Sits, Sitting, is_hold_wait_of}
 use Rattle.sysv_seats.proofs.ClientLemmas.{put_cause}
 use Rattle.sysv_seats.proofs.ClientSteps.{answers, over_has, parks, put_none, put_reply, short_given, waits_by}
 use Rattle.sysv_seats.proofs.client.Client.settle.Goals as goal
@@ -30,7 +29,7 @@ stop-requires g c =
 
 pub invariant_of-self-in-Waits : goal.invariant_of-self-in-Waits
 invariant_of-self-in-Waits g c =
-    let waits : is_wait_of (received c.args.request.ask) c.in-Waits.waiting ≡ true =
+    let waits : is_hold_wait_of c.args.request.ask c.in-Waits.waiting ≡ true =
     waits_by _ _ c.args.progress _ _ c.in-Waits.is c.requires.answer in
     let same = sym c.self-in-Waits.view_is in
     let frame = subst (λ (s : Sitting g.row.T.Denot). c.args.size ≤ length s.input) same c.requires.frame in

@@ -16,7 +16,7 @@ pub returns-in-Done-clause-begun : goal.returns-in-Done-clause-begun
 returns-in-Done-clause-begun g c = rw c.in-Done.is (rw c.requires.empty c.spend.ensures.spends)
 
 pub returns-in-Back-clause-begun : goal.returns-in-Back-clause-begun
-returns-in-Back-clause-begun g c = rw c.in-Back.is (refl, c.refusal.ensures, c.requires.empty)
+returns-in-Back-clause-begun g c = rw c.in-Back.is (c.begin_back.ensures.begun c.args.cred c.args.text.now)
 
 pub returns-in_default-clause-begun : goal.returns-in_default-clause-begun
 returns-in_default-clause-begun g c =

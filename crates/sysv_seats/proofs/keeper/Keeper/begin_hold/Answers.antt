@@ -1,10 +1,12 @@
--- A hold has come as far as its receive.
-use Rattle.std.proofs.Common.{◌≡◌, [], rules, true}
+-- A hold has come as far as its receive, once its caller may send to the queue.
+use Rattle.std.proofs.Common.{◌≡◌, [], rules, sym, subst, true, Result, Ok, Err}
 use Rattle.std.proofs.lemmas.Int.{to_z-of_z}
+use Rattle.std.specs.Prelude.{⊤}
+use Rattle.sysv_model.specs.declared.errno.Errno.{Errno}
 use Rattle.sysv_wire.specs.declared.request.Ask.TheVariants.{Rcv}
-use Rattle.sysv_seats.specs.Held.{holder_of}
+use Rattle.sysv_seats.specs.Held.{AsksForWriting, holder_of}
 use Rattle.sysv_seats.specs.Holding.{can_hold}
-use Rattle.sysv_seats.proofs.HeldPieces.{begun_short, hold_answers, hold_begun}
+use Rattle.sysv_seats.proofs.HeldPieces.{begun_short, hold_answers, hold_begun, hold_denied}
 use Rattle.sysv_seats.proofs.keeper.Keeper.begin_hold.Goals as goal
 
 pub keep-requires-clause-short : goal.keep-requires-clause-short
@@ -13,24 +15,28 @@ keep-requires-clause-short g c =
     let mtype = c.ranges.mtype in
     let begun = simp to_z-of_z at c.begin_receive-came.ensures.begun in
     let answer = simp to_z-of_z at c.begin_receive-came.ensures.answer in
-    begun_short (g.C.Clock.may c.args.self.now.handler.clock.now) c.args.version c.args.cred
-    (Rcv c.args.id c.args.size c.args.mtype c.args.flags) [] c.args.self.now.handler.pass c.begin_receive-came.result
-    c.begin_receive-came.new.given c.begin_receive-came.new.self.pass (begun []) answer
+    begun_short (g.C.Clock.may c.ask_for_writing.new.self.clock.now) c.args.version c.args.cred
+    (Rcv c.args.id c.args.size c.args.mtype c.args.flags) [] c.ask_for_writing.new.self.pass
+    c.begin_receive-came.result c.begin_receive-came.new.given c.begin_receive-came.new.self.pass (begun []) answer
 
-pub returns-clause-begun : goal.returns-clause-begun
-returns-clause-begun g c = λ text.
+pub returns-in-Ok-clause-begun : goal.returns-in-Ok-clause-begun
+returns-in-Ok-clause-begun g c = λ text.
     let id = c.ranges.id in
     let mtype = c.ranges.mtype in
-    let begun = simp to_z-of_z at c.begin_receive-came.ensures.begun in
+    let came = simp to_z-of_z at c.begin_receive-came.ensures.begun in
+    let begun = rw c.ask_for_writing.ensures.handles.1 at came in
     let held = simp to_z-of_z at c.keep.ensures.message in
     let can : can_hold c.args.flags c.args.seconds c.args.self.now.message ≡ true = search rules in
+    let asked = simp to_z-of_z at c.ask_for_writing.ensures.asks in
+    let asks = subst (λ (r : Result ⊤ Errno). AsksForWriting c.args.cred c.args.id c.args.self.now.handler.pass r
+    c.ask_for_writing.new.self.pass) c.in-Ok.is asked in
     rw c.keep.ensures.progress
     (hold_begun _ c.args.version c.args.cred c.args.id c.args.size c.args.mtype c.args.flags c.args.seconds text
-    (holder_of c.args.self.now) c.begin_receive-came.result c.begin_receive-came.new.given (holder_of c.keep.new.self)
-    can (rw c.keep.ensures.handler (begun text)) held)
+    (holder_of c.args.self.now) c.ask_for_writing.new.self.pass c.begin_receive-came.result
+    c.begin_receive-came.new.given (holder_of c.keep.new.self) can asks (rw c.keep.ensures.handler (begun text)) held)
 
-pub returns-clause-answer : goal.returns-clause-answer
-returns-clause-answer g c =
+pub returns-in-Ok-clause-answer : goal.returns-in-Ok-clause-answer
+returns-in-Ok-clause-answer g c =
     let id = c.ranges.id in
     let mtype = c.ranges.mtype in
     let answer = simp to_z-of_z at c.begin_receive-came.ensures.answer in

@@ -1,0 +1,55 @@
+-- What a server on any listener has done, it has done on a socket, where what the listener and the input tell is
+-- left out.
+use Rattle.std.proofs.Common.{◌≡◌, ℕ, Bool, List, Option, None, Some}
+use Rattle.std.specs.Prelude.{IfErr, IfOk, Result, Ok, Err}
+use Rattle.std.specs.declared.io.Error.{Error}
+use Rattle.std.specs.declared.process.ExitCode.{ExitCode}
+use Rattle.sysv_engine.specs.declared.fault.ServeFault.{ServeFault}
+use Rattle.sysv_engine.specs.declared.terms.Ended.{Ended}
+use Rattle.sysv_seats.specs.declared.socket_stream.SocketStream.{SocketStream}
+use Rattle.sysv_server.specs.declared.host.Reason.{Reason}
+use Rattle.sysv_server.specs.declared.host.Reason.TheVariants.{Full, InputOver, NoSocket, Accept}
+use Rattle.sysv_server.specs.declared.terms.Terms.{Terms}
+use Rattle.sysv_server.specs.Serving.{EndsFrom, FailsFrom, HasCause, HasReason, limits_in}
+use Rattle.sysvmsg.specs.Ends.{EndsWithin, FailsWithin, HasServedAll, HasServedFrom, places_of}
+
+module _ {L I : Type 0} (told : L → Option (List SocketStream)) (listens : L → Bool)
+    (reads : I → ℕ → Result ℕ Error → I → Type 0) (fails : L → Error → L → Type 0) where
+  ends : (limit : Option ℕ) (terms : Terms) (before now : L) (outcome : Result Ended ServeFault) →
+      IfOk outcome (λ ended. EndsFrom told listens terms.stats terms.blocks (places_of limit terms) terms.sessions
+      (limits_in terms) before ended now) → IfOk outcome (EndsWithin limit terms)
+  ends limit terms before now (Ok ended) from = from.ends
+  ends limit terms before now (Err why) from = from
+
+  failed : (limit : Option ℕ) (terms : Terms) (before now : L) (outcome : Result Ended ServeFault) →
+      IfErr outcome (λ why. FailsFrom told terms.stats terms.blocks (places_of limit terms) terms.sessions before why
+      now) → IfErr outcome (FailsWithin limit terms)
+  failed limit terms before now (Ok ended) from = from
+  failed limit terms before now (Err why) from = from.0
+
+  has_reason : (has_input : Bool) (most sessions : ℕ) (reason : Option Reason) →
+      HasCause reads fails has_input most sessions reason → HasReason has_input most sessions reason
+  has_reason has_input most sessions None cause = cause
+  has_reason has_input most sessions (Some Full) cause = cause
+  has_reason has_input most sessions (Some InputOver) cause = cause.0
+  has_reason has_input most sessions (Some (NoSocket why)) cause = cause
+  has_reason has_input most sessions (Some (Accept why)) cause = tt
+
+  meant : (has_input : Bool) (most : ℕ) (reason : Option Reason) (outcome : Result Ended ServeFault) →
+      IfOk outcome (λ ended. HasCause reads fails has_input most ended.sums.sessions reason) →
+      IfOk outcome (λ ended. HasReason has_input most ended.sums.sessions reason)
+  meant has_input most reason (Ok ended) cause = has_reason has_input most ended.sums.sessions reason cause
+  meant has_input most reason (Err why) cause = cause
+
+  pub told_less : (limit : Option ℕ) (has_input : Bool) (terms : Terms) (exit : ExitCode)
+      (shown after : Option (List ℕ)) (before now : L) →
+      HasServedFrom told listens reads fails limit has_input terms exit shown after before now →
+      HasServedAll limit has_input terms exit shown after
+  told_less limit has_input terms exit shown after before now served = record {
+    outcome = served.outcome;
+    ends = ends limit terms before now served.outcome.ended served.ends;
+    setting = served.setting;
+    meant = meant has_input terms.sessions served.outcome.reason served.outcome.ended served.meant;
+    fails = failed limit terms before now served.outcome.ended served.failed;
+    reports = served.reports;
+  }
