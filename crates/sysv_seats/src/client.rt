@@ -10,8 +10,9 @@ ghost use Rattle.sysv_seats.specs.Limits.{has_limit};
 ghost use Rattle.sysv_seats.specs.HandlesKept.{KeepsHandles};
 ghost use Rattle.sysv_seats.specs.Notification.{Keeps as KeepsNotification, notifications_of, told_of};
 ghost use Rattle.sysv_wire.specs.declared.frame.Version.{Version as Known};
+ghost use Rattle.sysv_wire.specs.declared.reply.Reply.{Reply as Answer};
 ghost use Rattle.sysv_seats.specs.Parked.{IsReplied};
-ghost use Rattle.sysv_seats.specs.Holding.{Holder, empty_handed};
+ghost use Rattle.sysv_seats.specs.Holding.{Holder, Timed, begun_with, timed};
 ghost use Rattle.sysv_seats.specs.Held.{HoldBegun, HoldProgress, holder_of};
 ghost use Rattle.sysv_seats.specs.Sits.{Arrives, GreetsAs, HasAsked, IsFree, IsOver, IsPending, Keeps, KeepsWith, ReadsNext, Sits, broken_off_for, end_at_close, is_back_parked, is_early as early, is_finished, is_hold_parked, parked_bytes, parked_wait, stopped_for, zero_moment};
 
@@ -102,7 +103,7 @@ impl<T: NonBlocking> Client<T> {
     pub fn open(alloc: Global, connection: T, newest: Version) -> Client<T>
         ensures connection { result.connection ≡ connection }
         ensures sits { (pass : Pass) →
-            Sits T.incoming T.outgoing newest pass connection result (empty_handed pass) }
+            Sits T.incoming T.outgoing newest pass connection result (begun_with pass) }
     {
         Client {
             connection,
@@ -255,6 +256,7 @@ impl<T: NonBlocking> Client<T> {
         ensures keeps { Keeps T.incoming T.outgoing self.old self.new }
         ensures breaks { T.closes.breaks self.new.connection
             ≡ T.closes.breaks self.old.connection }
+        ensures unparked { self.old.parked ≡ None → self.new.parked ≡ None }
     {
         self.has_left = true;
         self.heed_leave();
@@ -270,6 +272,7 @@ impl<T: NonBlocking> Client<T> {
             → self.new ≡ self.old }
         ensures breaks { T.closes.breaks self.new.connection
             ≡ T.closes.breaks self.old.connection }
+        ensures unparked { self.old.parked ≡ None → self.new.parked ≡ None }
     {
         if self.may_be_cut(limit) {
             self.cut_off();
@@ -287,6 +290,7 @@ impl<T: NonBlocking> Client<T> {
         ensures broken { self.new.broken ≡ true }
         ensures breaks { T.closes.breaks self.new.connection
             ≡ T.closes.breaks self.old.connection }
+        ensures unparked { self.old.parked ≡ None → self.new.parked ≡ None }
     {
         self.give_up();
         self.break_off(End::Fault(Fault::Read));
@@ -298,6 +302,7 @@ impl<T: NonBlocking> Client<T> {
         ensures broken { self.old.broken ≡ true → self.new ≡ self.old }
         ensures breaks { T.closes.breaks self.new.connection
             ≡ T.closes.breaks self.old.connection }
+        ensures unparked { self.old.parked ≡ None → self.new.parked ≡ None }
     {
         if self.is_broken || self.conversation.is_empty() {
             return;
@@ -361,7 +366,7 @@ impl<T: NonBlocking> Client<T> {
     /// Closes the client, and returns what its session did. Replies that the connection has not
     /// taken are lost. If nothing else was left to do, the session ends for a reason that there is.
     pub fn close(self, book: &mut T::Book) -> Served
-        ensures over { (newest : Known) (start : Pass) (now : Holder Pass) (origin : T) →
+        ensures over { (newest : Known) (start : Pass) (now : Timed Pass) (origin : T) →
             Sits T.incoming T.outgoing newest start origin self now →
             IsOver T.incoming T.outgoing T.closes newest start origin result now book.old
             book.new }
@@ -408,6 +413,7 @@ impl<T: NonBlocking> Client<T> {
         ensures keeps { Keeps T.incoming T.outgoing self.old self.new }
         ensures breaks { T.closes.breaks self.new.connection
             ≡ T.closes.breaks self.old.connection }
+        ensures unparked { self.old.parked ≡ None → self.new.parked ≡ None }
     {
         if self.has_left && self.connection.may_leave() {
             self.give_up();
@@ -431,6 +437,7 @@ impl<T: NonBlocking> Client<T> {
         ensures broken { self.new.broken ≡ true }
         ensures breaks { T.closes.breaks self.new.connection
             ≡ T.closes.breaks self.old.connection }
+        ensures unparked { self.old.parked ≡ None → self.new.parked ≡ None }
     {
         self.give_up();
         self.break_off(End::Write);
@@ -600,10 +607,11 @@ impl<T: NonBlocking> Client<T> {
         requires asked { op_of request.ask ≢ Op.Hello }
         requires pending { IsPending self.old }
         requires frame { size ≤ length self.old.input }
-        ensures keeps { (newest : Known) (start : Pass) (origin : T) →
+        ensures keeps { (late : List Answer) (newest : Known) (start : Pass) (origin : T) →
             HasAsked T.incoming T.outgoing newest start origin self.old cred request tools.old.text
-            size (holder_of handler.old) →
-            Sits T.incoming T.outgoing newest start origin self.new (holder_of handler.new) }
+            size (timed (holder_of handler.old) late) →
+            Sits T.incoming T.outgoing newest start origin self.new
+            (timed (holder_of handler.new) late) }
         ensures handles { KeepsHandles handler.old.handler handler.new.handler }
         ensures breaks { T.closes.breaks self.new.connection
             ≡ T.closes.breaks self.old.connection }
@@ -630,13 +638,13 @@ impl<T: NonBlocking> Client<T> {
         requires frame { size ≤ length self.old.input }
         requires answer { HoldProgress request.version request.ask progress tools.old.given }
         requires replied { IsReplied progress }
-        ensures keeps { (newest : Known) (start : Pass) (before now : Holder Pass) (origin : T)
-            (text : List ℕ) →
+        ensures keeps { (newest : Known) (start : Pass) (before : Timed Pass) (now : Holder Pass)
+            (origin : T) (text : List ℕ) →
             HasAsked T.incoming T.outgoing newest start origin self.old cred request text size
             before →
-            HoldBegun zero_moment request.version cred request.ask text before progress
+            HoldBegun zero_moment request.version cred request.ask text before.holder progress
             tools.old.given now →
-            Sits T.incoming T.outgoing newest start origin self.new now }
+            Sits T.incoming T.outgoing newest start origin self.new (timed now before.late) }
         ensures notifications { KeepsNotification (notifications_of (told_of made.now progress))
             tools.old tools.new }
         ensures breaks { T.closes.breaks self.new.connection

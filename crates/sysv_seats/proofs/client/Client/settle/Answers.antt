@@ -5,6 +5,7 @@ use Rattle.std.specs.Prelude.{⊤}
 use Rattle.sysv_session.specs.declared.served.End.{End}
 use Rattle.sysv_session.specs.Conversation.{Puts}
 use Rattle.sysv_seats.specs.declared.tools.Tools.{Tools}
+use Rattle.sysv_seats.specs.Holding.{timed}
 use Rattle.sysv_seats.specs.Sits.{HasAsked, IsPending, Sits, Sitting, is_hold_wait_of}
 use Rattle.sysv_seats.proofs.ClientLemmas.{put_cause}
 use Rattle.sysv_seats.proofs.ClientSteps.{answers, over_has, parks, put_none, put_reply, short_given, waits_by}
@@ -48,7 +49,7 @@ returns-in-Err-clause-keeps g c = λ newest start before now origin text asked b
     c.self.inside.conversation c.put.new.self) c.in-Err.is
     (given_still c.args.tools.now c.tell.new.self c.tell.ensures.0) c.put.ensures in
     subst (λ (s : Sitting g.row.T.Denot). Sits g.T.NonBlocking.incoming g.T.NonBlocking.outgoing newest start origin
-    s now)
+    s (timed now before.late))
     (sym c.stop.ensures)
     (put_none g.T.NonBlocking.incoming g.T.NonBlocking.outgoing newest start before now origin _ _ c.args.cred
     c.args.request
