@@ -2,7 +2,7 @@
 -- client held.
 use Rattle.std.proofs.Common.{◌≡◌, ◌∙◌, ℕ, ◌+◌, ◌≤◌, List, [], ◌∷◌, ◌++◌, Option, Some, None, Result, Ok, Err, inl, inr}
 use Rattle.std.proofs.Common.{ap, arith, refl, sym, subst}
-use Rattle.std.specs.Prelude.{⊤, Bool, true, false, IfSome, is_some}
+use Rattle.std.specs.Prelude.{⊤, Bool, true, false, IfSome, IsSomeAnd, is_some}
 use Rattle.std.specs.List.{FoldsTo}
 use Rattle.sysv_model.specs.declared.errno.Errno.{Errno}
 use Rattle.sysv_session.specs.declared.handler.RequestOutcome.{RequestOutcome}
@@ -37,7 +37,7 @@ use Rattle.sysv_engine.specs.Added.{added, capped, one_session}
 use Rattle.sysv_engine.specs.Fated.{one_fated}
 use Rattle.sysv_engine.specs.Handled.{Handles, Leaves, fated_all, fated_by, one_refused}
 use Rattle.sysv_engine.specs.Places.{ComesBackAt, Handled, HasLeft, IsPlace, KeepsPlace, LapsesAt, Seated, SitsOn}
-use Rattle.sysv_engine.specs.Places.{Standing}
+use Rattle.sysv_engine.specs.Places.{MayLapse, Standing}
 use Rattle.sysv_engine.specs.Places.{Stands, TakesIn, View, come_so_far, fates_by, taken_by, view_of, wait_in}
 use Rattle.sysv_engine.specs.Places.{since, with_one}
 use Rattle.sysv_engine.specs.Converses.{Closes, ConversesAs, tally_of}
@@ -380,20 +380,20 @@ module _ {T B : Type 0} (incoming outgoing : T → Option (List ℕ)) (closes : 
       PlaceIs standing view (Some client) message returning → PlaceIs standing view (Some client') message returning
   stayed standing view client client' message returning keeps still unparked
       (done, connection, mid, left, had, did, is, sits, at) = (
-    done,
-    connection,
-    mid,
-    left,
-    had,
-    did,
-    is,
-    (
-      keeps left.holder left.late mid.newest mid.pass connection sits.0,
-      still ∙ sits.1,
-      λ late. unparked (sits.2 late),
-    ),
-    at,
-  )
+        done,
+        connection,
+        mid,
+        left,
+        had,
+        did,
+        is,
+        (
+          keeps left.holder left.late mid.newest mid.pass connection sits.0,
+          still ∙ sits.1,
+          λ late. unparked (sits.2 late),
+        ),
+        at,
+      )
 
   -- The client made no call, and nothing else of the place changed.
   pub stays_on : (old new : Seated B T) (client client' : Sitting T) → old.client ≡ Some client →
@@ -538,9 +538,10 @@ module _ {T B : Type 0} (incoming outgoing : T → Option (List ℕ)) (closes : 
       )
 
   -- The send that waits is left. What the client holds is still held.
-  pub leaves_lapse : EachReturnCanBeLeft → (old new : Seated B T) (client : Sitting T) → old.client ≡ Some client →
-      new ≡ record old { returning = None } → KeepsPlace incoming outgoing closes old new
-  leaves_lapse law old new client held is = λ gates standing stands.
+  leaves_by : EachReturnCanBeLeft → (old new : Seated B T) (there : Option (Sitting T)) → old.client ≡ there →
+      is_some there ≡ true → new ≡ record old { returning = None } → KeepsPlace incoming outgoing closes old new
+  leaves_by law old new None held some is = absurd (cc some)
+  leaves_by law old new (Some client) held some is = λ gates standing stands.
       let stood : PlaceIs standing (view_of old) (Some client) old.message old.returning =
       subst (λ c. PlaceIs standing (view_of old) c old.message old.returning) held stands.1 in
       subst (λ p. Stands incoming outgoing closes gates standing p) (sym is) (
@@ -548,6 +549,10 @@ module _ {T B : Type 0} (incoming outgoing : T → Option (List ℕ)) (closes : 
         subst (λ c. PlaceIs standing (view_of old) c old.message None) (sym held)
             (left_lapse law standing (view_of old) client old.message old.returning stood),
       )
+
+  pub leaves_lapse : EachReturnCanBeLeft → (old new : Seated B T) → is_some old.client ≡ true →
+      new ≡ record old { returning = None } → KeepsPlace incoming outgoing closes old new
+  leaves_lapse law old new some is = leaves_by law old new old.client refl some is
 
   -- The send of a message that is over has a reply.
   told : (answer : Result ⊤ Errno) (outcome : RequestOutcome) → outcome ≡ done_reply Three op.Snd content.Snd answer →
@@ -577,16 +582,16 @@ module _ {T B : Type 0} (incoming outgoing : T → Option (List ℕ)) (closes : 
       SameView view new → new.fates ≡ fates_by view.fates result → PlaceIs standing new (Some client) now (wait_in result)
   late_comes standing view new client now (come.Waits wait) done connection mid left had did is sits still none limited
       came same fated = (
-    done,
-    connection,
-    mid,
-    left,
-    had,
-    did,
-    since_then mid view new left.late left.late is same (fated ∙ ap (λ (v : View B). v.fates) is),
-    (sits, still, λ late. none),
-    (limited, came.0, came.1),
-  )
+        done,
+        connection,
+        mid,
+        left,
+        had,
+        did,
+        since_then mid view new left.late left.late is same (fated ∙ ap (λ (v : View B). v.fates) is),
+        (sits, still, λ late. none),
+        (limited, came.0, came.1),
+      )
   late_comes standing view new client now come.Nothing done connection mid left had did is sits still none limited came
       same fated =
       let no : 1 ≤ 0 = subst (λ (m : Option Message). 1 ≤ seconds_of m) came.0 limited in absurd (omega arith)
@@ -680,15 +685,23 @@ module _ {T B : Type 0} (incoming outgoing : T → Option (List ℕ)) (closes : 
       (ap (λ (f : Fates). fates_by f result) same.4) stood)
 
   -- That of what a client holds was begun, since its time is over.
-  pub lapses : (old mid new : Seated B T) (client : Sitting T) (result : Return) → old.client ≡ Some client →
-      client.parked ≡ None → old.returning ≡ None → 1 ≤ seconds_of old.message → SameBut old mid →
-      mid.client ≡ old.client → GoesBack (holder_at old) result (holder_at mid) → new ≡ come_so_far result mid →
+  lapses_by : (old mid new : Seated B T) (there : Option (Sitting T)) (result : Return) → old.client ≡ there →
+      IsSomeAnd there (λ (client : Sitting T). client.parked ≡ None) → old.returning ≡ None →
+      1 ≤ seconds_of old.message → SameBut old mid → mid.client ≡ old.client →
+      GoesBack (holder_at old) result (holder_at mid) → new ≡ come_so_far result mid →
       KeepsPlace incoming outgoing closes old new
-  lapses old mid new client result there unparked returning limited same still goes is =
+  lapses_by old mid new None result there unparked returning limited same still goes is = absurd unparked
+  lapses_by old mid new (Some client) result there unparked returning limited same still goes is =
       returns old mid new (Some client) result None there returning same still is
       (λ standing stood. late_begins standing (view_of old) (view_of (come_so_far result mid)) client old.message
       mid.message result unparked limited goes (same.1, same.2, same.3, same.5)
       (ap (λ (f : Fates). fates_by f result) same.4) stood)
+
+  pub lapses : (old mid new : Seated B T) (result : Return) → MayLapse old → SameBut old mid →
+      mid.client ≡ old.client → GoesBack (holder_at old) result (holder_at mid) → new ≡ come_so_far result mid →
+      KeepsPlace incoming outgoing closes old new
+  lapses old mid new result may same still goes is =
+      lapses_by old mid new old.client result refl may.0 may.1 may.2 same still goes is
 
   -- The return of what is held at the place went on.
   pub gives_back_on : (old mid new : Seated B T) (result : Return) (wait : SendWait) → old.returning ≡ Some wait →

@@ -21,7 +21,7 @@ use std::marker::Model;
 use std::sync::Wait;
 use sysv_parking::Key;
 use sysv_seats::{
-    Client, Keeper, Limit, NonBlocking, Return, ServiceHandler, Tools, Waiting, ZERO, Zero,
+    Client, Keeper, Limit, NonBlocking, Return, Returns, ServiceHandler, Tools, Waiting, ZERO, Zero,
     each_return_can_be_left,
 };
 use sysv_service::{Pass, SendWait, Service};
@@ -55,6 +55,8 @@ pub(crate) struct Place<'a, R: Wait, T: NonBlocking> {
     memory: Option<Global>,
     /// Whether the place is counted as one that holds a message, or whose client waits for one.
     holds: bool,
+    /// Whether the place is counted as one that holds a message.
+    counted: bool,
     /// Whether a message that the last client held is given back.
     returns: bool,
     /// How long the message that is held may be held.
@@ -126,6 +128,7 @@ impl<'a, R: Wait, T: NonBlocking> Place<'a, R, T> {
             newest,
             memory,
             holds: false,
+            counted: false,
             returns: false,
             hold_time: HoldTime::new(),
         }
@@ -155,6 +158,7 @@ impl<'a, R: Wait, T: NonBlocking> Place<'a, R, T> {
             newest: _,
             memory: _,
             holds: _,
+            counted: _,
             returns: _,
             hold_time: _,
         } = self;
@@ -327,6 +331,14 @@ impl<'a, R: Wait, T: NonBlocking> Place<'a, R, T> {
         has_given_back
     }
 
+    /// Returns what became of messages that were held here and were given back since this was last
+    /// asked.
+    pub(crate) fn take_returns(&mut self) -> Returns
+        ensures { self.new ≡ self.old }
+    {
+        self.handler.take_returns()
+    }
+
     /// Lets the session hold a message, unless too many places hold one.
     fn allow_hold(&mut self, tools: &Tools)
         ensures { self.new ≡ self.old }
@@ -342,10 +354,14 @@ impl<'a, R: Wait, T: NonBlocking> Place<'a, R, T> {
     fn count_hold(&mut self, tools: &mut Tools)
         ensures { self.new ≡ self.old }
     {
-        let holds = self.handler.has_message() || self.awaits_hold();
-        if holds != self.holds {
-            tools.count_hold(holds);
-            self.holds = holds;
+        let (holds, has_message) = (self.awaits_hold(), self.handler.has_message());
+        if (holds || has_message) != self.holds {
+            self.holds = holds || has_message;
+            tools.count_hold(self.holds);
+        }
+        if has_message != self.counted {
+            self.counted = has_message;
+            tools.count_held(has_message);
         }
     }
 

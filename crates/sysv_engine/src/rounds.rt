@@ -261,8 +261,23 @@ impl<'a, 'c, R: Wait> Serving<'a, 'c, R> {
         self.line_up(worker, place);
         self.close_if_over(worker, place);
         self.note_given_back(worker, place);
+        self.tell_held(worker, place);
         if worker.has_client(place) {
             self.await_client(worker, place);
+        }
+    }
+
+    /// Has the number of messages that are held, and of those that were given back, be known.
+    fn tell_held<T: NonBlocking, W: Watch<T>>(&self, worker: &mut Worker<'a, R, T, W>, place: usize)
+        ensures keeps { KeepsAll T.incoming T.outgoing T.closes worker.old.places.items
+            worker.new.places.items }
+        ensures agenda { worker.new.agenda ≡ worker.old.agenda }
+    {
+        if self.server.may_hold() {
+            let returns = worker.take_returns(place);
+            let held = worker.tools.held();
+            self.server
+                .count_held(worker.agenda.number(), held, returns);
         }
     }
 

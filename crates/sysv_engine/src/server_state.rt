@@ -131,6 +131,13 @@ impl ServerState {
         Some((server, rests))
     }
 
+    /// Returns whether sessions may hold messages.
+    pub(crate) fn may_hold(&self) -> bool
+        ensures { result ≡ self.now.holds }
+    {
+        self.holds
+    }
+
     /// Returns the newest version that sessions read.
     pub(crate) fn newest(&self) -> Version
         ensures { result ≡ newest_of self.now.holds }
@@ -268,6 +275,15 @@ impl ServerState {
         }
     }
 
+    /// Sets the number of places of the worker that hold a message, and counts messages that were
+    /// held there and were given back.
+    pub(crate) fn count_held(&self, worker: usize, held: usize, returns: Returns) {
+        if let Some(post) = self.posts.get(worker) {
+            post.counts.set_held(held as u64);
+            post.counts.count_returns(returns);
+        }
+    }
+
     /// Counts messages that moved by calls of the worker.
     pub(crate) fn count(&self, worker: usize, moved: Moved) {
         if let Some(post) = self.posts.get(worker) {
@@ -303,6 +319,9 @@ impl ServerState {
             written: 0,
             lost: 0,
             in_use: 0,
+            held: 0,
+            sent_back: 0,
+            gone: 0,
         };
         for post in &self.posts {
             post.counts.add_all(&mut sum);
