@@ -8,7 +8,7 @@ use std::sync::atomic::{AtomicU64, Ordering};
 use sysv_keys::SLOTS;
 use sysv_parking::{BLOCKS_WORD, WORDS, room_word};
 use sysv_queue::Tally;
-use sysv_seats::{Notification, Returns};
+use sysv_seats::{Notification, Returned};
 
 /// What a worker counts for those who look at the server. The worker alone writes the numbers, once
 /// for all messages that moved one after another to or from one queue.
@@ -183,7 +183,7 @@ impl Counts {
     }
 
     /// Counts messages that were held and were given back.
-    pub(crate) fn count_returns(&self, returns: Returns) -> (Added, Added)
+    pub(crate) fn count_returns(&self, returns: Returned) -> (Added, Added)
         ensures sent { IsCounted self.now.sent_back returns.sent result.0 }
         ensures gone { IsCounted self.now.gone returns.gone result.1 }
     {

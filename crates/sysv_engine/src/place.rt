@@ -21,7 +21,7 @@ use std::marker::Model;
 use std::sync::Wait;
 use sysv_parking::Key;
 use sysv_seats::{
-    Client, Keeper, Limit, NonBlocking, Return, Returns, ServiceHandler, Tools, Waiting, ZERO, Zero,
+    Client, Keeper, Limit, NonBlocking, Return, Returned, ServiceHandler, Tools, Waiting, ZERO, Zero,
     each_return_can_be_left,
 };
 use sysv_service::{Pass, SendWait, Service};
@@ -333,7 +333,7 @@ impl<'a, R: Wait, T: NonBlocking> Place<'a, R, T> {
 
     /// Returns what became of messages that were held here and were given back since this was last
     /// asked.
-    pub(crate) fn take_returns(&mut self) -> Returns
+    pub(crate) fn take_returns(&mut self) -> Returned
         ensures { self.new ≡ self.old }
     {
         self.handler.take_returns()

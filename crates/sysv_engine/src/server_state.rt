@@ -19,6 +19,7 @@ use std::sync::atomic::{AtomicBool, AtomicU64, Ordering};
 use sysv_keys::SLOTS;
 use sysv_parking::{Change, Envelope, WORDS};
 use sysv_queue::Tally;
+use sysv_seats::Returned;
 use sysv_system::{Doorbell, Watched};
 use sysv_wire::Version;
 
@@ -277,7 +278,7 @@ impl ServerState {
 
     /// Sets the number of places of the worker that hold a message, and counts messages that were
     /// held there and were given back.
-    pub(crate) fn count_held(&self, worker: usize, held: usize, returns: Returns) {
+    pub(crate) fn count_held(&self, worker: usize, held: usize, returns: Returned) {
         if let Some(post) = self.posts.get(worker) {
             post.counts.set_held(held as u64);
             post.counts.count_returns(returns);

@@ -15,7 +15,7 @@ use std::alloc::Global;
 use std::collections::VecDeque;
 use std::sync::Wait;
 use sysv_parking::{Agenda, Key};
-use sysv_seats::{Limit, NonBlocking, Returns, Tools};
+use sysv_seats::{Limit, NonBlocking, Returned, Tools};
 use sysv_session::Served;
 
 /// Of this number of messages that have arrived, one goes to another worker first.
@@ -349,14 +349,14 @@ impl<'a, R: Wait, T: NonBlocking, W: Watch<T>> Worker<'a, R, T, W> {
     /// Returns what became of messages that were held at the place and were given back since this was
     /// last asked.
     #[tactic(auto, using(crate::proofs::PlaceLists::keeps_at))]
-    pub(crate) fn take_returns(&mut self, place: usize) -> Returns
+    pub(crate) fn take_returns(&mut self, place: usize) -> Returned
         ensures keeps { KeepsAll T.incoming T.outgoing T.closes self.old.places.items
             self.new.places.items }
         ensures agenda { self.new.agenda ≡ self.old.agenda }
     {
         match self.places.get_mut(place) {
             Some(there) => there.take_returns(),
-            None => Returns::NONE,
+            None => Returned::NONE,
         }
     }
 

@@ -20,6 +20,7 @@ use Rattle.sysv_wire.specs.declared.request.Ask.{Ask}
 use Rattle.sysv_wire.specs.declared.request.Ask.TheVariants.{Hello, Get, Snd, Rcv, Stat, Set, Rm, Row, Hold, Done, Back}
 use Rattle.sysv_service.specs.Told.{TellsRow}
 use Rattle.sysv_wire.specs.declared.reply.Reply.{Reply as Answer}
+use Rattle.sysv_wire.specs.Frames.{op_number}
 use Rattle.sysv_seats.specs.Asked.{Asks, ComesFrom, ReadsReleased}
 use Rattle.sysv_seats.specs.Fates.{EachMessageIsSpentOrHeld, given_by, held_count, returned_by, spent_by}
 use Rattle.sysv_seats.specs.Held.{HoldAsks}
@@ -213,8 +214,12 @@ module _ (may : ℕ → Type 0) (may_leave : Type 0) (version : Version) (cred :
 replied_one : (message : Message) (late : List Answer) (answer : Result ⊤ Errno) →
     1 + length late ≡ length (late_by late (done_reply Three op.Snd content.Snd answer))
     + held_count (kept_by (Some message) (done_reply Three op.Snd content.Snd answer))
-replied_one message late (Ok zero) = omega (arith, length-append late (answer_of content.Snd ∷ []))
-replied_one message late (Err why) = omega (arith, length-append late (answer_of (content.Refused why) ∷ []))
+replied_one message late (Ok zero) =
+    let answer : Answer = record { version = Three; op = op_number op.Snd; result = content.Snd } in
+    omega (arith, length-append late (answer ∷ []))
+replied_one message late (Err why) =
+    let answer : Answer = record { version = Three; op = op_number op.Snd; result = content.Refused why } in
+    omega (arith, length-append late (answer ∷ []))
 
 lapse_one : (message : Message) (late : List Answer) (before : Pass) (outcome : RequestOutcome) (after : Pass) →
     holding.SendsAgain ComesFrom ReadsReleased TellsRow zero_moment ⊤ message before outcome after →

@@ -7,6 +7,7 @@ pub mod Parked
 pub mod Notification
 pub mod InPieces
 pub mod Limits
+pub mod Shares
 pub mod Breaking
 pub mod Untold
 pub mod Memory

@@ -17,7 +17,7 @@ ghost use Rattle.sysv_seats.specs.Replies.{reply as the_reply};
 
 use crate::handler::{ServiceHandler, reply};
 use crate::holding::HeldMessage;
-use crate::returning::send_wait;
+use crate::returning::{Returned, fate_after, send_wait};
 use crate::waiting::Waiting;
 use bitflags::Flags as _;
 use std::alloc::Global;
@@ -41,6 +41,8 @@ pub struct Keeper<'a, C: Clock, R: Wait> {
     pub(crate) memory: Option<Global>,
     /// The number of messages that were held, modulo 2^64.
     pub(crate) taken: u64,
+    /// The numbers of messages that were given back since they were last asked for.
+    pub(crate) returns: Returned,
 }
 
 impl<'a, C: Clock, R: Wait> Keeper<'a, C, R> {
@@ -54,6 +56,7 @@ impl<'a, C: Clock, R: Wait> Keeper<'a, C, R> {
             message: None,
             memory: None,
             taken: 0,
+            returns: Returned::NONE,
         }
     }
 
@@ -67,6 +70,7 @@ impl<'a, C: Clock, R: Wait> Keeper<'a, C, R> {
             message: _,
             memory: _,
             taken: _,
+            returns: _,
         } = self;
         handler.into_pass()
     }
@@ -354,6 +358,7 @@ impl<'a, C: Clock, R: Wait> Keeper<'a, C, R> {
             Progress::Waits(waiting) => Progress::Waits(waiting),
             Progress::Over(outcome) => {
                 self.message = None;
+                self.returns.count(fate_after(&outcome));
                 Progress::Over(back_outcome(version, outcome))
             }
         }

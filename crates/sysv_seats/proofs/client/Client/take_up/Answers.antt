@@ -66,10 +66,10 @@ pub returns-in-Err-2-clause-keeps : goal.returns-in-Err-2-clause-keeps
 returns-in-Err-2-clause-keeps g c = λ late newest start origin sits.
     let reads = subst (λ (s : Sitting g.row.T.Denot). ReadsNext c.args.self.now c.read_next-size.result.0
     c.read_next-size.result.1 c.read_next-size.new.text s) (sym c.self.view_is) c.read_next-size.ensures.takes in
-    let late = subst (λ (e : End). is_early e c.args.is_end ≡ false)
+    let not_early = subst (λ (e : End). is_early e c.args.is_end ≡ false)
     (one_end c.read_next-size.result.1 c.in-Err.why c.in-Err-2.why c.in-Err.is c.in-Err-2.is)
     (sym c.is_early.ensures ∙ c.if-is_early.false) in
     stops_next g.T.NonBlocking.incoming g.T.NonBlocking.outgoing newest start (timed (holder_of c.args.handler.now) late) origin
     c.args.self.now _ c.read_next-size.result.0 c.read_next-size.result.1 c.read_next-size.new.text
     c.requires.free reads sits c.in-Err-2.why c.stop.new.self c.in-Err-2.is
-    (settled_late c.in-Err-2.why _ c.args.is_end late c.requires.end) c.stop.ensures
+    (settled_late c.in-Err-2.why _ c.args.is_end not_early c.requires.end) c.stop.ensures

@@ -1,0 +1,10 @@
+-- A new client.
+use Rattle.std.proofs.Common.{refl}
+use Rattle.sysv_seats.proofs.ClientLemmas.{opened}
+use Rattle.sysv_seats.proofs.client.Client.open.Goals as goal
+
+pub returns-clause-sits : goal.returns-clause-sits
+returns-clause-sits g c = λ pass.
+    opened g.T.NonBlocking.incoming g.T.NonBlocking.outgoing _ c.args.newest pass c.open.ensures.newest
+    c.open.ensures.caller c.open.ensures.tally c.open.ensures.count c.open.ensures.unsent c.new.ensures.items
+    (refl, refl)
