@@ -6,7 +6,7 @@ import struct
 from common import CREAT, GET, HELLO, NOWAIT, RCV, RM, SET, SND, STAT
 
 HOLD, DONE, BACK = 8, 9, 10
-EAGAIN, EINVAL = 11, 22
+EAGAIN, EACCES, EINVAL, EIDRM = 11, 13, 22, 43
 LONGEST = 8192
 
 
@@ -76,6 +76,9 @@ class Holding:
 
     def done(self):
         self.ask(DONE)
+
+    def back(self):
+        self.ask(BACK)
 
     def remove(self, queue):
         self.ask(RM, struct.pack(">i", queue))
