@@ -496,6 +496,7 @@ static void try_back_denied(void)
     struct sysvmsg *owner = sysvmsg_open_as(path, geteuid() + 1, getegid() + 1, 10000);
     struct sysvmsg *holder = sysvmsg_open_holding(path, 10000);
     struct sysvmsg_set set = {geteuid() + 1, getegid() + 1, 0444, 16384};
+    struct sysvmsg_message message;
     struct sysvmsg_stat stat;
     int queue = sysvmsg_get(owner, KEY, SYSVMSG_CREAT | 0666);
     CHECK(holder && send_text(owner, queue, 5, "kept", 10000) == 0);
@@ -507,8 +508,8 @@ static void try_back_denied(void)
     CHECK(sysvmsg_set(owner, queue, &set) == 0 && send_text(owner, queue, 6, "x", 10000) == 0);
     set.mode = 0444;
     CHECK(sysvmsg_set(owner, queue, &set) == 0);
-    CHECK(sysvmsg_hold(holder, queue, &(struct sysvmsg_message){0}, 9, 0, 0, 0) == -1);
-    CHECK(errno == EACCES && sysvmsg_rcv(holder, queue, &(struct sysvmsg_message){0}, 9, 0, 0, 0) == 1);
+    CHECK(sysvmsg_hold(holder, queue, &message, 9, 0, 0, SYSVMSG_NOWAIT) == -1 && errno == EACCES);
+    CHECK(sysvmsg_rcv(holder, queue, &message, 9, 0, 0, SYSVMSG_NOWAIT) == 1);
     sysvmsg_close(holder);
     sysvmsg_close(owner);
 }
