@@ -14,6 +14,9 @@ use Rattle.sysv_thread_laws.specs.Hiring.{all_of, first_pass, Hires, IsRemoval, 
 use Rattle.sysv_thread_laws.specs.PoolWhole.{EveryHiringLeavesThePoolWhole, NoHiringLeavesAGateHeld}
 use Rattle.sysv_thread_laws.specs.AfterStop.{EveryStopEmpties}
 use Rattle.sysv_thread_laws.specs.ParkedOnThreads.{EveryOrderParksRightly}
+use Rattle.sysv_thread_laws.specs.Points.{EachPointParksRightly}
+use Rattle.sysv_model.specs.Turns.{turns_of}
+use Rattle.sysv_objects.specs.LegalOp.{AreLegal}
 use Rattle.sysv_service.specs.Ran.{Pass}
 use Rattle.sysv_thread_laws.specs.Working as working
 use Rattle.sysv_thread_laws.specs.Working.{Works}
@@ -191,8 +194,9 @@ module _ (law : EachSessionMakesCalls zero_moment ⊤) (returning : EachReturnMa
         same = refl;
       }
 
-  pub each_lifetime : EveryHiringObeys → EveryStopRemoves → EveryOrderParksRightly → EachLifetimeIsOneRun
-  each_lifetime obeys stops parks reads blocks gates shifts removed stopped closed counted opened fits hires
+  pub each_lifetime : EveryHiringObeys → EveryStopRemoves → EveryOrderParksRightly → EachPointParksRightly →
+      EachLifetimeIsOneRun
+  each_lifetime obeys stops parks points reads blocks gates shifts removed stopped closed counted opened fits hires
       turns_left =
       let all = in_all reads shifts (first_pass gates) stopped.before hires in
       let stop = stops _ stopped.removed stopped.worn stopped.before stopped.after stopped.stops in
@@ -200,14 +204,17 @@ module _ (law : EachSessionMakesCalls zero_moment ⊤) (returning : EachReturnMa
       subst (λ calls. IsServed 0 blocks counted.all.order (calls ++ stop.0)) all.same
       (obeys 0 blocks 0 gates all.theirs all.left stopped.before stopped.after all.each stop.0 closed opened
       all.hires all.works stop.1 fits counted turns_left) in
+      let legal : AreLegal 0 blocks (turns_of counted.all.order) = counted.all.legal 0 blocks 0 gates opened fits in
       record {
         each = all.done.each;
         made = all.done.made;
         removals = stop.0;
         are_removals = stop.2;
         counted = stop.3;
+        legal = legal;
         served = served;
         parks = parks 0 blocks counted.all.order (all_of all.done.each ++ stop.0) served.run;
+        throughout = points 0 blocks counted.all.order (all_of all.done.each ++ stop.0) legal served.all;
       }
 
   pub each_whole : EveryHiringLeavesThePoolWhole → EveryStopRemoves → EachLifetimeLeavesThePoolWhole
