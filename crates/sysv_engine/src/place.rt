@@ -275,7 +275,8 @@ impl<'a, R: Wait, T: NonBlocking> Place<'a, R, T> {
     {
         match &self.client {
             Some(client) => {
-                client.parked().is_none() && self.returning.is_none() && self.handler.seconds() != 0
+                let parked = client.parked();
+                parked.is_none() && self.returning.is_none() && self.handler.seconds() != 0
             }
             None => false,
         }
