@@ -256,7 +256,8 @@ module _ {T B C : Type 0} (incoming outgoing : T → Option (List ℕ)) (closes 
         stands.5,
         left_as stands.2 stands.1 stands.3 view new has same fated,
         (
-          subst (λ (m : Option Message). WaitsBack stands.3.holder.at (record { at = new.pass; message = m }) wait) still
+          subst (λ (m : Option Message). WaitsBack stands.3.holder.at (record { at = new.pass; message = m }) wait)
+              still
               waits,
           sym held,
         ),
@@ -579,7 +580,8 @@ module _ {T B : Type 0} (incoming outgoing : T → Option (List ℕ)) (closes : 
       closes.breaks client.connection ≡ closes.breaks connection → client.parked ≡ None →
       1 ≤ seconds_of left.holder.message →
       ComesBack left.holder.at left.holder.message result (record { at = new.pass; message = now }) →
-      SameView view new → new.fates ≡ fates_by view.fates result → PlaceIs standing new (Some client) now (wait_in result)
+      SameView view new → new.fates ≡ fates_by view.fates result →
+      PlaceIs standing new (Some client) now (wait_in result)
   late_comes standing view new client now (come.Waits wait) done connection mid left had did is sits still none limited
       came same fated = (
         done,
@@ -670,7 +672,8 @@ module _ {T B : Type 0} (incoming outgoing : T → Option (List ℕ)) (closes : 
       (subst (λ c. PlaceIs standing (view_of old) c old.message old.returning) there stands.1) in
       subst (λ p. Stands incoming outgoing closes gates standing p) (sym is) (
         same.0 ∙ stands.0,
-        subst (λ c. PlaceIs standing (view_of (come_so_far result mid)) c mid.message (wait_in result)) (sym (still ∙ there))
+        subst (λ c. PlaceIs standing (view_of (come_so_far result mid)) c mid.message (wait_in result))
+            (sym (still ∙ there))
             (so_far standing stood),
       )
 

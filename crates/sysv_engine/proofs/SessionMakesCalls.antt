@@ -219,7 +219,8 @@ module _ (may : ℕ → Type 0) (may_leave : Type 0) (any : EachRunIsAtAnyMoment
     rests : AllByRecursion Resting calls
     works : (start : Pass) (made : List Called) → Works start made old → Works start (made ++ calls) new
     asks : (made : List Called) →
-        holding.AsksForWriting MakesCall ReadsBeside ShowsBeside cred id (log old made) granted (log new (made ++ calls))
+        holding.AsksForWriting MakesCall ReadsBeside ShowsBeside cred id (log old made) granted
+        (log new (made ++ calls))
 
   asks_makes : (id : ℤ) (old : Pass) (granted : Result ⊤ Errno) (new : Pass) → AsksForWriting cred id old granted new →
       AsksMakes id old granted new
@@ -292,7 +293,8 @@ module _ (may : ℕ → Type 0) (may_leave : Type 0) (any : EachRunIsAtAnyMoment
     asks = λ made. inl (none, same_held old new made same, told, empty);
   }
   hold_makes Back text old outcome given new (inr (message, is, came, sends, told, held, empty)) =
-      let one = makes may may_leave any unstamped Three message.cred (Snd message.id message.mtype no_flags) message.text
+      let one =
+      makes may may_leave any unstamped Three message.cred (Snd message.id message.mtype no_flags) message.text
       old.at came [] new.at (sends, refl) in
       record {
         calls = one.calls;
@@ -389,7 +391,8 @@ module _ (may : ℕ → Type 0) (may_leave : Type 0) (any : EachRunIsAtAnyMoment
   timed_makes cred call old new (mid, lapsed, asked, late) =
       let request = call.request in
       let one = lapses_make may any unstamped old lapsed.0 mid lapsed.1 in
-      let two = hold_makes may may_leave any unstamped request.version cred request.ask call.text mid.holder call.outcome
+      let two =
+      hold_makes may may_leave any unstamped request.version cred request.ask call.text mid.holder call.outcome
       call.given new.holder asked in
       record {
         calls = one.calls ++ two.calls;
@@ -447,7 +450,8 @@ module _ (may : ℕ → Type 0) (may_leave : Type 0) (any : EachRunIsAtAnyMoment
   each_session newest start old new made served left rest taken more works (settled, inl stays, lapsed) =
       let last = lapses_make may any unstamped settled lapsed.0 new lapsed.1 in (
         last.calls,
-        last.works start made (subst (Works start made) (sym (ap (λ (t : Timed Pass). t.holder.at) stays.handler)) works),
+        last.works start made
+            (subst (Works start made) (sym (ap (λ (t : Timed Pass). t.holder.at) stays.handler)) works),
         (
           timed_in made settled,
           inl (record {

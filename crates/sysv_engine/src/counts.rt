@@ -187,7 +187,10 @@ impl Counts {
         ensures sent { IsCounted self.now.sent_back returns.sent result.0 }
         ensures gone { IsCounted self.now.gone returns.gone result.1 }
     {
-        (self.sent_back.add(returns.sent), self.gone.add(returns.gone))
+        (
+            self.sent_back.add(returns.sent),
+            self.gone.add(returns.gone),
+        )
     }
 
     /// Counts messages that moved.

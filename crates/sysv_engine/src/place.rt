@@ -21,8 +21,8 @@ use std::marker::Model;
 use std::sync::Wait;
 use sysv_parking::Key;
 use sysv_seats::{
-    Client, Keeper, Limit, NonBlocking, Return, Returned, ServiceHandler, Tools, Waiting, ZERO, Zero,
-    each_return_can_be_left,
+    Client, Keeper, Limit, NonBlocking, Return, Returned, ServiceHandler, Tools, Waiting, ZERO,
+    Zero, each_return_can_be_left,
 };
 use sysv_service::{Pass, SendWait, Service};
 use sysv_session::{End, Served};

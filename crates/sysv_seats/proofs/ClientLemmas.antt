@@ -337,20 +337,21 @@ module _ {T : Type 0} (incoming outgoing : T → Option (List ℕ)) where
   -- The connection takes no more.
   pub stops_writing : (client : Sitting T) → IsFree client → client.dialogue.unsent.bytes ≢ [] →
       Keeps incoming outgoing client (stopped_for Write client)
-  stops_writing client free some = λ here late newest start origin sits. let now : Timed Pass = timed here late in record {
-    sent = sits.sent;
-    wrote = sits.wrote;
-    at = let ready = is_ready newest start origin client now sits.sent free sits.at in
-        is_stopped newest start origin (stopped_for Write client) now sits.sent Write free.0 (
-          prepend_known client.input (incoming client.connection),
-          behind client.input (incoming client.connection),
-          ready.0,
-          ready.1,
-          stops_write newest (holds_with zero_moment ⊤) SLOTS client.dialogue (begun_with start) ready.0
-              (incoming origin) (prepend_known client.input (incoming client.connection)) sits.sent
-              (some_bytes client.dialogue.unsent.bytes some) ready.2,
-        );
-  }
+  stops_writing client free some = λ here late newest start origin sits.
+      let now : Timed Pass = timed here late in record {
+        sent = sits.sent;
+        wrote = sits.wrote;
+        at = let ready = is_ready newest start origin client now sits.sent free sits.at in
+            is_stopped newest start origin (stopped_for Write client) now sits.sent Write free.0 (
+              prepend_known client.input (incoming client.connection),
+              behind client.input (incoming client.connection),
+              ready.0,
+              ready.1,
+              stops_write newest (holds_with zero_moment ⊤) SLOTS client.dialogue (begun_with start) ready.0
+                  (incoming origin) (prepend_known client.input (incoming client.connection)) sits.sent
+                  (some_bytes client.dialogue.unsent.bytes some) ready.2,
+            );
+      }
 
   -- Bytes were read and appended to the input.
   arrives_more : (client : Sitting T) (connection : T) (bytes : List ℕ) → IsFree client →
@@ -358,37 +359,39 @@ module _ {T : Type 0} (incoming outgoing : T → Option (List ℕ)) where
       (incoming client.connection ≡ None → incoming connection ≡ None) →
       outgoing connection ≡ outgoing client.connection →
       Keeps incoming outgoing client (with_input (client.input ++ bytes) (on connection client))
-  arrives_more client connection bytes free took none same = λ here late newest start origin sits. let now : Timed Pass = timed here late in record {
-    sent = sits.sent;
-    wrote = subst (λ (o : Option (List ℕ)). Appends (outgoing origin) o sits.sent) (sym same) sits.wrote;
-    at = let ready = is_ready newest start origin client now sits.sent free sits.at in
-        is_at newest start origin (with_input (client.input ++ bytes) (on connection client)) now sits.sent free (
-          ready.0,
-          ready.1,
-          subst (λ (o : Option (List ℕ)). Stands newest (holds_with zero_moment ⊤) SLOTS client.dialogue
-              (begun_with start) ready.0 (incoming origin) o sits.sent)
-              (same_unread client.input bytes (incoming client.connection) (incoming connection) took none) ready.2,
-        );
-  }
+  arrives_more client connection bytes free took none same = λ here late newest start origin sits.
+      let now : Timed Pass = timed here late in record {
+        sent = sits.sent;
+        wrote = subst (λ (o : Option (List ℕ)). Appends (outgoing origin) o sits.sent) (sym same) sits.wrote;
+        at = let ready = is_ready newest start origin client now sits.sent free sits.at in
+            is_at newest start origin (with_input (client.input ++ bytes) (on connection client)) now sits.sent free (
+              ready.0,
+              ready.1,
+              subst (λ (o : Option (List ℕ)). Stands newest (holds_with zero_moment ⊤) SLOTS client.dialogue
+                  (begun_with start) ready.0 (incoming origin) o sits.sent)
+                  (same_unread client.input bytes (incoming client.connection) (incoming connection) took none) ready.2,
+            );
+      }
 
   -- Bytes were read, and memory for them was refused.
   arrives_not : (client : Sitting T) (connection : T) (bytes : List ℕ) → IsFree client →
       Consumes (incoming client.connection) (incoming connection) bytes →
       outgoing connection ≡ outgoing client.connection →
       Keeps incoming outgoing client (stopped_for NoMemory (on connection client))
-  arrives_not client connection bytes free took same = λ here late newest start origin sits. let now : Timed Pass = timed here late in record {
-    sent = sits.sent;
-    wrote = subst (λ (o : Option (List ℕ)). Appends (outgoing origin) o sits.sent) (sym same) sits.wrote;
-    at = let ready = is_ready newest start origin client now sits.sent free sits.at in
-        is_stopped newest start origin (stopped_for NoMemory (on connection client)) now sits.sent NoMemory free.0 (
-          prepend_known client.input (incoming client.connection),
-          behind_read client.input bytes (incoming client.connection) (incoming connection) took,
-          ready.0,
-          ready.1,
-          stops_memory newest (holds_with zero_moment ⊤) SLOTS client.dialogue (begun_with start) ready.0
-              (incoming origin) (prepend_known client.input (incoming client.connection)) sits.sent ready.2,
-        );
-  }
+  arrives_not client connection bytes free took same = λ here late newest start origin sits.
+      let now : Timed Pass = timed here late in record {
+        sent = sits.sent;
+        wrote = subst (λ (o : Option (List ℕ)). Appends (outgoing origin) o sits.sent) (sym same) sits.wrote;
+        at = let ready = is_ready newest start origin client now sits.sent free sits.at in
+            is_stopped newest start origin (stopped_for NoMemory (on connection client)) now sits.sent NoMemory free.0 (
+              prepend_known client.input (incoming client.connection),
+              behind_read client.input bytes (incoming client.connection) (incoming connection) took,
+              ready.0,
+              ready.1,
+              stops_memory newest (holds_with zero_moment ⊤) SLOTS client.dialogue (begun_with start) ready.0
+                  (incoming origin) (prepend_known client.input (incoming client.connection)) sits.sent ready.2,
+            );
+      }
 
   -- Bytes were read.
   pub arrives : (client new : Sitting T) (connection : T) (bytes : List ℕ) → IsFree client →
@@ -500,14 +503,15 @@ module _ {T : Type 0} (incoming outgoing : T → Option (List ℕ)) where
 
   pub gives_up : (client : Sitting T) (input : List ℕ) (parked : Parked) → client.parked ≡ Some parked →
       Keeps incoming outgoing client (left_with input client)
-  gives_up client input parked is = λ here late newest start origin sits. let now : Timed Pass = timed here late in record {
-    sent = sits.sent;
-    wrote = sits.wrote;
-    at = left_at newest start origin client input now sits.sent parked client.stopped
-        (subst (λ (p : Option Parked). IsAt incoming outgoing newest start origin client now sits.sent p
-        client.stopped) is
-        sits.at);
-  }
+  gives_up client input parked is = λ here late newest start origin sits.
+      let now : Timed Pass = timed here late in record {
+        sent = sits.sent;
+        wrote = sits.wrote;
+        at = left_at newest start origin client input now sits.sent parked client.stopped
+            (subst (λ (p : Option Parked). IsAt incoming outgoing newest start origin client now sits.sent p
+            client.stopped) is
+            sits.at);
+      }
 
   -- The connection took or gave nothing.
   turned_at : (newest : Version) (start : Pass) (origin : T) (client : Sitting T) (connection : T)
@@ -543,11 +547,13 @@ module _ {T : Type 0} (incoming outgoing : T → Option (List ℕ)) where
   pub turned : (client : Sitting T) (connection : T) → incoming connection ≡ incoming client.connection →
       KeepsBytes (outgoing client.connection) (outgoing connection) →
       Keeps incoming outgoing client (on connection client)
-  turned client connection same kept = λ here late newest start origin sits. let now : Timed Pass = timed here late in record {
-    sent = sits.sent;
-    wrote = Appends-kept (outgoing origin) (outgoing client.connection) (outgoing connection) sits.sent sits.wrote kept;
-    at = turned_at newest start origin client connection now sits.sent client.parked client.stopped same sits.at;
-  }
+  turned client connection same kept = λ here late newest start origin sits.
+      let now : Timed Pass = timed here late in record {
+        sent = sits.sent;
+        wrote =
+            Appends-kept (outgoing origin) (outgoing client.connection) (outgoing connection) sits.sent sits.wrote kept;
+        at = turned_at newest start origin client connection now sits.sent client.parked client.stopped same sits.at;
+      }
 
   -- A read returned nothing.
   pub unread_still : (client : Sitting T) (connection : T) →
@@ -671,13 +677,14 @@ module _ {T : Type 0} (incoming outgoing : T → Option (List ℕ)) where
       incoming connection ≡ incoming client.connection →
       Appends (outgoing client.connection) (outgoing connection) (take n client.dialogue.unsent.bytes) →
       Keeps incoming outgoing client (with_sent connection n client)
-  drained client connection n fits same wrote = λ here late newest start origin sits. let now : Timed Pass = timed here late in record {
-    sent = sits.sent ++ take n client.dialogue.unsent.bytes;
-    wrote = Appends-trans (outgoing origin) (outgoing client.connection) (outgoing connection) sits.sent
-        (take n client.dialogue.unsent.bytes) sits.wrote wrote;
-    at = drained_at newest start origin client connection n now sits.sent client.parked client.stopped fits same
-        sits.at;
-  }
+  drained client connection n fits same wrote = λ here late newest start origin sits.
+      let now : Timed Pass = timed here late in record {
+        sent = sits.sent ++ take n client.dialogue.unsent.bytes;
+        wrote = Appends-trans (outgoing origin) (outgoing client.connection) (outgoing connection) sits.sent
+            (take n client.dialogue.unsent.bytes) sits.wrote wrote;
+        at = drained_at newest start origin client connection n now sits.sent client.parked client.stopped fits same
+            sits.at;
+      }
 
   abbrev pub with_dialogue : T → Dialogue → Sitting T → Sitting T
   with_dialogue connection dialogue client = record {

@@ -429,7 +429,8 @@ module _ {T : Type 0} (incoming outgoing : T → Option (List ℕ)) where
 
   -- ---- a request has an outcome, or waits
 
-  module _ (newest : Version) (start : Pass) (before : Timed Pass) (now : Holder Pass) (origin : T) (old new : Sitting T)
+  module _ (newest : Version) (start : Pass) (before : Timed Pass) (now : Holder Pass) (origin : T)
+      (old new : Sitting T)
       (cred : Cred) (request : Request)
       (text : List ℕ) (size : ℕ) (asked : HasAsked incoming outgoing newest start origin old cred request text size
       before)

@@ -130,7 +130,8 @@ module _ (may : ℕ → Type 0) (may_leave : Type 0) (version : Version) (cred :
   back old outcome new message came is told held neither counts =
       let kept : new.message ≡ kept_by (Some message) came =
       held ∙ ap (λ (h : Option Message). kept_by h came) is in
-      let returned : returned_by Back outcome old.message ≡ returned_by Back (back_outcome version came) (Some message) =
+      let returned : returned_by Back outcome old.message
+      ≡ returned_by Back (back_outcome version came) (Some message) =
       ap₂ (returned_by Back) told is in
       omega (
         arith,

@@ -83,7 +83,9 @@ impl<'a, C: Clock, R: Wait> Keeper<'a, C, R> {
     }
 
     /// Returns the number of messages that were held so far, modulo 2^64.
-    pub fn taken(&self) -> u64 {
+    pub fn taken(&self) -> u64
+        ensures { result ≡ self.now.taken }
+    {
         self.taken
     }
 

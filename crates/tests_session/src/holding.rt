@@ -8,8 +8,8 @@ use std::alloc::Global;
 use std::process::Abort;
 use std::sync::Wait;
 use sysv_seats::{
-    Client, Fate, Keeper, MemoryStream, Notification, Return, Returned, ServiceHandler, Tools, ZERO,
-    Zero,
+    Client, Fate, Keeper, MemoryStream, Notification, Return, Returned, ServiceHandler, Tools,
+    ZERO, Zero,
 };
 use sysv_session::End;
 use sysv_wire::Version;
@@ -243,7 +243,15 @@ fn a_message_is_held_for_its_seconds(rt: HostRuntime) {
     let mut tools = tools(&rt, alloc);
     handler.set_memory(Some(alloc));
     assert_is(&rt, (handler.taken(), handler.seconds()), (0, 0));
-    serve(&rt, alloc, &mut handler, &mut tools, TIMED, 4, &SPENT[..HELD]);
+    serve(
+        &rt,
+        alloc,
+        &mut handler,
+        &mut tools,
+        TIMED,
+        4,
+        &SPENT[..HELD],
+    );
     assert_is(&rt, (handler.taken(), handler.seconds()), (1, 30));
     let came = given_back(&mut handler, &mut tools);
     assert_that(&rt, matches!(came, Return::Over(Fate::Sent)));

@@ -33,7 +33,8 @@ returns-in-Ok-Hello-clause-keeps g c = λ late newest start origin sits.
     } in s) c.greet.new.self)
     (sym (drop-drop c.read_next-size.result.0 c.self.inside.start c.self.inside.input.items))
     c.greet.ensures.greets in
-    greets_next g.T.NonBlocking.incoming g.T.NonBlocking.outgoing newest start (timed (holder_of c.args.handler.now) late) origin
+    greets_next g.T.NonBlocking.incoming g.T.NonBlocking.outgoing newest start
+    (timed (holder_of c.args.handler.now) late) origin
     c.args.self.now _
     c.read_next-size.result.0 c.read_next-size.result.1 c.read_next-size.new.text c.requires.free reads sits
     c.in-Ok-Hello.version c.greet.new.self is greets
@@ -48,7 +49,8 @@ returns-in-Ok-Request-clause-keeps g c = λ late newest start origin sits.
     origin s
     c.in-Ok-Request.cred c.in-Ok-Request.request c.read_next-size.new.text c.read_next-size.result.0
     (timed (holder_of c.args.handler.now) late)) (sym c.self.view_is)
-    (asks_next g.T.NonBlocking.incoming g.T.NonBlocking.outgoing newest start (timed (holder_of c.args.handler.now) late) origin
+    (asks_next g.T.NonBlocking.incoming g.T.NonBlocking.outgoing newest start
+    (timed (holder_of c.args.handler.now) late) origin
     c.args.self.now
     c.read_next-size.new.self c.read_next-size.result.0 c.read_next-size.result.1 c.read_next-size.new.text
     c.requires.free c.read_next-size.ensures.takes sits c.in-Ok-Request.cred c.in-Ok-Request.request is))
@@ -69,7 +71,8 @@ returns-in-Err-2-clause-keeps g c = λ late newest start origin sits.
     let not_early = subst (λ (e : End). is_early e c.args.is_end ≡ false)
     (one_end c.read_next-size.result.1 c.in-Err.why c.in-Err-2.why c.in-Err.is c.in-Err-2.is)
     (sym c.is_early.ensures ∙ c.if-is_early.false) in
-    stops_next g.T.NonBlocking.incoming g.T.NonBlocking.outgoing newest start (timed (holder_of c.args.handler.now) late) origin
+    stops_next g.T.NonBlocking.incoming g.T.NonBlocking.outgoing newest start
+    (timed (holder_of c.args.handler.now) late) origin
     c.args.self.now _ c.read_next-size.result.0 c.read_next-size.result.1 c.read_next-size.new.text
     c.requires.free reads sits c.in-Err-2.why c.stop.new.self c.in-Err-2.is
     (settled_late c.in-Err-2.why _ c.args.is_end not_early c.requires.end) c.stop.ensures
