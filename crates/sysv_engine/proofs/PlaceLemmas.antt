@@ -94,7 +94,7 @@ module _ {T B C : Type 0} (incoming outgoing : T → Option (List ℕ)) (closes 
     refl,
     stands.0,
     same_view view (since view.pass [] view) (refl, refl, refl, refl) refl refl,
-    sits (is_some returning) (ap (is_some {A = SendWait}) stands.1),
+    sits (is_some returning) (ap (λ (r : Option SendWait). is_some r) stands.1),
     subst (λ (r : Option SendWait). LapsesAt incoming outgoing closes (empty_handed view.pass) r
         (empty_handed view.pass)) (sym stands.1) refl,
   )
@@ -415,6 +415,23 @@ module _ {T B : Type 0} (incoming outgoing : T → Option (List ℕ)) (closes : 
             (stayed standing (view_of old) client client' old.message old.returning keeps still unparked stood)))),
       )
 
+  -- The same, of a place whose fields say what it was.
+  pub stays_as : (seen old : Seated B T) (client client' : Sitting T) → seen ≡ old → seen.client ≡ Some client →
+      Keeps incoming outgoing client client' →
+      closes.breaks client'.connection ≡ closes.breaks client.connection →
+      (client.parked ≡ None → client'.parked ≡ None) →
+      KeepsPlace incoming outgoing closes old (record seen { client = Some client' })
+  stays_as seen old client client' is held keeps still unparked =
+      let new : Seated B T = record seen { client = Some client' } in
+      keeps_from seen old new is
+      (stays_on seen new client client' held refl (refl, refl, refl, refl, refl, refl) refl refl refl keeps still
+      unparked)
+
+  -- No send waits.
+  pub none_waits : (returning : Option SendWait) (b : Bool) → b ≡ is_some returning → b ≡ false → returning ≡ None
+  none_waits None b is no = refl
+  none_waits (Some wait) b is no = absurd (cc (sym is ∙ no))
+
   -- A vacant place was given to the client of a connection.
   pub takes : (old new : Seated B T) (connection : T) (client : Sitting T) → old.client ≡ None → old.message ≡ None →
       new ≡ taken_by client old → client.connection ≡ connection →
@@ -516,7 +533,10 @@ module _ {T B : Type 0} (incoming outgoing : T → Option (List ℕ)) (closes : 
       PlaceIs standing view (Some client) message None
   left_lapse law standing view client message None stood = stood
   left_lapse law standing view client message (Some wait)
-      (done, connection, mid, left, had, did, is, sits, limited, waits, same) =
+      (done, connection, mid, left, had, did, is, sits, at) =
+      let limited = at.0 in
+      let waits = at.1 in
+      let same = at.2 in
       let now : Holder Pass = record { at = view.pass; message = message } in
       let next : Timed Pass = timed now left.late in
       let held : left.holder.message ≡ Some waits.0 = sym same ∙ waits.1 in
@@ -653,11 +673,11 @@ module _ {T B : Type 0} (incoming outgoing : T → Option (List ℕ)) (closes : 
       continues incoming outgoing closes (SitsOn incoming outgoing closes) standing view new message now wait result
       goes same fated stood
   goes_back_at standing view new (Some client) message now wait result goes same fated
-      (done, connection, mid, left, had, did, is, sits, limited, waits, held) =
+      (done, connection, mid, left, had, did, is, sits, at) =
       late_comes standing view new client now result done connection mid left had did is sits.0 sits.1 (sits.2 refl)
-      limited
-      (subst (λ (m : Option Message). ComesBack left.holder.at m result (record { at = new.pass; message = now })) held
-      (goes left.holder.at waits)) same fated
+      at.0
+      (subst (λ (m : Option Message). ComesBack left.holder.at m result (record { at = new.pass; message = now })) at.2
+      (goes left.holder.at at.1)) same fated
 
   -- The return of what is held at the place has come so far, from what it was.
   returns : (old mid new : Seated B T) (client : Option (Sitting T)) (result : Return) (waits : Option SendWait) →

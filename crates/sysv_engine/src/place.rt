@@ -411,18 +411,20 @@ impl<'a, R: Wait, T: NonBlocking> Place<'a, R, T> {
         let Some(client) = &mut self.client else {
             return;
         };
-        if !watch.add(client.connection(), place) {
-            client.cut_off();
+        if watch.add(client.connection(), place) {
+            return;
         }
+        client.cut_off();
     }
 
     /// Learns what a watch reports.
     pub(crate) fn note(&mut self, ready: &Ready)
         ensures keeps { KeepsPlace T.incoming T.outgoing T.closes self.old self.new }
     {
-        if let Some(client) = &mut self.client {
-            learn(client, ready);
-        }
+        let Some(client) = &mut self.client else {
+            return;
+        };
+        learn(client, ready);
     }
 
     /// Takes up and answers a share of the requests that have arrived.
@@ -463,8 +465,9 @@ impl<'a, R: Wait, T: NonBlocking> Place<'a, R, T> {
         ensures keeps { KeepsPlace T.incoming T.outgoing T.closes self.old self.new }
     {
         if self.returning.is_some() {
-            self.go_on_returning(tools);
-        } else if let Some(client) = &mut self.client {
+            return self.go_on_returning(tools);
+        }
+        if let Some(client) = &mut self.client {
             client.go_on(&mut self.handler, tools);
         }
     }
@@ -473,9 +476,10 @@ impl<'a, R: Wait, T: NonBlocking> Place<'a, R, T> {
     pub(crate) fn drain(&mut self)
         ensures keeps { KeepsPlace T.incoming T.outgoing T.closes self.old self.new }
     {
-        if let Some(client) = &mut self.client {
-            client.drain();
-        }
+        let Some(client) = &mut self.client else {
+            return;
+        };
+        client.drain();
     }
 
     /// Ends the client because of this limit, if it may be cut off under it.

@@ -36,3 +36,6 @@ returns g c =
     c.count.ensures.sums
     c.count.ensures.refused c.close-served.ensures.over (c.close-served.ensures.cause may)) in
     record { keeps = λ gates standing stands. closed gates standing (leave.ensures.keeps gates standing stands) }
+
+pub returns-in_err-client : goal.returns-in_err-client
+returns-in_err-client g c = ?

@@ -2,5 +2,5 @@
 use Rattle.sysv_engine.proofs.PlaceLemmas.{keeps_from, leaves_lapse}
 use Rattle.sysv_engine.proofs.place.Place.leave_return.Goals as goal
 
-pub returns-then : goal.returns-then
-returns-then g c = ?
+pub returns-then-is_some-clause-keeps : goal.returns-then-is_some-clause-keeps
+returns-then-is_some-clause-keeps g c = ?

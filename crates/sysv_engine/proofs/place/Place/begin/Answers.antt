@@ -1,0 +1,11 @@
+-- A client whose connection is not watched is cut off. No call is made.
+use Rattle.sysv_engine.proofs.PlaceLemmas.{stays_as}
+use Rattle.sysv_engine.proofs.place.Place.begin.Goals as goal
+
+pub returns : goal.returns
+returns g c =
+    let t = g.T.NonBlocking in
+    record {
+      keeps = stays_as t.incoming t.outgoing t.closes _ c.args.self.now c.in-Some.client c.cut_off.new.self
+          c.self.view_is c.in-Some.is c.cut_off.ensures.keeps c.cut_off.ensures.breaks c.cut_off.ensures.unparked;
+    }
