@@ -11,5 +11,6 @@ returns g c =
           c.in-Some.is
           (λ now late newest start origin sits.
           c.cut.ensures.keeps now late newest start origin (c.drain.ensures.keeps now late newest start origin sits))
-          (c.cut.ensures.breaks ∙ c.drain.ensures.breaks) (λ none. c.cut.ensures.unparked (c.drain.ensures.unparked none));
+          (c.cut.ensures.breaks ∙ c.drain.ensures.breaks)
+          (λ none. c.cut.ensures.unparked (c.drain.ensures.unparked none));
     }
