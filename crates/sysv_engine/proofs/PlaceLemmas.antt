@@ -429,8 +429,8 @@ module _ {T B : Type 0} (incoming outgoing : T → Option (List ℕ)) (closes : 
 
   -- No send waits.
   pub none_waits : (returning : Option SendWait) (b : Bool) → b ≡ is_some returning → b ≡ false → returning ≡ None
-  none_waits None b is no = refl
-  none_waits (Some wait) b is no = absurd (cc (sym is ∙ no))
+  none_waits None b is none = refl
+  none_waits (Some wait) b is none = absurd (cc (sym is ∙ none))
 
   -- A vacant place was given to the client of a connection.
   pub takes : (old new : Seated B T) (connection : T) (client : Sitting T) → old.client ≡ None → old.message ≡ None →

@@ -1,9 +1,9 @@
 -- A client that may be closed is closed, and its session is counted.
-use Rattle.std.proofs.Common.{◌≡◌, ◌∙◌, None, Option, Some, ap, subst, sym, true}
+use Rattle.std.proofs.Common.{◌≡◌, ◌∙◌, None, Option, Some, ap, refl, subst, sym, true}
 use Rattle.std.specs.Prelude.{IfSome}
 use Rattle.sysv_seats.specs.Sits.{Sitting, is_finished}
 use Rattle.sysv_engine.specs.Places.{Seated}
-use Rattle.sysv_engine.proofs.PlaceLemmas.{closed_at, keeps_from}
+use Rattle.sysv_engine.proofs.PlaceLemmas.{closed_at, keeps_from, keeps_round}
 use Rattle.sysv_engine.proofs.place.Place.close.Goals as goal
 
 pub returns : goal.returns
@@ -37,5 +37,27 @@ returns g c =
     c.count.ensures.refused c.close-served.ensures.over (c.close-served.ensures.cause may)) in
     record { keeps = λ gates standing stands. closed gates standing (leave.ensures.keeps gates standing stands) }
 
+-- There was no client.
 pub returns-in_err-client : goal.returns-in_err-client
-returns-in_err-client g c = ?
+returns-in_err-client g c =
+    let t = g.T.NonBlocking in
+    let S : Type 0 = Seated g.row.T-Book.Denot g.row.T.Denot in
+    let leave = c.leave_return in
+    let was = c.self.inside in
+    let gone : c.take.new.self ≡ was.client = cc in
+    let same = ap (λ (client : Option (Sitting g.row.T.Denot)). let place : S = record {
+      gates = was.handler.handler.service.now;
+      pass = was.handler.handler.pass;
+      newest = was.newest;
+      sums = was.sums;
+      refused = was.refused;
+      fates = was.fates;
+      book = was.book;
+      client = client;
+      message = was.handler.message;
+      returning = was.returning;
+    } in place) gone ∙ c.self.view_is in
+    record {
+      keeps = keeps_round t.incoming t.outgoing t.closes c.args.self.now c.args.self.now leave.new.self _ refl
+          leave.ensures.keeps same;
+    }

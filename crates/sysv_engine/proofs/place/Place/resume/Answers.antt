@@ -5,12 +5,7 @@ use Rattle.sysv_engine.proofs.PlaceLemmas.{goes_on, keeps_from, none_waits}
 use Rattle.sysv_engine.proofs.place.Place.resume.Goals as goal
 
 pub returns-then-is_some : goal.returns-then-is_some
-returns-then-is_some g c =
-    let t = g.T.NonBlocking in
-    record {
-      keeps = keeps_from t.incoming t.outgoing t.closes _ c.args.self.now c.go_on_returning.new.self c.self.view_is
-          c.go_on_returning.ensures.keeps;
-    }
+returns-then-is_some g c = record { keeps = c.go_on_returning.ensures.keeps }
 
 pub returns-in-Some : goal.returns-in-Some
 returns-in-Some g c =
