@@ -13,6 +13,7 @@ use Rattle.sysv_seats.specs.declared.returning.Fate.{Fate}
 use Rattle.sysv_seats.specs.declared.returning.Return.{Return}
 use Rattle.sysv_seats.specs.declared.returning.Return.TheVariants as come
 use Rattle.sysv_seats.specs.Breaking.{MayEnd, MayTell}
+use Rattle.sysv_seats.specs.Said.{EndsAsSaid, IsAsSaid, KeepsAsSaid, TellsAsSaid}
 use Rattle.sysv_seats.specs.GivingBack.{ComesBack, GoesBack, GoesBackOn, GivesBack, IsReturn, WaitsBack, fate_of}
 use Rattle.sysv_seats.specs.Holding.{Holder, Message, empty_handed}
 use Rattle.sysv_seats.specs.Sits.{IsBehind, IsOver, KeepsWith, Sits, Sitting}
@@ -83,6 +84,7 @@ module _ {T B C : Type 0} (incoming outgoing : T → Option (List ℕ)) (closes 
     pub behind : IsBehind rest kept
     pub closed : closes.leaves book kept more book'
     pub caused : MayTell (closes.breaks connection) told
+    pub said : TellsAsSaid closes connection told
 
   leaves : (newest : Version) (connection : T) (start : Pass) (sums : Sums) (refused : ℕ) (book : B)
       (told : Option Served) (after : Holder Pass) (sums' : Sums) (refused' : ℕ) (book' : B) →
@@ -103,7 +105,7 @@ module _ {T B C : Type 0} (incoming outgoing : T → Option (List ℕ)) (closes 
       reports = refl;
       returns = refl;
       dialogues = done.dialogues;
-      on = (refl, refl, done.caused);
+      on = (refl, refl, done.caused, done.said);
       closed = (done.kept, done.behind, done.closed);
     };
     adds = adds;
@@ -290,9 +292,9 @@ module _ {T B : Type 0} (incoming outgoing : T → Option (List ℕ)) (closes : 
   pub goes_on : (old new : Seated B T) (client client' : Sitting T) → old.client ≡ Some client →
       new.client ≡ Some client' → SameBut old new → new.returning ≡ old.returning →
       KeepsWith incoming outgoing client (holder_at old) client' (holder_at new) →
-      closes.breaks client'.connection ≡ closes.breaks client.connection →
+      closes.breaks client'.connection ≡ closes.breaks client.connection → KeepsAsSaid closes client client' →
       KeepsPlace incoming outgoing closes old new
-  goes_on old new client client' held holds same waits keeps still = λ gates standing stands.
+  goes_on old new client client' held holds same waits keeps still said = λ gates standing stands.
       let Is = IsPlace incoming outgoing closes (SitsOn incoming outgoing closes) standing in
       let stood : Is (view_of old) (Some client) old.message old.returning =
       subst (λ c. Is (view_of old) c old.message old.returning) held stands.1 in
@@ -302,7 +304,7 @@ module _ {T B : Type 0} (incoming outgoing : T → Option (List ℕ)) (closes : 
         stood.2,
         stood.3,
         stood.4,
-        (keeps old.newest stood.2 stood.1 stood.5.0, still ∙ stood.5.1),
+        (keeps old.newest stood.2 stood.1 stood.5.0, still ∙ stood.5.1, λ none. said (stood.5.2 none)),
         stood.6,
       ) in
       let view : record (view_of old) { pass = new.pass } ≡ view_of new = cc in (
@@ -316,8 +318,9 @@ module _ {T B : Type 0} (incoming outgoing : T → Option (List ℕ)) (closes : 
   pub takes : (old new : Seated B T) (connection : T) (client : Sitting T) → old.client ≡ None → old.message ≡ None →
       new ≡ taken_by client old → client.connection ≡ connection →
       ((pass : Pass) → Sits incoming outgoing old.newest pass connection client (empty_handed pass)) →
+      (closes.said connection ≡ None → IsAsSaid closes client) →
       TakesIn incoming outgoing closes connection old new
-  takes old new connection client none nothing is same sits = λ gates standing stands.
+  takes old new connection client none nothing is same sits said = λ gates standing stands.
       let Is = IsPlace incoming outgoing closes (SitsOn incoming outgoing closes) in
       let vacant : Is standing (view_of old) None None old.returning =
       subst (λ m. Is standing (view_of old) None m old.returning) nothing
@@ -326,7 +329,7 @@ module _ {T B : Type 0} (incoming outgoing : T → Option (List ℕ)) (closes : 
         stands.0,
         subst (λ m. Is (with_one connection standing) (view_of old) (Some client) m old.returning) (sym nothing)
             (adopts incoming outgoing closes (SitsOn incoming outgoing closes) standing (view_of old) old.returning
-            connection client vacant (sits old.pass, ap closes.breaks same)),
+            connection client vacant (sits old.pass, ap closes.breaks same, said)),
       )
 
   -- The client was closed, and its session was counted.
@@ -340,8 +343,10 @@ module _ {T B : Type 0} (incoming outgoing : T → Option (List ℕ)) (closes : 
       ((newest : Version) (start : Pass) (now : Holder Pass) (origin : T) →
       Sits incoming outgoing newest start origin client now →
       IsOver incoming outgoing closes newest start origin served now old.book book') →
-      MayEnd (closes.breaks client.connection) served.«end» → KeepsPlace incoming outgoing closes old new
-  closed_at old new client served book' held same sums refused over cause = λ gates standing stands.
+      MayEnd (closes.breaks client.connection) served.«end» →
+      (IsAsSaid closes client → EndsAsSaid (closes.said client.connection) served.«end») →
+      KeepsPlace incoming outgoing closes old new
+  closed_at old new client served book' held same sums refused over cause said = λ gates standing stands.
       let Is = IsPlace incoming outgoing closes (SitsOn incoming outgoing closes) standing in
       let stood : Is (view_of old) (Some client) old.message old.returning =
       subst (λ c. Is (view_of old) c old.message old.returning) held stands.1 in
@@ -357,6 +362,7 @@ module _ {T B : Type 0} (incoming outgoing : T → Option (List ℕ)) (closes : 
         behind = done.behind;
         closed = done.closed;
         caused = subst (λ b. MayEnd b served.«end») sits.1 cause;
+        said = (client.connection, λ none. said (sits.2 none));
       })
       sums refused stood in
       let view : record (view_of old) { sums = new.sums; refused = new.refused; book = book' } ≡ view_of new = cc in (

@@ -29,5 +29,6 @@ returns g c =
             same.7,
           )
           c.count.ensures.sums
-          c.count.ensures.refused c.close-served.ensures.over (c.close-served.ensures.cause may));
+          c.count.ensures.refused c.close-served.ensures.over (c.close-served.ensures.cause may)
+          c.close-served.ensures.said);
     }
