@@ -23,6 +23,7 @@ use Rattle.sysv_seats.specs.declared.returning.Fate.{Fate}
 use Rattle.sysv_seats.specs.declared.returning.Return.{Return}
 use Rattle.sysv_seats.specs.declared.returning.Return.TheVariants as come
 use Rattle.sysv_seats.specs.Breaking.{MayEnd, MayTell}
+use Rattle.sysv_seats.specs.Said.{EndsAsSaid, IsAsSaid, KeepsAsSaid, TellsAsSaid}
 use Rattle.sysv_seats.specs.GivingBack.{ComesBack, EachReturnCanBeLeft, GoesBack, GoesBackOn, GivesBack, IsReturn}
 use Rattle.sysv_seats.specs.GivingBack.{WaitsBack, fate_by, fate_of}
 use Rattle.sysv_seats.specs.Held.{Lapses, LapsesTo}
@@ -109,6 +110,7 @@ module _ {T B C : Type 0} (incoming outgoing : T → Option (List ℕ)) (closes 
     pub behind : IsBehind rest kept
     pub closed : closes.leaves book kept more book'
     pub caused : MayTell (closes.breaks connection) told
+    pub said : TellsAsSaid closes connection told
 
   leaves : (newest : Version) (connection : T) (start : Pass) (sums : Sums) (refused : ℕ) (book : B)
       (told : Option Served) (after : Timed Pass) (sums' : Sums) (refused' : ℕ) (book' : B) →
@@ -130,7 +132,7 @@ module _ {T B C : Type 0} (incoming outgoing : T → Option (List ℕ)) (closes 
       reports = refl;
       returns = refl;
       dialogues = (done.dialogues, refl);
-      on = (refl, refl, done.caused);
+      on = (refl, refl, done.caused, done.said);
       closed = (done.kept, done.behind, done.closed);
     };
     adds = adds;
@@ -335,9 +337,9 @@ module _ {T B : Type 0} (incoming outgoing : T → Option (List ℕ)) (closes : 
       (message now : Option Message) → SameView view new → new.fates ≡ view.fates →
       KeepsWith incoming outgoing client (record { at = view.pass; message = message }) client'
       (record { at = new.pass; message = now }) →
-      closes.breaks client'.connection ≡ closes.breaks client.connection →
+      closes.breaks client'.connection ≡ closes.breaks client.connection → KeepsAsSaid closes client client' →
       PlaceIs standing view (Some client) message None → PlaceIs standing new (Some client') now None
-  went_on standing view new client client' message now same fated keeps still
+  went_on standing view new client client' message now same fated keeps still said
       (done, connection, mid, left, had, did, is, sits, at) =
       let after : Holder Pass = record { at = new.pass; message = now } in (
         done,
@@ -353,6 +355,7 @@ module _ {T B : Type 0} (incoming outgoing : T → Option (List ℕ)) (closes : 
               (timed h left.late)) (sym at) sits.0),
           still ∙ sits.1,
           λ no. absurd (cc no),
+          λ none. said (sits.3 none),
         ),
         refl,
       )
@@ -361,9 +364,9 @@ module _ {T B : Type 0} (incoming outgoing : T → Option (List ℕ)) (closes : 
   pub goes_on : (old new : Seated B T) (client client' : Sitting T) → old.client ≡ Some client →
       new.client ≡ Some client' → SameBut old new → old.returning ≡ None → new.returning ≡ old.returning →
       KeepsWith incoming outgoing client (holder_at old) client' (holder_at new) →
-      closes.breaks client'.connection ≡ closes.breaks client.connection →
+      closes.breaks client'.connection ≡ closes.breaks client.connection → KeepsAsSaid closes client client' →
       KeepsPlace incoming outgoing closes old new
-  goes_on old new client client' held holds same none waits keeps still = λ gates standing stands.
+  goes_on old new client client' held holds same none waits keeps still said = λ gates standing stands.
       let stood : PlaceIs standing (view_of old) (Some client) old.message None =
       subst (λ r. PlaceIs standing (view_of old) (Some client) old.message r) none
       (subst (λ c. PlaceIs standing (view_of old) c old.message old.returning) held stands.1) in (
@@ -371,15 +374,15 @@ module _ {T B : Type 0} (incoming outgoing : T → Option (List ℕ)) (closes : 
         subst (λ c. PlaceIs standing (view_of new) c new.message new.returning) (sym holds)
             (subst (λ r. PlaceIs standing (view_of new) (Some client') new.message r) (sym (waits ∙ none))
             (went_on standing (view_of old) (view_of new) client client' old.message new.message
-            (same.1, same.2, same.3, same.5) same.4 keeps still stood)),
+            (same.1, same.2, same.3, same.5) same.4 keeps still said stood)),
       )
 
   stayed : (standing : Standing (View B) T) (view : View B) (client client' : Sitting T) (message : Option Message)
       (returning : Option SendWait) → Keeps incoming outgoing client client' →
       closes.breaks client'.connection ≡ closes.breaks client.connection →
-      (client.parked ≡ None → client'.parked ≡ None) →
+      (client.parked ≡ None → client'.parked ≡ None) → KeepsAsSaid closes client client' →
       PlaceIs standing view (Some client) message returning → PlaceIs standing view (Some client') message returning
-  stayed standing view client client' message returning keeps still unparked
+  stayed standing view client client' message returning keeps still unparked said
       (done, connection, mid, left, had, did, is, sits, at) = (
         done,
         connection,
@@ -392,6 +395,7 @@ module _ {T B : Type 0} (incoming outgoing : T → Option (List ℕ)) (closes : 
           keeps left.holder left.late mid.newest mid.pass connection sits.0,
           still ∙ sits.1,
           λ late. unparked (sits.2 late),
+          λ none. said (sits.3 none),
         ),
         at,
       )
@@ -401,8 +405,10 @@ module _ {T B : Type 0} (incoming outgoing : T → Option (List ℕ)) (closes : 
       new.client ≡ Some client' → SameBut old new → new.returning ≡ old.returning → new.pass ≡ old.pass →
       new.message ≡ old.message → Keeps incoming outgoing client client' →
       closes.breaks client'.connection ≡ closes.breaks client.connection →
-      (client.parked ≡ None → client'.parked ≡ None) → KeepsPlace incoming outgoing closes old new
-  stays_on old new client client' held holds same waits pass message keeps still unparked = λ gates standing stands.
+      (client.parked ≡ None → client'.parked ≡ None) → KeepsAsSaid closes client client' →
+      KeepsPlace incoming outgoing closes old new
+  stays_on old new client client' held holds same waits pass message keeps still unparked said =
+      λ gates standing stands.
       let stood : PlaceIs standing (view_of old) (Some client) old.message old.returning =
       subst (λ c. PlaceIs standing (view_of old) c old.message old.returning) held stands.1 in
       let view : view_of old ≡ view_of new =
@@ -412,20 +418,20 @@ module _ {T B : Type 0} (incoming outgoing : T → Option (List ℕ)) (closes : 
             (subst (λ r. PlaceIs standing (view_of new) (Some client') new.message r) (sym waits)
             (subst (λ m. PlaceIs standing (view_of new) (Some client') m old.returning) (sym message)
             (subst (λ v. PlaceIs standing v (Some client') old.message old.returning) view
-            (stayed standing (view_of old) client client' old.message old.returning keeps still unparked stood)))),
+            (stayed standing (view_of old) client client' old.message old.returning keeps still unparked said stood)))),
       )
 
   -- The same, of a place whose fields say what it was.
   pub stays_as : (seen old : Seated B T) (client client' : Sitting T) → seen ≡ old → seen.client ≡ Some client →
       Keeps incoming outgoing client client' →
       closes.breaks client'.connection ≡ closes.breaks client.connection →
-      (client.parked ≡ None → client'.parked ≡ None) →
+      (client.parked ≡ None → client'.parked ≡ None) → KeepsAsSaid closes client client' →
       KeepsPlace incoming outgoing closes old (record seen { client = Some client' })
-  stays_as seen old client client' is held keeps still unparked =
+  stays_as seen old client client' is held keeps still unparked said =
       let new : Seated B T = record seen { client = Some client' } in
       keeps_from seen old new is
       (stays_on seen new client client' held refl (refl, refl, refl, refl, refl, refl) refl refl refl keeps still
-      unparked)
+      unparked said)
 
   -- No send waits.
   pub none_waits : (returning : Option SendWait) (b : Bool) → b ≡ is_some returning → b ≡ false → returning ≡ None
@@ -436,8 +442,9 @@ module _ {T B : Type 0} (incoming outgoing : T → Option (List ℕ)) (closes : 
   pub takes : (old new : Seated B T) (connection : T) (client : Sitting T) → old.client ≡ None → old.message ≡ None →
       new ≡ taken_by client old → client.connection ≡ connection →
       ((pass : Pass) → Sits incoming outgoing old.newest pass connection client (begun_with pass)) →
+      (closes.said connection ≡ None → IsAsSaid closes client) →
       TakesIn incoming outgoing closes connection old new
-  takes old new connection client none nothing is same sits = λ gates standing stands.
+  takes old new connection client none nothing is same sits said = λ gates standing stands.
       let vacant : PlaceIs standing (view_of old) None None old.returning =
       subst (λ m. PlaceIs standing (view_of old) None m old.returning) nothing
       (subst (λ c. PlaceIs standing (view_of old) c old.message old.returning) none stands.1) in
@@ -446,7 +453,7 @@ module _ {T B : Type 0} (incoming outgoing : T → Option (List ℕ)) (closes : 
         subst (λ m. PlaceIs (with_one connection standing) (view_of old) (Some client) m old.returning) (sym nothing)
             (adopts incoming outgoing closes (SitsOn incoming outgoing closes) standing (view_of old) old.returning
             connection client vacant
-            (λ is_late no. (sits old.pass, ap closes.breaks same, λ yes. absurd (cc (sym no ∙ yes))))),
+            (λ is_late no. (sits old.pass, ap closes.breaks same, λ yes. absurd (cc (sym no ∙ yes)), said))),
       )
 
   -- The client was closed, and its session was counted.
@@ -460,8 +467,10 @@ module _ {T B : Type 0} (incoming outgoing : T → Option (List ℕ)) (closes : 
       ((newest : Version) (start : Pass) (now : Timed Pass) (origin : T) →
       Sits incoming outgoing newest start origin client now →
       IsOver incoming outgoing closes newest start origin served now old.book book') →
-      MayEnd (closes.breaks client.connection) served.«end» → KeepsPlace incoming outgoing closes old new
-  closed_at old new client served book' held idle same sums refused over cause = λ gates standing stands.
+      MayEnd (closes.breaks client.connection) served.«end» →
+      (IsAsSaid closes client → EndsAsSaid (closes.said client.connection) served.«end») →
+      KeepsPlace incoming outgoing closes old new
+  closed_at old new client served book' held idle same sums refused over cause said = λ gates standing stands.
       let stood : PlaceIs standing (view_of old) (Some client) old.message None =
       subst (λ r. PlaceIs standing (view_of old) (Some client) old.message r) idle
       (subst (λ c. PlaceIs standing (view_of old) c old.message old.returning) held stands.1) in
@@ -477,6 +486,7 @@ module _ {T B : Type 0} (incoming outgoing : T → Option (List ℕ)) (closes : 
         behind = done.behind;
         closed = done.closed;
         caused = subst (λ b. MayEnd b served.«end») sits.1 cause;
+        said = (client.connection, λ none. said (sits.3 none));
       })
       sums refused stood in
       let view : record (view_of old) { sums = new.sums; refused = new.refused; book = book' } ≡ view_of new = cc in (
@@ -554,6 +564,7 @@ module _ {T B : Type 0} (incoming outgoing : T → Option (List ℕ)) (closes : 
           lapsed mid.newest mid.pass connection client left WasLeft next (sits.2 refl) lapse sits.0,
           sits.1,
           λ no. absurd (cc no),
+          sits.3,
         ),
         refl,
       )
@@ -597,12 +608,14 @@ module _ {T B : Type 0} (incoming outgoing : T → Option (List ℕ)) (closes : 
       standing.had ≡ done ++ connection ∷ [] → FoldsTo (Handled incoming outgoing closes) standing.start done mid →
       view ≡ since view.pass left.late mid →
       Sits incoming outgoing mid.newest mid.pass connection client left →
-      closes.breaks client.connection ≡ closes.breaks connection → client.parked ≡ None →
+      closes.breaks client.connection ≡ closes.breaks connection →
+      (closes.said connection ≡ None → IsAsSaid closes client) → client.parked ≡ None →
       1 ≤ seconds_of left.holder.message →
       ComesBack left.holder.at left.holder.message result (record { at = new.pass; message = now }) →
       SameView view new → new.fates ≡ fates_by view.fates result →
       PlaceIs standing new (Some client) now (wait_in result)
-  late_comes standing view new client now (come.Waits wait) done connection mid left had did is sits still none limited
+  late_comes standing view new client now (come.Waits wait) done connection mid left had did is sits still said none
+      limited
       came same fated = (
         done,
         connection,
@@ -611,13 +624,15 @@ module _ {T B : Type 0} (incoming outgoing : T → Option (List ℕ)) (closes : 
         had,
         did,
         since_then mid view new left.late left.late is same (fated ∙ ap (λ (v : View B). v.fates) is),
-        (sits, still, λ late. none),
+        (sits, still, λ late. none, said),
         (limited, came.0, came.1),
       )
-  late_comes standing view new client now come.Nothing done connection mid left had did is sits still none limited came
+  late_comes standing view new client now come.Nothing done connection mid left had did is sits still said none limited
+      came
       same fated =
       let no : 1 ≤ 0 = subst (λ (m : Option Message). 1 ≤ seconds_of m) came.0 limited in absurd (omega arith)
-  late_comes standing view new client now (come.Over what) done connection mid left had did is sits still none limited
+  late_comes standing view new client now (come.Over what) done connection mid left had did is sits still said none
+      limited
       came same fated =
       let message = came.0 in
       let outcome = came.2 in
@@ -646,6 +661,7 @@ module _ {T B : Type 0} (incoming outgoing : T → Option (List ℕ)) (closes : 
           lapsed mid.newest mid.pass connection client left outcome next none lapse sits,
           still,
           λ no. absurd (cc no),
+          said,
         ),
         refl,
       )
@@ -658,7 +674,7 @@ module _ {T B : Type 0} (incoming outgoing : T → Option (List ℕ)) (closes : 
       PlaceIs standing new (Some client) now (wait_in result)
   late_begins standing view new client message now result none limited came same fated
       (done, connection, mid, left, had, did, is, sits, at) =
-      late_comes standing view new client now result done connection mid left had did is sits.0 sits.1 none
+      late_comes standing view new client now result done connection mid left had did is sits.0 sits.1 sits.3 none
       (subst (λ (h : Holder Pass). 1 ≤ seconds_of h.message) at limited)
       (subst (λ (h : Holder Pass). ComesBack h.at h.message result (record { at = new.pass; message = now })) at came)
       same fated
@@ -674,7 +690,8 @@ module _ {T B : Type 0} (incoming outgoing : T → Option (List ℕ)) (closes : 
       goes same fated stood
   goes_back_at standing view new (Some client) message now wait result goes same fated
       (done, connection, mid, left, had, did, is, sits, at) =
-      late_comes standing view new client now result done connection mid left had did is sits.0 sits.1 (sits.2 refl)
+      late_comes standing view new client now result done connection mid left had did is sits.0 sits.1 sits.3
+      (sits.2 refl)
       at.0
       (subst (λ (m : Option Message). ComesBack left.holder.at m result (record { at = new.pass; message = now })) at.2
       (goes left.holder.at at.1)) same fated

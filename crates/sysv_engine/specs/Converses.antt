@@ -11,6 +11,7 @@ use Rattle.sysv_seats.specs.GivingBack.{GivesBack}
 use Rattle.sysv_seats.specs.Held.{ServesHolding}
 use Rattle.sysv_seats.specs.Holding.{Timed, begun_with}
 use Rattle.sysv_seats.specs.Breaking.{MayTell}
+use Rattle.sysv_seats.specs.Said.{TellsAsSaid}
 use Rattle.sysv_seats.specs.Sits.{IsBehind, zero_moment}
 use Rattle.sysv_seats.specs.Untold.{Closing}
 use Rattle.sysv_engine.specs.Made.{GivesBackIn, Log, ServesLog}
@@ -81,10 +82,11 @@ ConversesIn newest before dialogue after = (mid : Timed Log)
 -- The session was one over this very connection: it began with the bytes that the connection had, and
 -- ended for a reason that there is. So it did not end with `Fault(Read)` unless reading from the
 -- connection may break off, nor with `Reset` unless its client may reset it, nor with `Write` or `Left`
--- unless writing to it may break off.
+-- unless writing to it may break off. It reported what the reads of the connection had said.
 abbrev pub IsOn : {T B : Type 0} → (incoming outgoing : T → Option (List ℕ)) → Closing T B → T → Dialogue → Type 0
 IsOn incoming outgoing closes connection dialogue = (dialogue.left ≡ incoming connection)
     × (dialogue.taken ≡ outgoing connection) × MayTell (closes.breaks connection) dialogue.told
+    × TellsAsSaid closes connection dialogue.told
 
 -- The connection of the session was closed with what the session had written, and with the bytes
 -- that the session left, except those that were read ahead.

@@ -13,6 +13,7 @@ use Rattle.sysv_seats.specs.declared.returning.Return.{Return}
 use Rattle.sysv_seats.specs.declared.returning.Return.TheVariants as come
 use Rattle.sysv_seats.specs.GivingBack.{WaitsBack}
 use Rattle.sysv_seats.specs.Holding.{Holder, Message, Timed, seconds_of}
+use Rattle.sysv_seats.specs.Said.{IsAsSaid}
 use Rattle.sysv_seats.specs.Sits.{Sits, Sitting}
 use Rattle.sysv_seats.specs.Untold.{Closing}
 use Rattle.sysv_engine.specs.declared.sums.Sums.{Sums}
@@ -199,11 +200,12 @@ come_so_far came place = record {
 
 module _ {T B : Type 0} (incoming outgoing : T → Option (List ℕ)) (closes : Closing T B) where
   -- The client's session began with the pass `start`, on the connection `origin`. What may break it
-  -- off is what it was then. If what it holds is on its way back, no call of it is parked.
+  -- off is what it was then. If what it holds is on its way back, no call of it is parked. If no read had said
+  -- anything then, the client stops for what they have said.
   abbrev pub SitsOn : Version → Pass → T → Sitting T → Timed Pass → (is_late : Bool) → Type 0
   SitsOn newest start origin client now is_late =
       Sits incoming outgoing newest start origin client now × (closes.breaks client.connection ≡ closes.breaks origin)
-      × (is_late ≡ true → client.parked ≡ None)
+      × (is_late ≡ true → client.parked ≡ None) × (closes.said origin ≡ None → IsAsSaid closes client)
 
   -- The place is one of a service with these gates, and is what it has to be after what it has had.
   abbrev pub Stands : Gates → Standing (View B) T → Seated B T → Type 0

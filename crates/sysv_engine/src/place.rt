@@ -1,6 +1,7 @@
 //! The places of a server: each serves one client after another.
 ghost use Rattle.std.specs.Prelude.{◌≡◌, ◌+◌, None, Some, IfSome, cond, is_some, not, true};
 ghost use Rattle.sysv_service.specs.Seats.{AreOf};
+ghost use Rattle.sysv_seats.specs.Said.{KeepsAsSaid};
 ghost use Rattle.sysv_seats.specs.Sits.{Keeps, is_finished};
 ghost use Rattle.sysv_engine.specs.Added.{added, capped, nothing, one_session};
 ghost use Rattle.sysv_engine.specs.Fated.{none_fated, with_unsent};
@@ -674,6 +675,7 @@ fn learn<T: NonBlocking>(client: &mut Client<T>, ready: &Ready)
     ensures breaks { T.closes.breaks client.new.connection
         ≡ T.closes.breaks client.old.connection }
     ensures unparked { client.old.parked ≡ None → client.new.parked ≡ None }
+    ensures said { KeepsAsSaid T.closes client.old client.new }
 {
     if ready.readable || ready.left {
         client.note_readable();

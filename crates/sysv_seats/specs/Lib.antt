@@ -17,5 +17,6 @@ pub mod PacedStreams
 pub mod Holding
 pub mod Held
 pub mod Sits
+pub mod Said
 pub mod GivingBack
 pub mod Fates

@@ -1,5 +1,5 @@
 //! A client of a server.
-ghost use Rattle.std.specs.Prelude.{◌≡◌, ◌≢◌, ◌≤◌, ◌==◌, ℕ, List, [], ◌++◌, None, Ok, Some, true, false, not, length};
+ghost use Rattle.std.specs.Prelude.{◌≡◌, ◌≢◌, ◌≤◌, ◌==◌, ◌⊎◌, ℕ, List, [], ◌++◌, None, Ok, Some, true, false, is_some, not, length};
 ghost use Rattle.std.specs.Io.KnownBytes.{IsAtEnd};
 ghost use Rattle.sysv_service.specs.Ran.{Pass};
 ghost use Rattle.sysv_session.specs.Answers.{IsAsked};
@@ -14,6 +14,7 @@ ghost use Rattle.sysv_wire.specs.declared.reply.Reply.{Reply as Answer};
 ghost use Rattle.sysv_seats.specs.Parked.{IsReplied};
 ghost use Rattle.sysv_seats.specs.Holding.{Holder, Timed, begun_with, timed};
 ghost use Rattle.sysv_seats.specs.Held.{HoldBegun, HoldProgress, holder_of};
+ghost use Rattle.sysv_seats.specs.Said.{EndsAsSaid, IsAsSaid, KeepsAsSaid};
 ghost use Rattle.sysv_seats.specs.Sits.{Arrives, GreetsAs, HasAsked, IsFree, IsOver, IsPending, Keeps, KeepsWith, ReadsNext, Sits, broken_off_for, end_at_close, is_back_parked, is_early as early, is_finished, is_hold_parked, parked_bytes, parked_wait, stopped_for, zero_moment};
 
 use crate::keeper::Keeper;
@@ -104,6 +105,7 @@ impl<T: NonBlocking> Client<T> {
         ensures connection { result.connection ≡ connection }
         ensures sits { (pass : Pass) →
             Sits T.incoming T.outgoing newest pass connection result (begun_with pass) }
+        ensures said { T.closes.said connection ≡ None → IsAsSaid T.closes result }
     {
         Client {
             connection,
@@ -257,6 +259,7 @@ impl<T: NonBlocking> Client<T> {
         ensures breaks { T.closes.breaks self.new.connection
             ≡ T.closes.breaks self.old.connection }
         ensures unparked { self.old.parked ≡ None → self.new.parked ≡ None }
+        ensures said { KeepsAsSaid T.closes self.old self.new }
     {
         self.has_left = true;
         self.heed_leave();
@@ -273,6 +276,7 @@ impl<T: NonBlocking> Client<T> {
         ensures breaks { T.closes.breaks self.new.connection
             ≡ T.closes.breaks self.old.connection }
         ensures unparked { self.old.parked ≡ None → self.new.parked ≡ None }
+        ensures said { KeepsAsSaid T.closes self.old self.new }
     {
         if self.may_be_cut(limit) {
             self.cut_off();
@@ -291,6 +295,7 @@ impl<T: NonBlocking> Client<T> {
         ensures breaks { T.closes.breaks self.new.connection
             ≡ T.closes.breaks self.old.connection }
         ensures unparked { self.old.parked ≡ None → self.new.parked ≡ None }
+        ensures said { KeepsAsSaid T.closes self.old self.new }
     {
         self.give_up();
         self.break_off(End::Fault(Fault::Read));
@@ -303,6 +308,7 @@ impl<T: NonBlocking> Client<T> {
         ensures breaks { T.closes.breaks self.new.connection
             ≡ T.closes.breaks self.old.connection }
         ensures unparked { self.old.parked ≡ None → self.new.parked ≡ None }
+        ensures said { KeepsAsSaid T.closes self.old self.new }
     {
         if self.is_broken || self.conversation.is_empty() {
             return;
@@ -325,6 +331,7 @@ impl<T: NonBlocking> Client<T> {
         ensures handles { KeepsHandles handler.old.handler handler.new.handler }
         ensures breaks { T.closes.breaks self.new.connection
             ≡ T.closes.breaks self.old.connection }
+        ensures said { KeepsAsSaid T.closes self.old self.new }
     {
         if self.is_held() {
             return;
@@ -341,6 +348,7 @@ impl<T: NonBlocking> Client<T> {
         ensures handles { KeepsHandles handler.old.handler handler.new.handler }
         ensures breaks { T.closes.breaks self.new.connection
             ≡ T.closes.breaks self.old.connection }
+        ensures said { KeepsAsSaid T.closes self.old self.new }
     {
         let Some(parked) = self.parked else {
             return;
@@ -365,6 +373,8 @@ impl<T: NonBlocking> Client<T> {
 
     /// Closes the client, and returns what its session did. Replies that the connection has not
     /// taken are lost. If nothing else was left to do, the session ends for a reason that there is.
+    /// If a read has said that the connection was reset or that it failed, the session ends for that
+    /// reason, or with replies that were not taken.
     pub fn close(self, book: &mut T::Book) -> Served
         ensures over { (newest : Known) (start : Pass) (now : Timed Pass) (origin : T) →
             Sits T.incoming T.outgoing newest start origin self now →
@@ -372,6 +382,8 @@ impl<T: NonBlocking> Client<T> {
             book.new }
         ensures cause { is_finished self ≡ true
             → MayEnd (T.closes.breaks self.connection) result.«end» }
+        ensures said { IsAsSaid T.closes self
+            → EndsAsSaid (T.closes.said self.connection) result.«end» }
     {
         let Client {
             connection,
@@ -399,6 +411,7 @@ impl<T: NonBlocking> Client<T> {
         ensures none { self.new.parked ≡ None }
         ensures same { (self.new.connection ≡ self.old.connection)
             × (self.new.dialogue ≡ self.old.dialogue) × (self.new.broken ≡ self.old.broken) }
+        ensures said { KeepsAsSaid T.closes self.old self.new }
     {
         let Some(parked) = self.parked else {
             return;
@@ -414,6 +427,7 @@ impl<T: NonBlocking> Client<T> {
         ensures breaks { T.closes.breaks self.new.connection
             ≡ T.closes.breaks self.old.connection }
         ensures unparked { self.old.parked ≡ None → self.new.parked ≡ None }
+        ensures said { KeepsAsSaid T.closes self.old self.new }
     {
         if self.has_left && self.connection.may_leave() {
             self.give_up();
@@ -438,6 +452,7 @@ impl<T: NonBlocking> Client<T> {
         ensures breaks { T.closes.breaks self.new.connection
             ≡ T.closes.breaks self.old.connection }
         ensures unparked { self.old.parked ≡ None → self.new.parked ≡ None }
+        ensures said { KeepsAsSaid T.closes self.old self.new }
     {
         self.give_up();
         self.break_off(End::Write);
@@ -463,6 +478,7 @@ impl<T: NonBlocking> Client<T> {
         ensures handles { KeepsHandles handler.old.handler handler.new.handler }
         ensures breaks { T.closes.breaks self.new.connection
             ≡ T.closes.breaks self.old.connection }
+        ensures said { KeepsAsSaid T.closes self.old self.new }
     {
         if self.has_input {
             self.take_share(handler, tools);
@@ -479,6 +495,7 @@ impl<T: NonBlocking> Client<T> {
         ensures handles { KeepsHandles handler.old.handler handler.new.handler }
         ensures breaks { T.closes.breaks self.new.connection
             ≡ T.closes.breaks self.old.connection }
+        ensures said { KeepsAsSaid T.closes self.old self.new }
     {
         match self.connection.fill(&mut tools.arrived) {
             Filled::Bytes(count) => {
@@ -518,6 +535,7 @@ impl<T: NonBlocking> Client<T> {
         ensures handles { KeepsHandles handler.old.handler handler.new.handler }
         ensures breaks { T.closes.breaks self.new.connection
             ≡ T.closes.breaks self.old.connection }
+        ensures said { KeepsAsSaid T.closes self.old self.new }
     {
         for _ in 0..SHARE {
             self.has_input = true;
@@ -549,6 +567,7 @@ impl<T: NonBlocking> Client<T> {
         ensures handles { KeepsHandles handler.old.handler handler.new.handler }
         ensures breaks { T.closes.breaks self.new.connection
             ≡ T.closes.breaks self.old.connection }
+        ensures said { KeepsAsSaid T.closes self.old self.new }
     {
         let (size, taken) = self.read_next(&mut tools.text);
         self.requests = self.requests.wrapping_add(u64::from(taken.is_ok()));
@@ -615,6 +634,7 @@ impl<T: NonBlocking> Client<T> {
         ensures handles { KeepsHandles handler.old.handler handler.new.handler }
         ensures breaks { T.closes.breaks self.new.connection
             ≡ T.closes.breaks self.old.connection }
+        ensures said { self.old.stopped ≡ None → KeepsAsSaid T.closes self.old self.new }
     {
         tools.given.clear();
         let made = handler.made_by(request.ask);
@@ -649,6 +669,8 @@ impl<T: NonBlocking> Client<T> {
             tools.old tools.new }
         ensures breaks { T.closes.breaks self.new.connection
             ≡ T.closes.breaks self.old.connection }
+        ensures said { (self.old.stopped ≡ None) ⊎ (is_some self.old.parked ≡ true)
+            → KeepsAsSaid T.closes self.old self.new }
     {
         match progress {
             Progress::Over(outcome) => {

@@ -17,3 +17,4 @@ returns g c =
     (subst (λ (v : Version). (pass : Pass) → Sits g.T.NonBlocking.incoming g.T.NonBlocking.outgoing v pass
     c.args.connection c.open-client.result (begun_with pass))
     (ap (λ (p : Seated g.row.T-Book.Denot g.row.T.Denot). p.newest) c.self.view_is) c.open-client.ensures.sits)
+    c.open-client.ensures.said

@@ -8,7 +8,8 @@ returns g c =
     let t = g.T.NonBlocking in
     record {
       keeps = stays_as t.incoming t.outgoing t.closes _ c.args.self.now c.in-Some.client c.cut_off.new.self
-          c.self.view_is c.in-Some.is c.cut_off.ensures.keeps c.cut_off.ensures.breaks c.cut_off.ensures.unparked;
+          c.self.view_is c.in-Some.is c.cut_off.ensures.keeps c.cut_off.ensures.breaks c.cut_off.ensures.unparked
+          c.cut_off.ensures.said;
     }
 
 pub returns-then-add : goal.returns-then-add
@@ -16,5 +17,6 @@ returns-then-add g c =
     let t = g.T.NonBlocking in
     record {
       keeps = stays_as t.incoming t.outgoing t.closes _ c.args.self.now c.in-Some.client c.in-Some.client c.self.view_is
-          c.in-Some.is (λ now late newest start origin sits. sits) refl (λ none. none);
+          c.in-Some.is (λ now late newest start origin sits. sits) refl (λ none. none)
+          (λ has. has);
     }

@@ -34,7 +34,8 @@ returns g c =
       same.7,
     )
     c.count.ensures.sums
-    c.count.ensures.refused c.close-served.ensures.over (c.close-served.ensures.cause may)) in
+    c.count.ensures.refused c.close-served.ensures.over (c.close-served.ensures.cause may)
+    c.close-served.ensures.said) in
     record { keeps = λ gates standing stands. closed gates standing (leave.ensures.keeps gates standing stands) }
 
 -- There was no client.

@@ -12,5 +12,6 @@ returns g c =
           (λ now late newest start origin sits.
           c.cut.ensures.keeps now late newest start origin (c.drain.ensures.keeps now late newest start origin sits))
           (c.cut.ensures.breaks ∙ c.drain.ensures.breaks)
-          (λ none. c.cut.ensures.unparked (c.drain.ensures.unparked none));
+          (λ none. c.cut.ensures.unparked (c.drain.ensures.unparked none))
+          (λ has. c.cut.ensures.said (c.drain.ensures.said has));
     }

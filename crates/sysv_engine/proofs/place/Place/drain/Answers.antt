@@ -7,5 +7,5 @@ returns g c =
     let t = g.T.NonBlocking in
     record {
       keeps = stays_as t.incoming t.outgoing t.closes _ c.args.self.now c.in-Some.client c.drain.new.self c.self.view_is
-          c.in-Some.is c.drain.ensures.keeps c.drain.ensures.breaks c.drain.ensures.unparked;
+          c.in-Some.is c.drain.ensures.keeps c.drain.ensures.breaks c.drain.ensures.unparked c.drain.ensures.said;
     }

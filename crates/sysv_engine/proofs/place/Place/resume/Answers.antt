@@ -42,5 +42,6 @@ returns-in-Some g c =
     record {
       keeps = keeps_from t.incoming t.outgoing t.closes seen c.args.self.now new c.self.view_is
           (goes_on t.incoming t.outgoing t.closes seen new c.in-Some.client c.go_on.new.self c.in-Some.is refl
-          (gates, refl, refl, refl, refl, refl) idle refl c.go_on.ensures.keeps c.go_on.ensures.breaks);
+          (gates, refl, refl, refl, refl, refl) idle refl c.go_on.ensures.keeps c.go_on.ensures.breaks
+          c.go_on.ensures.said);
     }

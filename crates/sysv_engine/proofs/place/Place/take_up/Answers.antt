@@ -43,5 +43,6 @@ returns-in-Some g c =
           (λ late newest start origin sits.
           c.drain.ensures.keeps (holder_at new) late newest start origin
           (c.take_turn.ensures.keeps late newest start origin sits))
-          (c.drain.ensures.breaks ∙ c.take_turn.ensures.breaks));
+          (c.drain.ensures.breaks ∙ c.take_turn.ensures.breaks)
+          (λ has. c.drain.ensures.said (c.take_turn.ensures.said has)));
     }

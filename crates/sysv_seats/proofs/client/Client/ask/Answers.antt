@@ -1,4 +1,5 @@
 -- The call is begun, and its outcome is settled.
+use Rattle.std.proofs.Common.{inl}
 use Rattle.sysv_seats.specs.Held.{holder_of}
 use Rattle.sysv_seats.specs.Holding.{timed}
 use Rattle.sysv_seats.specs.Sits.{zero_moment}
@@ -17,3 +18,6 @@ returns-clause-keeps g c = λ late newest start origin asked.
     (holder_of c.begin-progress.new.self) origin c.args.tools.now.text
     asked
     c.begin-progress.ensures.begun
+
+pub returns-clause-said : goal.returns-clause-said
+returns-clause-said g c = λ going. c.settle.ensures.said (inl going)

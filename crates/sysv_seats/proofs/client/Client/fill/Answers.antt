@@ -7,6 +7,7 @@ use Rattle.sysv_session.specs.declared.served.End.TheVariants.{Fault, Reset}
 use Rattle.sysv_wire.specs.declared.fault.Fault.TheVariants.{Read}
 use Rattle.sysv_seats.proofs.ClientLemmas.{filled, filled_last, filled_none, filled_not, stops_reading}
 use Rattle.sysv_seats.proofs.ClientLemmas.{stops_resetting}
+use Rattle.sysv_seats.proofs.Said.{said_end, said_failed, said_filled, said_nothing, said_reset}
 use Rattle.sysv_seats.proofs.client.Client.fill.Goals as goal
 
 -- The whole buffer.
@@ -24,6 +25,20 @@ returns-in-Bytes-clause-keeps g c =
     (subst (λ (l : List ℕ). Consumes (g.T.NonBlocking.incoming c.self.inside.connection)
     (g.T.NonBlocking.incoming c.fill.new.self) (take c.in-Bytes.count l)) (sym same) c.in-Bytes.ensures.bytes.2)
     c.fill.ensures.untold c.fill.ensures.written c.arrive.ensures.arrives c.take_share.ensures.keeps
+
+pub returns-in-Bytes-clause-said : goal.returns-in-Bytes-clause-said
+returns-in-Bytes-clause-said g c =
+    said_filled g.T.NonBlocking.closes _ _ c.arrive.new.self _ c.fill.new.self _ c.self.view_is c.requires.free
+    c.in-Bytes.ensures.said c.arrive.ensures.arrives c.take_share.ensures.said
+
+pub returns-in-NothingNow-clause-said : goal.returns-in-NothingNow-clause-said
+returns-in-NothingNow-clause-said g c =
+    said_nothing g.T.NonBlocking.closes _ _ c.fill.new.self c.self.view_is c.in-NothingNow.ensures.said
+
+pub returns-in-Over-End-clause-said : goal.returns-in-Over-End-clause-said
+returns-in-Over-End-clause-said g c =
+    said_end g.T.NonBlocking.closes _ _ _ c.fill.new.self c.self.view_is c.requires.free
+    c.in-Over-End.ensures.said c.take_up.ensures.said
 
 pub returns-in-NothingNow-clause-keeps : goal.returns-in-NothingNow-clause-keeps
 returns-in-NothingNow-clause-keeps g c =
@@ -45,6 +60,8 @@ returns-in-Over-Reset g c = record {
   breaks = ap (λ (s : Sitting g.row.T.Denot). g.T.NonBlocking.closes.breaks s.connection) c.stop.ensures
       ∙ (c.fill.ensures.breaks
       ∙ ap (λ (s : Sitting g.row.T.Denot). g.T.NonBlocking.closes.breaks s.connection) c.self.view_is);
+  said = said_reset g.T.NonBlocking.closes _ _ c.stop.new.self c.fill.new.self c.self.view_is c.requires.free
+      c.in-Over-Reset.ensures.said c.stop.ensures;
 }
 
 pub returns-in-Over-Failed : goal.returns-in-Over-Failed
@@ -58,4 +75,6 @@ returns-in-Over-Failed g c = record {
   breaks = ap (λ (s : Sitting g.row.T.Denot). g.T.NonBlocking.closes.breaks s.connection) c.stop-in-Over-Failed.ensures
       ∙ (c.fill.ensures.breaks
       ∙ ap (λ (s : Sitting g.row.T.Denot). g.T.NonBlocking.closes.breaks s.connection) c.self.view_is);
+  said = said_failed g.T.NonBlocking.closes _ _ c.stop-in-Over-Failed.new.self c.fill.new.self c.self.view_is
+      c.requires.free c.in-Over-Failed.ensures.said c.stop-in-Over-Failed.ensures;
 }

@@ -1,8 +1,11 @@
 -- A parked call goes on with the body in its frame.
-use Rattle.std.proofs.Common.{◌≡◌, ◌∙◌, ℕ, List, ap, subst, sym}
+use Rattle.std.proofs.Common.{◌≡◌, ◌∙◌, ℕ, List, Option, ap, inr, subst, sym}
+use Rattle.std.specs.Prelude.{is_some}
 use Rattle.sysv_wire.specs.declared.reply.Reply.{Reply as Answer}
+use Rattle.sysv_seats.specs.declared.parked.Parked.{Parked}
 use Rattle.sysv_seats.specs.Held.{HoldBegun, HoldParked, holder_of}
 use Rattle.sysv_seats.specs.Holding.{timed}
+use Rattle.sysv_seats.specs.Said.{IsAsSaid}
 use Rattle.sysv_seats.specs.Sits.{Sits, Sitting, zero_moment}
 use Rattle.sysv_seats.proofs.ClientSteps.{any_goes_replied, asked_before, is_waiting}
 use Rattle.sysv_seats.proofs.client.Client.go_on.Goals as goal
@@ -32,3 +35,9 @@ returns-clause-keeps g c = λ late newest start origin sits.
     (subst (λ (l : List Answer). Sits g.T.NonBlocking.incoming g.T.NonBlocking.outgoing newest start origin
     c.settle.new.self (timed now l)) (sym waits.late)
     (c.settle.ensures.keeps newest start waits.before now origin waits.text asked begun))
+
+pub returns-clause-said : goal.returns-clause-said
+returns-clause-said g c = λ has.
+    let waits = sym (ap (λ (s : Sitting g.row.T.Denot). s.parked) c.self.view_is) ∙ c.in-Some.is in
+    subst (IsAsSaid g.T.NonBlocking.closes) (sym c.self-2.view_is)
+    (c.settle.ensures.said (inr (ap (λ (p : Option Parked). is_some p) waits)) has)

@@ -1,5 +1,5 @@
 -- What was taken up is answered, or ends the session.
-use Rattle.std.proofs.Common.{◌≡◌, ◌∙◌, ℕ, List, subst, sym, false}
+use Rattle.std.proofs.Common.{◌≡◌, ◌∙◌, ℕ, List, ap, inl, subst, sym, false}
 use Rattle.std.proofs.lemmas.List.{drop-drop}
 use Rattle.sysv_session.specs.declared.served.End.{End}
 use Rattle.sysv_session.specs.declared.session.TakenUp.TheVariants.{Hello, Request as Asked}
@@ -8,6 +8,7 @@ use Rattle.sysv_seats.specs.Holding.{timed}
 use Rattle.sysv_seats.specs.Sits.{GreetsAs, HasAsked, IsPending, ReadsNext, Sitting, is_early}
 use Rattle.sysv_seats.proofs.ClientSteps.{asks_next, greets_next, ok_of, one_end, settled_late, stops_next}
 use Rattle.sysv_seats.proofs.ClientLemmas.{taken_cause}
+use Rattle.sysv_seats.proofs.Said.{said_greeted, said_read, said_stops, taken_no_reset}
 use Rattle.sysv_seats.proofs.client.Client.take_up.Goals as goal
 
 pub ask-requires-clause-pending : goal.ask-requires-clause-pending
@@ -76,3 +77,34 @@ returns-in-Err-2-clause-keeps g c = λ late newest start origin sits.
     c.args.self.now _ c.read_next-size.result.0 c.read_next-size.result.1 c.read_next-size.new.text
     c.requires.free reads sits c.in-Err-2.why c.stop.new.self c.in-Err-2.is
     (settled_late c.in-Err-2.why _ c.args.is_end not_early c.requires.end) c.stop.ensures
+
+pub returns-in-Ok-Hello-clause-said : goal.returns-in-Ok-Hello-clause-said
+returns-in-Ok-Hello-clause-said g c = λ has.
+    let t = g.T.NonBlocking in
+    let S : Type 0 = Sitting g.row.T.Denot in
+    let same = c.self.view_is ∙ c.read_next-size.ensures.takes.same in
+    let going = ap (λ (s : S). s.stopped) same ∙ c.requires.free.1 in
+    said_greeted t.closes _ c.greet.new.self c.in-Ok-Hello.version going c.greet.ensures.greets
+    (said_read t.closes c.args.self.now _ c.read_next-size.new.self.dialogue same has)
+
+pub returns-in-Ok-Request-clause-said : goal.returns-in-Ok-Request-clause-said
+returns-in-Ok-Request-clause-said g c = λ has.
+    let t = g.T.NonBlocking in
+    let S : Type 0 = Sitting g.row.T.Denot in
+    let same = c.self.view_is ∙ c.read_next-size.ensures.takes.same in
+    let going = ap (λ (s : S). s.stopped) same ∙ c.requires.free.1 in
+    c.ask.ensures.said going (said_read t.closes c.args.self.now _ c.read_next-size.new.self.dialogue same has)
+
+pub returns-in-Err-2-clause-said : goal.returns-in-Err-2-clause-said
+returns-in-Err-2-clause-said g c =
+    let t = g.T.NonBlocking in
+    let S : Type 0 = Sitting g.row.T.Denot in
+    let same = c.self.view_is ∙ c.read_next-size.ensures.takes.same in
+    let late = subst (λ (e : End). is_early e c.args.is_end ≡ false)
+    (one_end c.read_next-size.result.1 c.in-Err.why c.in-Err-2.why c.in-Err.is c.in-Err-2.is)
+    (sym c.is_early.ensures ∙ c.if-is_early.false) in
+    let other = taken_no_reset _ _ c.read_next-size.result.1 c.in-Err-2.why _ _ _ c.args.is_end c.in-Err-2.is late
+    c.read_next-size.ensures.takes.takes in
+    said_stops t.closes c.args.self.now c.stop.new.self c.in-Err-2.why other (inl c.requires.free.1)
+    (ap (λ (s : S). s.connection) c.stop.ensures ∙ ap (λ (s : S). s.connection) same)
+    (ap (λ (s : S). s.stopped) c.stop.ensures)
