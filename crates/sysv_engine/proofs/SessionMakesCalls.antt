@@ -461,8 +461,7 @@ module _ (may : ℕ → Type 0) (may_leave : Type 0) (any : EachRunIsAtAnyMoment
             tallies = stays.tallies;
             counts = stays.counts;
           }),
-          lapsed.0,
-          last.folds made,
+          (lapsed.0, last.folds made),
         ),
         last.rests,
       )
@@ -497,10 +496,12 @@ module _ (may : ℕ → Type 0) (may_leave : Type 0) (any : EachRunIsAtAnyMoment
             written = dialogues.written;
             counts = dialogues.counts;
           }),
-          lapsed.0,
-          subst (λ calls. FoldsTo (holding.Lapses MakesCall ReadsBeside ShowsBeside may)
-              (timed_in (made ++ done.calls_made) settled) lapsed.0 (timed_in calls new)) all
-              (last.folds (made ++ done.calls_made)),
+          (
+            lapsed.0,
+            subst (λ calls. FoldsTo (holding.Lapses MakesCall ReadsBeside ShowsBeside may)
+                (timed_in (made ++ done.calls_made) settled) lapsed.0 (timed_in calls new)) all
+                (last.folds (made ++ done.calls_made)),
+          ),
         ),
         both done.calls_made last.calls done.rests last.rests,
       )

@@ -1,5 +1,5 @@
 -- The send that gives back what the client holds is left.
-use Rattle.std.proofs.Common.{◌≡◌, ◌∙◌, None, sym, true}
+use Rattle.std.proofs.Common.{◌≡◌, ◌∙◌, None, refl, sym, true}
 use Rattle.std.specs.Prelude.{is_some}
 use Rattle.sysv_engine.specs.Places.{Seated}
 use Rattle.sysv_engine.proofs.PlaceLemmas.{keeps_from, leaves_lapse}

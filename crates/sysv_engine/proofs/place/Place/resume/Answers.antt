@@ -38,7 +38,8 @@ returns-in-Some g c =
       returning = was.returning;
     } in
     let gates : new.gates ≡ seen.gates = cc in
-    let idle : was.returning ≡ None = none_waits was.returning c.is_some.result c.is_some.ensures c.if-is_some.false in
+    let idle : was.returning ≡ None =
+    none_waits t.incoming t.outgoing t.closes was.returning c.is_some.result c.is_some.ensures c.if-is_some.false in
     record {
       keeps = keeps_from t.incoming t.outgoing t.closes seen c.args.self.now new c.self.view_is
           (goes_on t.incoming t.outgoing t.closes seen new c.in-Some.client c.go_on.new.self c.in-Some.is refl

@@ -1,7 +1,8 @@
 -- What one read returned is taken up, or stops the client.
-use Rattle.std.proofs.Common.{◌≡◌, ◌++◌, ◌∙◌, ℕ, List, ap, arith, length, refl, subst, sym, take}
+use Rattle.std.proofs.Common.{◌≡◌, ◌++◌, ◌∙◌, ℕ, List, Option, Some, ap, arith, length, refl, subst, sym, take}
 use Rattle.std.proofs.Math.Seq.{take-append_seam}
 use Rattle.std.specs.Io.KnownBytes.{Consumes}
+use Rattle.sysv_seats.specs.declared.non_blocking.Over.{Over}
 use Rattle.sysv_seats.specs.Sits.{Sitting}
 use Rattle.sysv_session.specs.declared.served.End.TheVariants.{Fault, Reset}
 use Rattle.sysv_wire.specs.declared.fault.Fault.TheVariants.{Read}
@@ -9,6 +10,9 @@ use Rattle.sysv_seats.proofs.ClientLemmas.{filled, filled_last, filled_none, fil
 use Rattle.sysv_seats.proofs.ClientLemmas.{stops_resetting}
 use Rattle.sysv_seats.proofs.Said.{said_end, said_failed, said_filled, said_nothing, said_reset}
 use Rattle.sysv_seats.proofs.client.Client.fill.Goals as goal
+
+abbrev some_over : Over → Option Over
+some_over why = Some why
 
 -- The whole buffer.
 all_taken : (bytes buffer more : List ℕ) (n : ℕ) → bytes ≡ take n (buffer ++ more) → n ≡ length buffer → bytes ≡ buffer
@@ -38,7 +42,7 @@ returns-in-NothingNow-clause-said g c =
 pub returns-in-Over-End-clause-said : goal.returns-in-Over-End-clause-said
 returns-in-Over-End-clause-said g c =
     said_end g.T.NonBlocking.closes _ _ _ c.fill.new.self c.self.view_is c.requires.free
-    c.in-Over-End.ensures.said c.take_up.ensures.said
+    (c.in-Over-End.ensures.said ∙ ap some_over (rw c.in-Over-End.is at c.in-Over-End.field-0-is)) c.take_up.ensures.said
 
 pub returns-in-NothingNow-clause-keeps : goal.returns-in-NothingNow-clause-keeps
 returns-in-NothingNow-clause-keeps g c =
@@ -61,7 +65,8 @@ returns-in-Over-Reset g c = record {
       ∙ (c.fill.ensures.breaks
       ∙ ap (λ (s : Sitting g.row.T.Denot). g.T.NonBlocking.closes.breaks s.connection) c.self.view_is);
   said = said_reset g.T.NonBlocking.closes _ _ c.stop.new.self c.fill.new.self c.self.view_is c.requires.free
-      c.in-Over-Reset.ensures.said c.stop.ensures;
+      (c.in-Over-Reset.ensures.said ∙ ap some_over (rw c.in-Over-Reset.is at c.in-Over-Reset.field-0-is))
+      c.stop.ensures;
 }
 
 pub returns-in-Over-Failed : goal.returns-in-Over-Failed
@@ -76,5 +81,6 @@ returns-in-Over-Failed g c = record {
       ∙ (c.fill.ensures.breaks
       ∙ ap (λ (s : Sitting g.row.T.Denot). g.T.NonBlocking.closes.breaks s.connection) c.self.view_is);
   said = said_failed g.T.NonBlocking.closes _ _ c.stop-in-Over-Failed.new.self c.fill.new.self c.self.view_is
-      c.requires.free c.in-Over-Failed.ensures.said c.stop-in-Over-Failed.ensures;
+      c.requires.free (c.in-Over-Failed.ensures.said
+      ∙ ap some_over (rw c.in-Over-Failed.is at c.in-Over-Failed.field-0-is)) c.stop-in-Over-Failed.ensures;
 }

@@ -84,8 +84,9 @@ returns-in-Ok-Hello-clause-said g c = λ has.
     let S : Type 0 = Sitting g.row.T.Denot in
     let same = c.self.view_is ∙ c.read_next-size.ensures.takes.same in
     let going = ap (λ (s : S). s.stopped) same ∙ c.requires.free.1 in
+    let read = said_read t.closes c.args.self.now _ c.read_next-size.new.self.dialogue same has in
     said_greeted t.closes _ c.greet.new.self c.in-Ok-Hello.version going c.greet.ensures.greets
-    (said_read t.closes c.args.self.now _ c.read_next-size.new.self.dialogue same has)
+    (record { stops = read.stops })
 
 pub returns-in-Ok-Request-clause-said : goal.returns-in-Ok-Request-clause-said
 returns-in-Ok-Request-clause-said g c = λ has.
