@@ -2,7 +2,7 @@
 use Rattle.std.proofs.Common.{◌≡◌, ◌∙◌, ◌+◌, ℕ, ℤ, List, [], ◌∷◌, Option, None, Some, Result, Ok, Err, inl, inr}
 use Rattle.std.proofs.Common.{ap, ap₂, refl, subst, sym, arith}
 use Rattle.std.proofs.Common.{length, length-append}
-use Rattle.std.specs.Prelude.{⊤, ◌≤◌}
+use Rattle.std.specs.Prelude.{⊤}
 use Rattle.std.specs.List.{FoldsTo}
 use Rattle.sysv_model.specs.declared.attributes.Row.{Row as Line}
 use Rattle.sysv_model.specs.declared.attributes.Stat.{Stat as Attributes}

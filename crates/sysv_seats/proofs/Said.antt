@@ -1,7 +1,7 @@
 -- What the events of a client keep: it stops for what the reads of its connection have said.
 use Rattle.std.proofs.Common.{◌≡◌, ◌≢◌, ◌⊎◌, ℕ, Bool, List, [], ◌∷◌, Option, Result, Err, None, Some}
 use Rattle.std.proofs.Common.{refl, sym, ap, subst, ◌∙◌, inl, inr}
-use Rattle.std.specs.Prelude.{⊤, false, true, is_some, unwrap_or}
+use Rattle.std.specs.Prelude.{false, true, is_some, unwrap_or}
 use Rattle.sysv_session.specs.declared.handler.RequestOutcome.{RequestOutcome}
 use Rattle.sysv_session.specs.declared.served.End.{End}
 use Rattle.sysv_session.specs.declared.served.End.TheVariants.{Fault, Left, NoMemory, Reset, Write}

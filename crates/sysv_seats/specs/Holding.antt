@@ -28,7 +28,7 @@ use Rattle.sysv_wire.specs.declared.reply.Reply.{Reply as Answer}
 use Rattle.sysv_wire.specs.declared.reply.ReplyContent.{ReplyContent}
 use Rattle.sysv_wire.specs.declared.reply.ReplyContent.TheVariants as content
 use Rattle.sysv_wire.specs.declared.request.Ask.{Ask}
-use Rattle.sysv_wire.specs.declared.request.Ask.TheVariants.{Rcv, Hold, Done, Back}
+use Rattle.sysv_wire.specs.declared.request.Ask.TheVariants.{Hold, Done, Back}
 use Rattle.sysv_seats.specs.Replies.{reply}
 use Rattle.sysv_seats.specs.Requests.{Going, Asks, Ends, Receives, Sends}
 use Rattle.sysv_steps.specs.Call.{MsgctlStat}

@@ -42,7 +42,7 @@ returns-in-NothingNow-clause-said g c =
 pub returns-in-Over-End-clause-said : goal.returns-in-Over-End-clause-said
 returns-in-Over-End-clause-said g c =
     said_end g.T.NonBlocking.closes _ _ _ c.fill.new.self c.self.view_is c.requires.free
-    (c.in-Over-End.ensures.said ∙ ap some_over (rw c.in-Over-End.is at c.in-Over-End.field-0-is)) c.take_up.ensures.said
+    (c.in-Over-End.ensures.said ∙ ap some_over c.in-Over-End.field-0-is) c.take_up.ensures.said
 
 pub returns-in-NothingNow-clause-keeps : goal.returns-in-NothingNow-clause-keeps
 returns-in-NothingNow-clause-keeps g c =
@@ -65,7 +65,7 @@ returns-in-Over-Reset g c = record {
       ∙ (c.fill.ensures.breaks
       ∙ ap (λ (s : Sitting g.row.T.Denot). g.T.NonBlocking.closes.breaks s.connection) c.self.view_is);
   said = said_reset g.T.NonBlocking.closes _ _ c.stop.new.self c.fill.new.self c.self.view_is c.requires.free
-      (c.in-Over-Reset.ensures.said ∙ ap some_over (rw c.in-Over-Reset.is at c.in-Over-Reset.field-0-is))
+      (c.in-Over-Reset.ensures.said ∙ ap some_over c.in-Over-Reset.field-0-is)
       c.stop.ensures;
 }
 
@@ -82,5 +82,5 @@ returns-in-Over-Failed g c = record {
       ∙ ap (λ (s : Sitting g.row.T.Denot). g.T.NonBlocking.closes.breaks s.connection) c.self.view_is);
   said = said_failed g.T.NonBlocking.closes _ _ c.stop-in-Over-Failed.new.self c.fill.new.self c.self.view_is
       c.requires.free (c.in-Over-Failed.ensures.said
-      ∙ ap some_over (rw c.in-Over-Failed.is at c.in-Over-Failed.field-0-is)) c.stop-in-Over-Failed.ensures;
+      ∙ ap some_over c.in-Over-Failed.field-0-is) c.stop-in-Over-Failed.ensures;
 }

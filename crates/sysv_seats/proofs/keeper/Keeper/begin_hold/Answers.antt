@@ -1,12 +1,12 @@
 -- A hold has come as far as its receive, once its caller may send to the queue.
-use Rattle.std.proofs.Common.{◌≡◌, [], rules, sym, subst, true, Result, Ok, Err}
+use Rattle.std.proofs.Common.{◌≡◌, [], rules, subst, true, Result}
 use Rattle.std.proofs.lemmas.Int.{to_z-of_z}
 use Rattle.std.specs.Prelude.{⊤}
 use Rattle.sysv_model.specs.declared.errno.Errno.{Errno}
 use Rattle.sysv_wire.specs.declared.request.Ask.TheVariants.{Rcv}
 use Rattle.sysv_seats.specs.Held.{AsksForWriting, holder_of}
 use Rattle.sysv_seats.specs.Holding.{can_hold}
-use Rattle.sysv_seats.proofs.HeldPieces.{begun_short, hold_answers, hold_begun, hold_denied}
+use Rattle.sysv_seats.proofs.HeldPieces.{begun_short, hold_answers, hold_begun}
 use Rattle.sysv_seats.proofs.keeper.Keeper.begin_hold.Goals as goal
 
 pub keep-requires-clause-short : goal.keep-requires-clause-short
