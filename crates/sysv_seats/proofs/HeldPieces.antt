@@ -99,14 +99,14 @@ module _ (may : ℕ → Type 0) (version : Version) (cred : Cred) where
       HoldAsks may may_leave version cred ask text before Left [] after
   hold_left may_leave (Hold id size mtype flags seconds) text before waiting after leaves
       (can, granted, asks, parked, same) = inr (inr (
-    can,
-    Left,
-    granted,
-    asks,
-    left may version cred may_leave (Rcv id size mtype flags) text granted waiting after.at leaves parked,
-    refl,
-    same ∙ none_held flags seconds before.message can,
-  ))
+        can,
+        Left,
+        granted,
+        asks,
+        left may version cred may_leave (Rcv id size mtype flags) text granted waiting after.at leaves parked,
+        refl,
+        same ∙ none_held flags seconds before.message can,
+      ))
   hold_left may_leave Done text before waiting after leaves parked = absurd parked.0
   hold_left may_leave Back text before waiting after leaves (message, is, parked, same) = inr (
     message,
