@@ -738,7 +738,7 @@ static struct connection *borrow(struct connection *single, const struct call *c
 /* Whether a call is about the message that its session holds. */
 static bool is_of_held(const struct frame *frame)
 {
-    return frame->operation == HOLD || frame->operation == DONE;
+    return frame->operation == HOLD || frame->operation == DONE || frame->operation == BACK;
 }
 
 /* The same of a connection that was opened. A single one also serves a thread if another one uses
@@ -763,17 +763,29 @@ static void give_back(struct connection *connection, struct connection *single)
         current_call = 0;
 }
 
+/* Notes whether the session holds a message after a call that returns `error`. With any reply to a
+ * back it holds none, and it holds none once it has ended. */
+static void note_held(struct connection *connection, const struct frame *frame, int error)
+{
+    if (frame->operation == BACK)
+        connection->holds = false;
+    else if (error == 0 && is_of_held(frame))
+        connection->holds = frame->operation == HOLD;
+}
+
 /* Makes a call over a connection that is borrowed. */
 static int make_call(struct connection *connection, struct frame *frame, struct call *call)
 {
     int error = make_ready(connection, call);
     if (error == 0)
         error = exchange(connection, frame, call);
+    /* (a message that a hold has got just then comes back) */
+    if (error == 0 && call->ended_by != 0 && frame->operation == HOLD)
+        error = call->ended_by;
+    note_held(connection, frame, error);
     if (call->ended_by != 0)
         end_session(connection);
     frame->slots = connection->slots;
-    if (error == 0 && is_of_held(frame))
-        connection->holds = frame->operation == HOLD;
     return error;
 }
 
@@ -890,18 +902,6 @@ const char *connection_why(const struct connection *connection) { return connect
 bool connection_was_sent(const struct connection *connection) { return connection->was_sent; }
 
 bool connection_is_holding(const struct connection *connection) { return connection->holds; }
-
-int connection_back(struct connection *connection)
-{
-    int error = EBUSY;
-    if (!atomic_exchange(&connection->in_use, true)) {
-        error = connection->holds ? 0 : EINVAL;
-        if (error == 0)
-            end_session(connection);
-        atomic_store(&connection->in_use, false);
-    }
-    return error;
-}
 
 /* Whether no server listens, or one ended while the session began. Another one may start. */
 static bool has_no_server(const struct connection *connection, int error)

@@ -46,18 +46,14 @@ int connection_retry(struct connection *connection, int milliseconds_at_most);
 /* Whether the session holds a message. */
 bool connection_is_holding(const struct connection *connection);
 
-/* Gives back the message that is held: ends the session, so that the server sends the message
- * again. Returns 0, EINVAL if none is held, or EBUSY if another thread is in a call. */
-int connection_back(struct connection *connection);
-
 /* Sends a request and reads its reply into the same frame, over a connection that was opened, or
  * over the thread's own for NULL. Returns 0, or the errno of the call. A call that `may_wait` is a
  * cancellation point while it waits for its reply. If a signal handler runs meanwhile, it fails
  * with EINTR and has no effect, unless the peer's sessions go on waiting. If its time is over, it
  * fails with ETIMEDOUT and has no effect; -1 is no limit. Threads may use a connection at once:
- * each that finds it in use makes its call over one of its own; a hold or a done fails with EBUSY
- * then. While a message is held, each call that may wait is made over a connection of its own: its
- * end would be that of the session, which gives the message back. */
+ * each that finds it in use makes its call over one of its own; a hold, a done or a back fails with
+ * EBUSY then. While a message is held, each other call that may wait is made over a connection of
+ * its own: its end would be that of the session, which gives the message back. */
 int ask(struct connection *opened, struct frame *frame, bool may_wait, int milliseconds_at_most);
 
 #endif

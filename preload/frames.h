@@ -9,7 +9,7 @@
 #include <sys/uio.h>
 
 /* Those from HOLD on are only in frames of version 3. */
-enum operation { HELLO, GET, SND, RCV, STAT, SET, RM, ROW, HOLD, DONE };
+enum operation { HELLO, GET, SND, RCV, STAT, SET, RM, ROW, HOLD, DONE, BACK };
 
 enum version { VERSION_TWO = 2, VERSION_THREE = 3 };
 

@@ -94,6 +94,14 @@ int request_done(struct connection *opened)
     return ask(opened, &frame, false, -1);
 }
 
+int request_back(struct connection *opened, int milliseconds_at_most)
+{
+    struct frame frame;
+    frame_begin(&frame, BACK);
+    frame_end(&frame);
+    return ask(opened, &frame, true, milliseconds_at_most);
+}
+
 /* Asks for one thing of one queue or slot. */
 static int ask_of(
     struct connection *opened, struct frame *frame, enum operation operation, int number)

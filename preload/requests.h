@@ -47,6 +47,10 @@ int request_hold(struct connection *opened, int id, void *message, size_t size, 
 /* Fails with EINVAL if no message is held, and with EBUSY if another thread uses the connection. */
 int request_done(struct connection *opened);
 
+/* The same. The server sends the message again, and the call fails if that does. It waits for room;
+ * if its wait ends early, the session ends, and the server then gives the message back. */
+int request_back(struct connection *opened, int milliseconds_at_most);
+
 int request_stat(struct connection *opened, int id, struct queue_stat *stat);
 int request_set(struct connection *opened, int id, const struct queue_set *set);
 int request_rm(struct connection *opened, int id);

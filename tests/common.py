@@ -268,7 +268,7 @@ def vectors():
 def frames_of_wire_page():
     """The frames that docs/wire.md shows, one after another."""
     with open(os.path.join(TOP, "docs", "wire.md"), encoding="utf-8") as file:
-        blocks = re.findall(r"^```\n(hello.*?)^```$", file.read(), re.MULTILINE | re.DOTALL)
+        blocks = re.findall(r"^```\n((?:hello|hold from).*?)^```$", file.read(), re.MULTILINE | re.DOTALL)
     data = bytes.fromhex("".join(re.sub(r"^\S.*?\s{2,}", "", line) for block in blocks for line in block.splitlines()))
     found = []
     while data:

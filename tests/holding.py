@@ -6,7 +6,7 @@ import struct
 from common import CREAT, GET, HELLO, NOWAIT, RCV, RM, SET, SND, STAT
 
 HOLD, DONE, BACK = 8, 9, 10
-EAGAIN, EINVAL = 11, 22
+EAGAIN, EACCES, EINVAL, EIDRM = 11, 13, 22, 43
 LONGEST = 8192
 
 
@@ -21,11 +21,11 @@ class Refused(Exception):
 class Holding:
     """A session of version 3, or of another one."""
 
-    def __init__(self, path, version=3):
+    def __init__(self, path, version=3, uid=1000):
         self.version = version
         self.peer = socket.socket(socket.AF_UNIX)
         self.peer.connect(path)
-        self.ask(HELLO, struct.pack(">III", 1000, 1000, os.getpid()))
+        self.ask(HELLO, struct.pack(">III", uid, uid, os.getpid()))
 
     def start(self, operation, fields=b""):
         self.peer.sendall(struct.pack(">IBB", 2 + len(fields), self.version, operation) + fields)
@@ -77,11 +77,14 @@ class Holding:
     def done(self):
         self.ask(DONE)
 
+    def back(self):
+        self.ask(BACK)
+
     def remove(self, queue):
         self.ask(RM, struct.pack(">i", queue))
 
-    def set(self, queue, qbytes):
-        self.ask(SET, struct.pack(">iIIII", queue, 1000, 1000, 0o600, qbytes))
+    def set(self, queue, qbytes, uid=1000, mode=0o600):
+        self.ask(SET, struct.pack(">iIIII", queue, uid, uid, mode, qbytes))
 
     def queued(self, queue):
         return struct.unpack(">I", self.ask(STAT, struct.pack(">i", queue))[26:30])[0]

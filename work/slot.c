@@ -62,20 +62,24 @@ static int queue_of(const struct slot *slot, int key)
     return sysvmsg_get(slot->server, key, slot->work->options.creates ? SYSVMSG_CREAT | 0600 : 0);
 }
 
-/* Begins a session, and finds the queues in it: a restarted server has others. Returns NULL, or
- * what failed with an errno. */
-static const char *begin_session(struct slot *slot)
+/* Finds the queues. Returns NULL, or the key of the one that was not found, with an errno. */
+static const char *find_queues(struct slot *slot)
 {
     const struct options *options = &slot->work->options;
-    sysvmsg_close(slot->server);
-    slot->server = sysvmsg_open_holding(options->path, SYSVMSG_NO_LIMIT);
-    if (!slot->server)
-        return NO_SERVER;
     slot->queue = queue_of(slot, options->key);
     if (slot->queue < 0)
         return options->key_word;
     slot->failed = options->failed_word ? queue_of(slot, options->failed) : 0;
     return slot->failed < 0 ? options->failed_word : NULL;
+}
+
+/* Begins a session, and finds the queues in it: a restarted server has others. Returns NULL, or
+ * what failed with an errno. */
+static const char *begin_session(struct slot *slot)
+{
+    sysvmsg_close(slot->server);
+    slot->server = sysvmsg_open_holding(slot->work->options.path, SYSVMSG_NO_LIMIT);
+    return slot->server ? find_queues(slot) : NO_SERVER;
 }
 
 /* Says why a session did not begin. */
@@ -125,11 +129,21 @@ static bool lose(struct slot *slot, const char *what)
     return find_server(slot);
 }
 
-/* Gives the message back. The next session finds the queue again. */
+/* A message cannot come back: its queue was removed, or this user may no longer send to it. */
+static void say_lost(const struct slot *slot, int error)
+{
+    bool is_removed = error == EINVAL || error == EIDRM;
+    say(slot, "a job was not done and is gone",
+        is_removed ? "the queue was removed" : strerror(error));
+}
+
+/* Gives the message back. If there was no room, another session follows, so the queues are found
+ * again. A message whose session was lost comes back without this. */
 static bool give_back(struct slot *slot)
 {
-    sysvmsg_back(slot->server);
-    return find_server(slot);
+    if (sysvmsg_back(slot->server) < 0 && errno != EIO)
+        say_lost(slot, errno);
+    return is_at_work(slot) && (!find_queues(slot) || find_server(slot));
 }
 
 /* The job is done with. */

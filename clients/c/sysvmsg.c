@@ -13,7 +13,10 @@
 
 #define EXPORTED __attribute__((visibility("default")))
 
-enum { NOWAIT_FLAG = 2048 };
+enum {
+    NOWAIT_FLAG = 2048,
+    BACK_MS = 100 /* how long a message that is given back waits for room before its session ends */
+};
 
 struct sysvmsg {
     struct peer peer;
@@ -166,7 +169,13 @@ EXPORTED int sysvmsg_done(struct sysvmsg *server)
 
 EXPORTED int sysvmsg_back(struct sysvmsg *server)
 {
-    return outcome(server ? connection_back(server->connection) : EFAULT);
+    if (!server)
+        return outcome(EFAULT);
+    if (!connection_is_holding(server->connection))
+        return outcome(EINVAL);
+    int error = request_back(server->connection, BACK_MS);
+    /* (the session has ended, so the server gives the message back once there is room) */
+    return error == ETIMEDOUT || error == EINTR ? 0 : outcome(error);
 }
 
 EXPORTED int sysvmsg_stat(struct sysvmsg *server, int queue, struct sysvmsg_stat *stat)

@@ -108,9 +108,10 @@ ssize_t sysvmsg_rcv(struct sysvmsg *server, int queue, void *message, size_t siz
 
 /* Receives a message as sysvmsg_rcv does, and holds it: the server sends it again if the session
  * ends before sysvmsg_done. The flag is SYSVMSG_EXCEPT. It fails with EINVAL if a message is held,
- * with EAGAIN if the server has no place for one more message that is held, with EBUSY if another
- * thread is in a call, and with EPROTONOSUPPORT if sysvmsg_open_holding has not opened the
- * connection. The session also ends if the process changes its effective user or group. */
+ * with EACCES if the session may not send to the queue, with EAGAIN if the server has no place for
+ * one more message that is held, with EBUSY if another thread is in a call, and with
+ * EPROTONOSUPPORT if sysvmsg_open_holding has not opened the connection. The session also ends if
+ * the process changes its effective user or group. */
 ssize_t sysvmsg_hold(struct sysvmsg *server, int queue, void *message, size_t size, int64_t type,
     int flags, int milliseconds);
 
@@ -118,8 +119,11 @@ ssize_t sysvmsg_hold(struct sysvmsg *server, int queue, void *message, size_t si
  * it may have come back. */
 int sysvmsg_done(struct sysvmsg *server);
 
-/* Gives back the message that is held: the server sends it again, as the last one of its queue. It
- * ends the session, and the next call begins another one. It fails with EINVAL if none is held. */
+/* Gives back the message that is held: the server sends it again, as the last one of its queue. If
+ * the queue has no room for 100 milliseconds, or a signal handler runs, the session ends, and the
+ * server sends the message once there is room. It fails with EINVAL if none is held. EINVAL and
+ * EIDRM, if the queue was removed, and EACCES, if the session may no longer send to it: the message
+ * is gone. After EIO it comes back, unless the server has ended. */
 int sysvmsg_back(struct sysvmsg *server);
 
 int sysvmsg_stat(struct sysvmsg *server, int queue, struct sysvmsg_stat *stat);

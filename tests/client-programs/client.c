@@ -114,6 +114,17 @@ static int call(struct sysvmsg *server, char **w)
             strtoll(w[3], NULL, 10), flags, flags & 2048 ? SYSVMSG_NOWAIT : SYSVMSG_NO_LIMIT);
         if (result >= 0)
             print_body(&message, result);
+    } else if (strcmp(name, "hold") == 0) {
+        int flags = atoi(w[4]);
+        result = (int)sysvmsg_hold(server, number, &message, (size_t)atoi(w[2]),
+            strtoll(w[3], NULL, 10), flags, flags & 2048 ? SYSVMSG_NOWAIT : SYSVMSG_NO_LIMIT);
+        if (result >= 0)
+            print_body(&message, result);
+    } else if (strcmp(name, "done") == 0 || strcmp(name, "back") == 0) {
+        CHECK(sysvmsg_hold(server, 0, &message, 100, -5, 0, SYSVMSG_NOWAIT) >= 0);
+        result = strcmp(name, "done") == 0 ? sysvmsg_done(server) : sysvmsg_back(server);
+        if (result == 0)
+            printf("\n");
     } else if (strcmp(name, "stat") == 0) {
         result = sysvmsg_stat(server, number, &stat);
         if (result == 0)
@@ -136,9 +147,10 @@ static int call(struct sysvmsg *server, char **w)
     return result;
 }
 
-static void try_call(char **words)
+static void try_call(bool can_hold, char **words)
 {
-    struct sysvmsg *server = sysvmsg_open_as(path, 1000, 1000, SYSVMSG_NO_LIMIT);
+    struct sysvmsg *server = can_hold ? sysvmsg_open_holding(path, SYSVMSG_NO_LIMIT)
+                                      : sysvmsg_open_as(path, 1000, 1000, SYSVMSG_NO_LIMIT);
     CHECK(server);
     CHECK(sysvmsg_slots(server) == 256);
     errno = 0;
@@ -454,6 +466,97 @@ static void try_hold(void)
     sysvmsg_close(server);
 }
 
+/* A message that is given back is the last one of its queue, and the session goes on, also if the
+ * message cannot come back. */
+static void try_back(void)
+{
+    struct sysvmsg *server = open_server(), *holder = sysvmsg_open_holding(path, 10000);
+    int queue = sysvmsg_get(server, KEY, SYSVMSG_CREAT | 0600);
+    CHECK(holder && send_text(server, queue, 5, "first", 10000) == 0);
+    CHECK(send_text(server, queue, 6, "second", 10000) == 0 && holds(holder, queue, 5, "first"));
+    CHECK(sysvmsg_back(holder) == 0);
+    CHECK(sysvmsg_back(holder) == -1 && errno == EINVAL);
+    CHECK(sysvmsg_done(holder) == -1 && errno == EINVAL);
+    CHECK(holds(holder, queue, 6, "second") && sysvmsg_back(holder) == 0);
+    CHECK(receives(server, queue, 0, "first") && holds(holder, queue, 6, "second"));
+    CHECK(sysvmsg_rm(server, queue) == 0);
+    CHECK(sysvmsg_back(holder) == -1 && errno == EINVAL);
+    queue = sysvmsg_get(server, KEY, SYSVMSG_CREAT | 0600);
+    CHECK(send_text(server, queue, 7, "kept", 10000) == 0 && holds(holder, queue, 7, "kept"));
+    CHECK(sysvmsg_back(holder) == 0 && receives(server, queue, 0, "kept"));
+    sysvmsg_close(holder);
+    sysvmsg_close(server);
+}
+
+/* So is one that this user may no longer send. */
+static void try_back_denied(void)
+{
+    if (geteuid() == 0)
+        CHECK(setresgid(1000, 1000, 1000) == 0 && setresuid(1000, 1000, 1000) == 0);
+    struct sysvmsg *owner = sysvmsg_open_as(path, geteuid() + 1, getegid() + 1, 10000);
+    struct sysvmsg *holder = sysvmsg_open_holding(path, 10000);
+    struct sysvmsg_set set = {geteuid() + 1, getegid() + 1, 0444, 16384};
+    struct sysvmsg_message message;
+    struct sysvmsg_stat stat;
+    int queue = sysvmsg_get(owner, KEY, SYSVMSG_CREAT | 0666);
+    CHECK(holder && send_text(owner, queue, 5, "kept", 10000) == 0);
+    CHECK(holds(holder, queue, 5, "kept") && sysvmsg_set(owner, queue, &set) == 0);
+    CHECK(sysvmsg_back(holder) == -1 && errno == EACCES);
+    CHECK(sysvmsg_back(holder) == -1 && errno == EINVAL);
+    CHECK(sysvmsg_stat(owner, queue, &stat) == 0 && stat.qnum == 0);
+    set.mode = 0666;
+    CHECK(sysvmsg_set(owner, queue, &set) == 0 && send_text(owner, queue, 6, "x", 10000) == 0);
+    set.mode = 0444;
+    CHECK(sysvmsg_set(owner, queue, &set) == 0);
+    CHECK(sysvmsg_hold(holder, queue, &message, 9, 0, 0, SYSVMSG_NOWAIT) == -1 && errno == EACCES);
+    CHECK(sysvmsg_rcv(holder, queue, &message, 9, 0, 0, SYSVMSG_NOWAIT) == 1);
+    sysvmsg_close(holder);
+    sysvmsg_close(owner);
+}
+
+/* Holds a message, and fills its queue. */
+static void hold_and_fill(struct sysvmsg *server, struct sysvmsg *holder, int queue)
+{
+    struct sysvmsg_message message = {.type = 2};
+    CHECK(send_text(server, queue, 5, "back", 10000) == 0 && holds(holder, queue, 5, "back"));
+    while (sysvmsg_snd(server, queue, &message, sizeof message.body, SYSVMSG_NOWAIT) == 0)
+        ;
+    CHECK(errno == EAGAIN);
+}
+
+/* If the queue has no room, the session ends, so that the only consumer can go on, and the message
+ * comes back once there is room. A signal handler ends the wait too. */
+static void try_back_full(void)
+{
+    struct sysvmsg *server = open_server(), *holder = sysvmsg_open_holding(path, 10000);
+    struct sysvmsg_message message;
+    struct sigaction action = {.sa_handler = note};
+    CHECK(holder && sigaction(SIGALRM, &action, NULL) == 0);
+    for (int round = 0; round < 2; round++) {
+        int queue = sysvmsg_get(server, KEY, SYSVMSG_CREAT | 0600);
+        hold_and_fill(server, holder, queue);
+        if (round == 1)
+            ualarm(20000, 0);
+        CHECK(sysvmsg_back(holder) == 0);
+        CHECK(sysvmsg_back(holder) == -1 && errno == EINVAL);
+        CHECK(sysvmsg_hold(holder, queue, &message, sizeof message.body, 2, 0, 10000) > 0);
+        CHECK(sysvmsg_done(holder) == 0 && receives(server, queue, 5, "back"));
+        CHECK(sysvmsg_rm(server, queue) == 0);
+    }
+    sysvmsg_close(holder);
+    sysvmsg_close(server);
+}
+
+/* A message that a hold gets when its time is over comes back, and is not held. */
+static void try_hold_late(void)
+{
+    struct sysvmsg *holder = sysvmsg_open_holding(path, 10000);
+    struct sysvmsg_message message;
+    CHECK(holder && sysvmsg_hold(holder, 0, &message, 99, 0, 0, 200) == -1 && errno == ETIMEDOUT);
+    CHECK(sysvmsg_done(holder) == -1 && errno == EINVAL);
+    sysvmsg_close(holder);
+}
+
 /* A call that waits and whose time is over ends no session that holds a message, and a hold keeps
  * to the bounds of a receive. */
 static void try_hold_apart(void)
@@ -538,12 +641,13 @@ int main(int count, char **words)
         {"no-place", try_no_place}, {"no-server", try_no_server}, {"faults", try_faults},
         {"no-connection", try_no_connection}, {"many", try_many}, {"restart", try_restart},
         {"hold", try_hold}, {"hold-apart", try_hold_apart}, {"hold-killed", try_hold_killed},
-        {"hold-refused", try_hold_refused}};
+        {"hold-refused", try_hold_refused}, {"back", try_back}, {"back-denied", try_back_denied},
+        {"back-full", try_back_full}, {"hold-late", try_hold_late}};
     if (count < 3)
         return 2;
     path = words[2];
-    if (strcmp(words[1], "call") == 0) {
-        try_call(words + 3);
+    if (strcmp(words[1], "call") == 0 || strcmp(words[1], "call-holding") == 0) {
+        try_call(strcmp(words[1], "call") != 0, words + 3);
         return 0;
     }
     for (size_t i = 0; i < sizeof parts / sizeof *parts; i++) {

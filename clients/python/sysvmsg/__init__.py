@@ -25,15 +25,15 @@ from ._errors import (
 )  # fmt: skip
 from ._session import Pending
 from ._wire import (
-    BODY_MAX, CREAT, DONE, EXCEPT, EXCL, GET, HELLO, HOLD, NOERROR, NOWAIT, PRIVATE, RCV, RM, ROW, SET, SND, STAT,
+    BACK, BODY_MAX, CREAT, DONE, EXCEPT, EXCL, GET, HELLO, HOLD, NOERROR, NOWAIT, PRIVATE, RCV, RM, ROW, SET, SND, STAT,
     Message, Request, Row, Stat, frame, read_reply,
 )  # fmt: skip
 
 __version__ = "0.4.0.dev0"
 
 __all__ = [
-    "ANSWERED", "BODY_MAX", "CREAT", "DONE", "ERRORS", "EXCEPT", "EXCL", "GET", "HELLO", "HOLD", "NOERROR", "NOT_MADE",
-    "NOWAIT", "PRIVATE", "RCV", "RM", "ROW", "SET", "SND", "STAT", "UNKNOWN", "CannotHold", "Connection",
+    "ANSWERED", "BACK", "BODY_MAX", "CREAT", "DONE", "ERRORS", "EXCEPT", "EXCL", "GET", "HELLO", "HOLD", "NOERROR",
+    "NOT_MADE", "NOWAIT", "PRIVATE", "RCV", "RM", "ROW", "SET", "SND", "STAT", "UNKNOWN", "CannotHold", "Connection",
     "ConnectionLost", "Denied", "Error", "Exists", "ForkedConnection", "Held", "InUse", "Invalid", "Message",
     "NoMessage", "NoQueue", "NoRoom", "NoSlot", "NotMade", "NotPermitted", "Overflow", "Pending", "Pipeline",
     "ProtocolError", "QueueError", "Removed", "Request", "Row", "Stat", "TimedOut", "TooLong", "connect", "frame",

@@ -9,8 +9,10 @@ import time
 from types import TracebackType
 from typing import Iterator, List, Optional, Tuple, Type, TypeVar, Union, cast
 
-from ._errors import NOT_MADE, CannotHold, ConnectionLost, Invalid, QueueError, Removed, TimedOut
-from ._session import LONGEST, Pauses, Pending, Place, Session, deadline_in, time_left
+from ._errors import (
+    NOT_MADE, CannotHold, ConnectionLost, Error, ForkedConnection, Invalid, QueueError, Removed, TimedOut,
+)  # fmt: skip
+from ._session import BACK_WAIT, LONGEST, Pauses, Pending, Place, Session, deadline_in, time_left
 from ._wire import (
     BODY_MAX, HOLD, HOLDING, NOWAIT, Message, Request, Row, Stat, get_request, hold_request, rcv_request, set_request,
     wait_flag,
@@ -126,7 +128,9 @@ class Connection:
         self._place.check_process()
         session = self._holder(deadline)
         try:
-            return Held(self, session, self._make(session, request, deadline))
+            message = self._make(session, request, deadline)
+            session.check_kept(request)
+            return Held(self, session, message)
         except QueueError:
             self._keep(session)
             raise
@@ -213,7 +217,7 @@ class Connection:
         """Keeps a session that holds no message any more."""
         if self._is_closed:
             session.close()
-        else:
+        elif not session.is_over:
             self._holders.append(session)
 
     def _open(self, deadline: Optional[float], version: Optional[int] = None) -> Session:
@@ -325,8 +329,12 @@ class Held:
             return
         if kind is None:
             self.done()
-        else:
+            return
+        try:
             self.back()
+        except (Error, ForkedConnection):
+            # (the exception of the block is the one to raise)
+            pass
 
     def done(self) -> None:
         """The message is done with, and gone. If this raises `ConnectionLost`, it may have come back. A message that is
@@ -340,8 +348,24 @@ class Held:
         self._connection._keep(session)
 
     def back(self) -> None:
-        """Gives the message back: the server sends it again, as the last one of its queue."""
-        self._taken("back").close()
+        """Gives the message back: the server sends it again, as the last one of its queue.
+
+        If the queue has no room for 0.1 seconds, the session ends, and the server sends the message once there is room.
+        `Invalid` and `Removed`, if the queue was removed, and `Denied`, if this client may no longer send to it: the
+        message is gone. If this raises `ConnectionLost`, it comes back, unless the server has ended."""
+        session = self._taken("back")
+        try:
+            self._connection._make(session, Request.back(), deadline_in(BACK_WAIT))
+        except TimedOut:
+            # (the session has ended)
+            return
+        except QueueError:
+            self._connection._keep(session)
+            raise
+        except BaseException:
+            session.close()
+            raise
+        self._connection._keep(session)
 
     def _taken(self, call: str) -> Session:
         """The session, which does not hold the message after this."""

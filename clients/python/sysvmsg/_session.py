@@ -21,6 +21,7 @@ T = TypeVar("T")
 
 LONGEST = 1_000_000.0  # how many seconds the system waits at once
 LEAVE = 60.0  # how many seconds the server may take to end a session whose call was given up
+BACK_WAIT = 0.1  # how many seconds a message that is given back waits for room before its session ends
 _READ = 65536
 _KEYS = 4096  # how many keys of queues are kept for errors
 _QUEUES = 65536  # how many identifiers of queues are kept: as many as a server has queues at most
@@ -264,6 +265,11 @@ class Session:
         while not self.is_over:
             if not (yield deadline):
                 self._end(ConnectionLost, "the server does not reply")
+
+    def check_kept(self, request: Request[T]) -> None:
+        """Refuses a message that was held when its session was left: it comes back."""
+        if self.was_left:
+            raise self.place.explain(TimedOut(), request)
 
     def close(self) -> None:
         self.is_over = True

@@ -13,8 +13,8 @@ T = TypeVar("T")
 PRIVATE = 0  # the key of a queue that no other call finds
 BODY_MAX = 8192  # the longest message
 
-HELLO, GET, SND, RCV, STAT, SET, RM, ROW, HOLD, DONE = range(10)
-CALLS = ("hello", "get", "snd", "rcv", "stat", "set", "rm", "row", "hold", "done")
+HELLO, GET, SND, RCV, STAT, SET, RM, ROW, HOLD, DONE, BACK = range(11)
+CALLS = ("hello", "get", "snd", "rcv", "stat", "set", "rm", "row", "hold", "done", "back")
 HOLDING = 3  # the version of sessions that can hold a message
 CREAT, EXCL, NOWAIT, NOERROR, EXCEPT = 0o1000, 0o2000, 0o4000, 0o10000, 0o20000
 
@@ -150,14 +150,19 @@ class Request(Generic[T]):
         return Request(RCV, _pack("iIqI", id, size, type, flags), _message, queue=id)
 
     @staticmethod
-    def hold(id: int, size: int, type: int, flags: int) -> Request[Message]:
-        """Version 3 has it. The message is held without a limit of time."""
-        return Request(HOLD, _pack("iIqII", id, size, type, flags, 0), _message, queue=id)
+    def hold(id: int, size: int, type: int, flags: int, seconds: int = 0) -> Request[Message]:
+        """Version 3 has it. Servers refuse a number of seconds that is not 0."""
+        return Request(HOLD, _pack("iIqII", id, size, type, flags, seconds), _message, queue=id)
 
     @staticmethod
     def done() -> Request[None]:
         """Version 3 has it."""
         return Request(DONE, b"", _nothing)
+
+    @staticmethod
+    def back() -> Request[None]:
+        """Version 3 has it."""
+        return Request(BACK, b"", _nothing)
 
     @staticmethod
     def stat(id: int) -> Request[Stat]:

@@ -24,8 +24,10 @@ from types import TracebackType
 from typing import AsyncIterator, Coroutine, Generator, List, Optional, Type, TypeVar, cast
 
 from ._connection import Path, identity
-from ._errors import NOT_MADE, CannotHold, ConnectionLost, Invalid, QueueError, Removed, TimedOut
-from ._session import Pauses, Place, Session, Steps, deadline_in, time_left
+from ._errors import (
+    NOT_MADE, CannotHold, ConnectionLost, Error, ForkedConnection, Invalid, QueueError, Removed, TimedOut,
+)  # fmt: skip
+from ._session import BACK_WAIT, Pauses, Place, Session, Steps, deadline_in, time_left
 from ._wire import (
     BODY_MAX, HOLD, HOLDING, Message, Request, Row, Stat, get_request, hold_request, rcv_request, set_request, wait_flag,
 )  # fmt: skip
@@ -184,7 +186,9 @@ class Connection:
         self._place.check_process()
         session = await self._holder(deadline)
         try:
-            return Held(self, session, await self._make(session, request, deadline))
+            message = await self._make(session, request, deadline)
+            session.check_kept(request)
+            return Held(self, session, message)
         except QueueError:
             self._keep(session)
             raise
@@ -224,7 +228,7 @@ class Connection:
         """Keeps a session that holds no message any more."""
         if self._is_closed:
             session.close()
-        else:
+        elif not session.is_over:
             self._holders.append(session)
 
     async def _begin(self, wait: Optional[float]) -> Connection:
@@ -357,9 +361,23 @@ class Held:
             raise
         self._connection._keep(session)
 
-    def back(self) -> None:
-        """`sysvmsg.Held.back`."""
-        self._taken("back").close()
+    def back(self) -> asyncio.Task[None]:
+        """`sysvmsg.Held.back`. It begins at once; its result is awaited."""
+        return asyncio.ensure_future(self._back(self._taken("back")))
+
+    async def _back(self, session: Session) -> None:
+        try:
+            await self._connection._make(session, Request.back(), deadline_in(BACK_WAIT))
+        except TimedOut:
+            # (the session has ended)
+            return
+        except QueueError:
+            self._connection._keep(session)
+            raise
+        except BaseException:
+            session.close()
+            raise
+        self._connection._keep(session)
 
     def _taken(self, call: str) -> Session:
         """The session, which does not hold the message after this."""
@@ -390,8 +408,12 @@ class Holding:
         held = cast(Held, self._held)
         if kind is None:
             await held.done()
-        else:
-            held.back()
+            return
+        try:
+            await held.back()
+        except (Error, ForkedConnection):
+            # (the exception of the block is the one to raise)
+            pass
 
 
 class Connecting:
