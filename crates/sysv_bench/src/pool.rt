@@ -1,4 +1,5 @@
-//! Chains of a pool beside vectors and a plain copy, for payloads of several sizes.
+//! Chains of a pool beside vectors and a plain copy, for payloads of several sizes. Each is measured
+//! five times, in turn.
 mod rounds;
 
 use crate::bodies::Bodies;
@@ -10,28 +11,74 @@ use std::time::{Clock, CpuClock};
 use sysv_model::MESSAGE_BYTES;
 use sysv_pool::Pool;
 
-/// The number of rounds of one measurement.
+/// The number of rounds of one run.
 const ROUNDS: u64 = 100_000;
+
+/// How often each kind of round is measured, all of them in turn.
+const RUNS: u32 = 5;
 
 /// The number of bytes that are copied.
 const TEXT: [u8; MESSAGE_BYTES] = [b'x'; MESSAGE_BYTES];
 
-/// Prints the time of rounds with chains beside that with vectors.
-fn show_beside<R: Clock + CpuClock + Print>(
-    rt: &R,
-    what: &str,
-    chains: Option<u64>,
-    vecs: Option<u64>,
-) -> io::Result<()> {
-    show(rt, what, "chain", chains, ROUNDS, "ns a round")?;
-    show(rt, what, "vector", vecs, ROUNDS, "ns a round")?;
-    show_ratio(rt, what, "chain beside vector", chains, vecs, "times")
+/// The shortest and the longest time of several runs, in nanoseconds.
+#[derive(Clone, Copy)]
+struct Spread {
+    best: u64,
+    worst: u64,
 }
 
-/// Prints how many million bytes per second were copied.
-fn show_speed(rt: &impl Print, how: &str, nanos: Option<u64>) -> io::Result<()> {
+/// What is known before the first run.
+const UNMEASURED: Spread = Spread {
+    best: u64::MAX,
+    worst: 0,
+};
+
+/// The times of each kind of round, `None` for one of which a run failed.
+#[derive(Clone, Copy)]
+struct Times {
+    chains: Option<Spread>,
+    vecs: Option<Spread>,
+    copies: Option<Spread>,
+}
+
+/// Returns the times of these runs and of one more.
+fn with(spread: Option<Spread>, nanos: Option<u64>) -> Option<Spread> {
+    let (Some(spread), Some(nanos)) = (spread, nanos) else {
+        return None;
+    };
+    Some(Spread {
+        best: spread.best.min(nanos),
+        worst: spread.worst.max(nanos),
+    })
+}
+
+/// Prints the shortest and the longest time of a round.
+fn show_spread(
+    rt: &impl Print,
+    what: &str,
+    [best, worst]: [&str; 2],
+    spread: Option<Spread>,
+) -> io::Result<()> {
+    let unit = "ns a round";
+    show(rt, what, best, spread.map(|it| it.best), ROUNDS, unit)?;
+    show(rt, what, worst, spread.map(|it| it.worst), ROUNDS, unit)
+}
+
+/// Prints the times of rounds with chains beside those with vectors, and the ratio of the shortest
+/// ones.
+fn show_beside(rt: &impl Print, what: &str, times: &Times) -> io::Result<()> {
+    let Times { chains, vecs, .. } = *times;
+    show_spread(rt, what, ["chain at best", "chain at worst"], chains)?;
+    show_spread(rt, what, ["vector at best", "vector at worst"], vecs)?;
+    let (chain, vec) = (chains.map(|it| it.best), vecs.map(|it| it.best));
+    show_ratio(rt, what, "chain beside vector", chain, vec, "times")
+}
+
+/// Prints how many million bytes per second were copied in the shortest run.
+fn show_speed(rt: &impl Print, how: &str, spread: Option<Spread>) -> io::Result<()> {
     let millions = MESSAGE_BYTES as u64 * 1000 * ROUNDS;
     let unit = "million bytes a second";
+    let nanos = spread.map(|it| it.best);
     show_ratio(rt, "8192 bytes", how, Some(millions), nanos, unit)
 }
 
@@ -46,27 +93,36 @@ fn measure_size<R: Clock + CpuClock + Print>(
     let Some(mut bodies) = Bodies::of(alloc, text) else {
         return println!(rt; "{what}: memory was refused");
     };
-    measure_bodies(rt, alloc, pool, what, text, &mut bodies)
-}
-
-/// Measures payloads of the same bytes in these bodies.
-fn measure_bodies<R: Clock + CpuClock + Print>(
-    rt: &R,
-    alloc: Global,
-    pool: &mut Pool,
-    what: &str,
-    text: &[u8],
-    bodies: &mut Bodies,
-) -> io::Result<()> {
-    let chains = time_of_chains(rt, pool, &bodies.text, &mut bodies.out, ROUNDS);
-    let vecs = time_of_vecs(rt, alloc, text, &mut bodies.out, ROUNDS);
-    show_beside(rt, what, chains, vecs)?;
+    let times = times_of(rt, alloc, pool, text, &mut bodies);
+    show_beside(rt, what, &times)?;
     if text.len() != TEXT.len() {
         return Ok(());
     }
-    show_speed(rt, "through a chain", chains)?;
-    let copies = time_of_copies(rt, text, &mut bodies.out, ROUNDS);
-    show_speed(rt, "plain copy", copies)
+    show_speed(rt, "through a chain", times.chains)?;
+    show_speed(rt, "plain copy", times.copies)
+}
+
+/// Returns the times of payloads of the same bytes in these bodies. The kinds of rounds take turns.
+fn times_of<R: Clock + CpuClock>(
+    rt: &R,
+    alloc: Global,
+    pool: &mut Pool,
+    text: &[u8],
+    bodies: &mut Bodies,
+) -> Times {
+    let none = Some(UNMEASURED);
+    let (mut chains, mut vecs, mut copies) = (none, none, none);
+    for _ in 0..RUNS {
+        let nanos = time_of_chains(rt, pool, &bodies.text, &mut bodies.out, ROUNDS);
+        chains = with(chains, nanos);
+        vecs = with(vecs, time_of_vecs(rt, alloc, text, &mut bodies.out, ROUNDS));
+        copies = with(copies, time_of_copies(rt, text, &mut bodies.out, ROUNDS));
+    }
+    Times {
+        chains,
+        vecs,
+        copies,
+    }
 }
 
 fn measure_all<R: Clock + CpuClock + Print>(
@@ -79,7 +135,7 @@ fn measure_all<R: Clock + CpuClock + Print>(
     measure_size(rt, alloc, pool, "8192 bytes", &TEXT)
 }
 
-/// Prints what a round takes with a chain and with a vector.
+/// Prints what a round takes with a chain and with a vector, at best and at worst.
 pub(crate) fn measure<R: Clock + CpuClock + Print>(rt: &R, alloc: Global) -> io::Result<()> {
     let Ok(mut pool) = Pool::open(alloc, 1024) else {
         return println!(rt; "no pool: memory was refused");
