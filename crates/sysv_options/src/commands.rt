@@ -217,7 +217,7 @@ Example:
         (
             "json",
             Form::Flag,
-            "Sends the message in each line of standard input, as `rcv --json` prints it",
+            "Sends messages as `rcv --json` prints them, one per line",
         ),
         (
             "progress",
@@ -314,7 +314,7 @@ Example:
         (
             "hold",
             Form::Flag,
-            "Takes each message only once it is printed whole; the server needs --hold",
+            "Takes a message once it is printed; needs serve --hold",
         ),
         (
             "show-type",
