@@ -3,7 +3,7 @@ use Rattle.std.proofs.Common.{◌≡◌, ◌≢◌, ◌∙◌, ℕ, List, [], �
 use Rattle.std.proofs.Common.{◌<◌, ◌≤◌, ◌⊎◌, ℤ, pos, inl, inr, length, sym, append_assoc, Result, Ok, Err}
 use Rattle.std.specs.Prelude.{⊤}
 use Rattle.std.specs.Borrow.{Bor}
-use Rattle.std.proofs.Common.{◌==◌, if◌then◌else◌}
+use Rattle.std.proofs.Common.{◌==◌, if◌then◌else◌, Bool, true, false}
 use Rattle.std.specs.declared.io.BufReader.{BufReader}
 use Rattle.std.specs.declared.io.BufWriter.{BufWriter}
 use Rattle.std.specs.declared.io.Error.{Error}
@@ -14,6 +14,7 @@ use Rattle.std.proofs.KnownBytes.{Appends-nil, Appends-trans, Consumes-nil}
 use Rattle.std.specs.Io.KnownBytes.{Appends, Consumes, IsAtEnd, append_known, prepend_known}
 use Rattle.sysv_clients.specs.declared.command.Command.{Command}
 use Rattle.sysv_clients.specs.declared.command.Task.{Task}
+use Rattle.sysv_clients.specs.declared.command.Task.TheVariants.{List as Table, Show, Remove, Make, Send, Receive}
 use Rattle.sysv_clients.specs.declared.fault.ClientFault.{ClientFault}
 use Rattle.sysv_clients.specs.declared.fault.ClientFault.TheVariants as fault
 use Rattle.sysv_clients.specs.Asks.{no_flags, request_of}
@@ -25,14 +26,16 @@ use Rattle.sysv_model.specs.declared.cred.Cred.{Cred}
 use Rattle.sysv_model.specs.declared.flags.Flags.{Flags}
 use Rattle.sysv_model.specs.declared.limits.TheConstants.{BODY_ROOM}
 use Rattle.sysv_model.specs.Writing.{AppendsPrefix}
-use Rattle.sysv_wire.specs.declared.request.Ask.TheVariants.{Get, Stat}
+use Rattle.sysv_wire.specs.declared.request.Ask.TheVariants.{Hello, Get, Stat}
 use Rattle.sysv_wire.specs.Requests.{request_encoding}
 use Rattle.sysv_connect.specs.declared.contact.Contact.{Contact}
 use Rattle.sysv_connect.specs.declared.contact.Contact.TheVariants.{Unused, Refused, Made}
+use Rattle.sysv_connect.specs.declared.how.How.{How}
 use Rattle.sysv_connect.specs.declared.link.Unlinked.{Unlinked}
 use Rattle.sysv_connect.specs.declared.link.Unlinked.TheVariants.{NoMemory, NoServer}
 use Rattle.sysv_connect.specs.Bodies.{with_text}
-use Rattle.sysv_connect.specs.Clients.{EndsPage, EndsRun, HasRun, HasRunFrom, IsBodyOf, IsLeft, ShowsPart, look_text}
+use Rattle.sysv_connect.specs.Clients.{EndsPage, EndsRun, HasRun, HasRunFrom, IsBodyOf, IsLeft, ShowsPart}
+use Rattle.sysv_connect.specs.Clients.{ByFlag, LooksAgain, LooksFor, look_again_text, look_text, may_look}
 use Rattle.sysv_connect.specs.Ends.{Fails, Succeeds}
 use Rattle.sysv_connect.specs.Visits.{IsUnlinked, Visited, contact_of}
 
@@ -148,6 +151,50 @@ looks_both key asked found flags taken mid more is none first second = (
       (subst (λ (f : Flags). Appends taken mid (request_encoding (request_of (Get asked f)) [])) none first))
       (longer_prefix mid more (request_encoding (request_of (Stat found)) []) [] second),
 )
+
+-- A look over a new connection that ended with its hello.
+pub looks_hello : (cred : Cred) (key : ℤ) (taken more : Option (List ℕ))
+    → AppendsPrefix taken more (request_encoding (request_of (Hello cred)) [])
+    → (found : ℤ) × AppendsPrefix taken more (look_again_text cred key found)
+looks_hello cred key taken more hello =
+    (pos 0, longer_prefix taken more (request_encoding (request_of (Hello cred)) []) (look_text key (pos 0)) hello)
+
+-- A look over a new connection that went on after its hello.
+pub looks_after_hello : (cred : Cred) (key : ℤ) (taken mid more : Option (List ℕ))
+    → Appends taken mid (request_encoding (request_of (Hello cred)) [])
+    → (found : ℤ) × AppendsPrefix mid more (look_text key found)
+    → (found : ℤ) × AppendsPrefix taken more (look_again_text cred key found)
+looks_after_hello cred key taken mid more hello (found, looked) = (
+  found,
+  prefix_after taken mid more (request_encoding (request_of (Hello cred)) []) (look_text key found) hello looked,
+)
+
+-- A client that looks at no queue.
+pub looks_not : {P C : Type 0} (Refuses : Error → Type 0) (place : P) (cred : Cred) (task : Task) (how : How)
+    (taken : Option (List ℕ)) (more : C → Option (List ℕ))
+    → LooksAgain Refuses place cred task how taken more (Unused place)
+looks_not {P} {C} Refuses place cred task how taken more = by (may_look how) task
+  where
+    by : (flag : Bool) (t : Task) → ByFlag flag (LooksFor Refuses place cred t taken more (Unused place))
+        (Contact.Unused {P} {C} place ≡ Unused place)
+    by false t = refl
+    by true (Send key text mtype nowait) = (refl, tt)
+    by true (Table format) = refl
+    by true (Show id) = refl
+    by true (Remove target) = refl
+    by true (Make making) = refl
+    by true (Receive receipt) = refl
+
+-- A `snd` that looked at its queue.
+pub looks_so : {P C : Type 0} (Refuses : Error → Type 0) (place : P) (cred : Cred) (task : Task) (how : How)
+    (taken : Option (List ℕ)) (more : C → Option (List ℕ)) (key : ℤ) (text : Bor (List ℕ)) (mtype : ℤ) (nowait : Bool)
+    (contact : Contact P C) → task ≡ Send key text mtype nowait → may_look how ≡ true
+    → LooksFor Refuses place cred (Send key text mtype nowait) taken more contact
+    → LooksAgain Refuses place cred task how taken more contact
+looks_so {P} {C} Refuses place cred task how taken more key text mtype nowait contact is may looks =
+    subst (λ (flag : Bool).
+    ByFlag flag (LooksFor Refuses place cred task taken more contact) (contact ≡ Unused place)) (sym may)
+    (subst (λ (t : Task). LooksFor Refuses place cred t taken more contact) (sym is) looks)
 
 -- A part of what a client showed in its page is a part of what it shows.
 part_of_page : (status : ℤ) (task : Task) (exchanges : List Exchange) (ended : Result ⊤ ClientFault) (page : List ℕ)

@@ -3,9 +3,10 @@
 -- had `fed` and has `unfed`; the screen had `shown` and has `after`.
 use Rattle.std.specs.Prelude.{◌≡◌, ◌≤◌, ◌<◌, ◌⊎◌, ⊤, ℕ, ℤ, pos, Bool, true, false, List, [], ◌∷◌, length, Option}
 use Rattle.std.specs.Prelude.{Result}
-use Rattle.std.specs.Prelude.{Ok}
+use Rattle.std.specs.Prelude.{Ok, is_some, ◌&&◌}
 use Rattle.std.specs.Borrow.{Bor}
 use Rattle.std.specs.Io.KnownBytes.{Appends, Consumes, IsAtEnd}
+use Rattle.std.specs.declared.io.Error.{Error}
 use Rattle.std.specs.declared.process.ExitCode.{ExitCode}
 use Rattle.sysv_clients.specs.declared.clearing.Refusal.{Refusal}
 use Rattle.sysv_clients.specs.declared.command.Command.{Command}
@@ -28,13 +29,17 @@ use Rattle.sysv_clients.specs.Stream.{TakesAll}
 use Rattle.sysv_model.specs.declared.cred.Cred.{Cred}
 use Rattle.sysv_model.specs.declared.limits.TheConstants.{BODY_ROOM}
 use Rattle.sysv_model.specs.Writing.{AppendsPrefix}
-use Rattle.sysv_wire.specs.declared.request.Ask.TheVariants.{Get, Stat}
+use Rattle.sysv_wire.specs.declared.request.Ask.TheVariants.{Hello, Get, Stat}
+use Rattle.sysv_connect.specs.declared.contact.Contact.{Contact}
+use Rattle.sysv_connect.specs.declared.contact.Contact.TheVariants.{Unused}
 use Rattle.sysv_connect.specs.declared.how.How.{How}
 use Rattle.sysv_connect.specs.Bodies.{with_text}
 use Rattle.sysv_connect.specs.Ends.{Fails, Succeeds, SucceedsIf}
 use Rattle.sysv_connect.specs.declared.batches.Way.{Way}
 use Rattle.sysv_connect.specs.declared.batches.Way.TheVariants.{Stream, Purge, Hold, Lines, Clear, Once}
 use Rattle.sysv_connect.specs.Purge.{Purges}
+use Rattle.sysv_connect.specs.Telling.{has_sentence}
+use Rattle.sysv_connect.specs.Visits.{Visited}
 
 -- A client received messages, and the program succeeds exactly if that had no fault.
 abbrev pub Receives : Receiving → ExitCode → (left rest taken more shown after : Option (List ℕ)) → Type 0
@@ -66,6 +71,10 @@ Clears cred exit left rest taken more =
 -- with IPC_STAT of an identifier.
 abbrev pub look_text : (key found : ℤ) → List ℕ
 look_text key found = asks_encoding (Get key no_flags ∷ Stat found ∷ []) []
+
+-- The requests by which a client looks at the queue of a key over a new connection: first a hello.
+abbrev pub look_again_text : Cred → (key found : ℤ) → List ℕ
+look_again_text cred key found = asks_encoding (Hello cred ∷ Get key no_flags ∷ Stat found ∷ []) []
 
 -- After its dialogue a `snd` looked at its queue: all of these requests were written, or a prefix of them.
 -- No other task does.
@@ -155,3 +164,26 @@ IsDone Once cred task how exit left rest taken more fed unfed shown after =
 abbrev pub IsUnmade : How → ExitCode → (fed unfed shown after : Option (List ℕ)) → Type 0
 IsUnmade how exit fed unfed shown after =
     Fails exit × (after ≡ shown) × ByFlag how.from_input ⊤ (unfed ≡ fed)
+
+-- What became of the place for a look at a queue, if a command may look there: only a `snd` does, with
+-- these requests or a prefix of them. `more` is what the writer of a connection has taken.
+abbrev pub LooksFor : {P C : Type 0} → (Refuses : Error → Type 0) → P → Cred → Task → (taken : Option (List ℕ))
+    → (more : C → Option (List ℕ)) → Contact P C → Type 0
+LooksFor Refuses place cred (Send key text mtype nowait) taken more contact =
+    Visited Refuses place ⊤ (λ link. (found : ℤ) × AppendsPrefix taken (more link) (look_again_text cred key found))
+    contact
+LooksFor Refuses place cred (Table format) taken more contact = contact ≡ Unused place
+LooksFor Refuses place cred (Show id) taken more contact = contact ≡ Unused place
+LooksFor Refuses place cred (Remove target) taken more contact = contact ≡ Unused place
+LooksFor Refuses place cred (Make making) taken more contact = contact ≡ Unused place
+LooksFor Refuses place cred (Receive receipt) taken more contact = contact ≡ Unused place
+
+-- A `snd` that was left looks at its queue: it has a time, and faults are told by a sentence.
+abbrev pub may_look : How → Bool
+may_look how = is_some how.wait && has_sentence how.telling
+
+-- What became of the place for a look at a queue, which is used only in that case.
+abbrev pub LooksAgain : {P C : Type 0} → (Refuses : Error → Type 0) → P → Cred → Task → How
+    → (taken : Option (List ℕ)) → (more : C → Option (List ℕ)) → Contact P C → Type 0
+LooksAgain Refuses place cred task how taken more contact = ByFlag (may_look how)
+    (LooksFor Refuses place cred task taken more contact) (contact ≡ Unused place)

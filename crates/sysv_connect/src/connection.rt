@@ -1,18 +1,19 @@
 //! Clients over a connection.
-ghost use Rattle.std.specs.Prelude.{◌≡◌, ◌≤◌, ◌⊎◌, ℤ, pos, length};
+ghost use Rattle.std.specs.Prelude.{◌≡◌, ◌≤◌, ◌⊎◌, ℤ, pos, length, true, IfSome};
 ghost use Rattle.std.specs.Io.KnownBytes.{Appends};
 ghost use Rattle.sysv_clients.specs.declared.fault.ClientFault.{ClientFault as AFault};
 ghost use Rattle.sysv_clients.specs.Faults.{fault_line};
 ghost use Rattle.sysv_clients.specs.Run.{HasShortText};
 ghost use Rattle.sysv_connect.specs.Bodies.{with_text};
-ghost use Rattle.sysv_connect.specs.Clients.{EndsPage, HasRun, HasRunFrom, IsDone, IsLeft, IsRun, IsUnmade, ShowsPart};
+ghost use Rattle.sysv_connect.specs.Clients.{EndsPage, HasRun, HasRunFrom, IsDone, IsLeft, IsRun, IsUnmade, LooksAgain, ShowsPart, may_look};
 ghost use Rattle.sysv_connect.specs.Links.{left_by, taken_by};
 ghost use Rattle.sysv_connect.specs.Several.{way_by};
 ghost use Rattle.sysv_connect.specs.Ends.{Fails, Succeeds};
 ghost use Rattle.sysv_connect.specs.Visits.{Visited, contact_of};
+ghost use Rattle.sysv_model.specs.Writing.{AppendsPrefix};
 
 use crate::batches::{Way, receive_at, remove_at, send_at, way_of};
-use crate::contact::{Contact, Visit};
+use crate::contact::{Contact, Visit, Visits};
 use crate::ending::{FAULT, TIMED_OUT};
 use crate::holds::hold_at;
 use crate::how::How;
@@ -21,7 +22,7 @@ use crate::link::{Link, Unlinked, linked};
 use crate::patience::Patience;
 use crate::place::{Leave, Place};
 use crate::purge::purge_at;
-use crate::room::look;
+use crate::room::{look, look_again};
 use crate::screen::{Screen, put};
 use crate::sentence::Detail;
 use crate::teller::{Left, Teller};
@@ -50,8 +51,10 @@ const ONE_LEFT: Left = Left {
 /// More bytes than a client shows of one message.
 const PAGE_ROOM: usize = 8_300;
 
-/// Runs a command at the server at `path`, as the options say. It makes at most one connection, and
-/// returns it, or the place if it was not used.
+/// Runs a command at the server at `path`, as the options say. It makes at most one connection to
+/// `place`, and returns it, or the place if it was not used. If a `snd` of one message had no room
+/// in time and that is told by a sentence, it connects to `again` and looks at the queue; it
+/// returns that connection or place too.
 ///
 /// # Conditions
 ///
@@ -60,13 +63,14 @@ pub fn run_as<I: Read, P: Place, S: Write>(
     rt: &(impl Print + Eprint + AllocGlobal),
     input: &mut I,
     place: P,
+    again: P,
     path: &str,
     command: &Command<'_>,
     how: &How,
     screen: &mut Screen<S>,
-) -> Visit<P, Link<P::Input, P::Output>>
+) -> Visits<P, Link<P::Input, P::Output>>
     requires { HasShortText command.now.task }
-    ensures { Visited (P.refuses place path.now) place
+    ensures done { Visited (P.refuses place path.now) place
         (IsUnmade how.now result.exit (I.remaining input.old) (I.remaining input.new)
         (S.contents screen.old.writer) (S.contents screen.new.writer))
         (λ link. IsDone (way_by command.now.cred command.now.task how.now)
@@ -75,23 +79,107 @@ pub fn run_as<I: Read, P: Place, S: Write>(
         (P.outgoing place path.now) (taken_by P.Output.contents link)
         (I.remaining input.old) (I.remaining input.new)
         (S.contents screen.old.writer) (S.contents screen.new.writer)) result.contact }
+    ensures look { LooksAgain (P.refuses again path.now) again
+        command.now.cred command.now.task how.now
+        (P.outgoing again path.now) (taken_by P.Output.contents) result.look }
 {
     let teller = Teller {
         path,
         command: Some(command),
         telling: how.telling,
     };
+    let Visit { exit, contact } = run_in_way(rt, input, place, &teller, command, how, screen);
+    let look = tell_late(rt, again, &teller, command, how, &contact);
+    Visits {
+        exit,
+        contact,
+        look,
+    }
+}
+
+/// Tells by a sentence that a `snd` had no room in time, after a look at its queue over one more
+/// connection, if that is left to tell. Returns what became of the place of the look.
+fn tell_late<P: Place>(
+    rt: &(impl Eprint + AllocGlobal),
+    again: P,
+    teller: &Teller<'_>,
+    command: &Command<'_>,
+    how: &How,
+    contact: &Contact<P, Link<P::Input, P::Output>>,
+) -> Contact<P, Link<P::Input, P::Output>>
+    ensures { LooksAgain (P.refuses again teller.now.path.now) again
+        command.now.cred command.now.task how.now
+        (P.outgoing again teller.now.path.now) (taken_by P.Output.contents) result }
+{
+    let Some(len) = late_length(how, contact) else {
+        return Contact::Unused(again);
+    };
+    let Task::Send { key, .. } = command.task else {
+        return Contact::Unused(again);
+    };
+    let (room, look) = look_again(rt.alloc(), again, teller.path, command.cred, key, len);
+    teller.sentence(
+        rt,
+        NO_ROOM.line(),
+        room.map_or(Detail::Late, Detail::FullInTime),
+    );
+    look
+}
+
+/// Returns the length of the message of a `snd` that was left, if its sentence is left to tell.
+fn late_length<P, R, W: Write + Drop>(how: &How, contact: &Contact<P, Link<R, W>>) -> Option<usize>
+    ensures { IfSome result (λ _. may_look how.now ≡ true) }
+{
+    match contact {
+        Contact::Made(link) if may_look(how) => link.late,
+        _ => None,
+    }
+}
+
+/// Returns whether a `snd` with these options looks at its queue over one more connection, if it
+/// was left: it has a time, and a sentence is printed.
+fn may_look(how: &How) -> bool
+    ensures { result ≡ may_look how.now }
+{
+    how.wait.is_some() && how.telling.has_sentence()
+}
+
+/// Runs a command like `run_as`, and looks at no queue after that.
+///
+/// # Conditions
+///
+/// - The body of a `snd` has at most 8,256 bytes.
+fn run_in_way<I: Read, P: Place, S: Write>(
+    rt: &(impl Print + Eprint + AllocGlobal),
+    input: &mut I,
+    place: P,
+    teller: &Teller<'_>,
+    command: &Command<'_>,
+    how: &How,
+    screen: &mut Screen<S>,
+) -> Visit<P, Link<P::Input, P::Output>>
+    requires { HasShortText command.now.task }
+    ensures { Visited (P.refuses place teller.now.path.now) place
+        (IsUnmade how.now result.exit (I.remaining input.old) (I.remaining input.new)
+        (S.contents screen.old.writer) (S.contents screen.new.writer))
+        (λ link. IsDone (way_by command.now.cred command.now.task how.now)
+        command.now.cred command.now.task how.now result.exit
+        (P.incoming place teller.now.path.now) (left_by P.Input.remaining link)
+        (P.outgoing place teller.now.path.now) (taken_by P.Output.contents link)
+        (I.remaining input.old) (I.remaining input.new)
+        (S.contents screen.old.writer) (S.contents screen.new.writer)) result.contact }
+{
     let patience = Patience::of(&command.task, how.wait);
     match way_of(command.cred, &command.task, how) {
-        Way::Stream(receiving) => receive_at(rt, place, &teller, &receiving, patience, screen),
+        Way::Stream(receiving) => receive_at(rt, place, teller, &receiving, patience, screen),
         Way::Purge(receiving) => {
             let patience = Patience::of(&Task::Receive(receiving.receipt), how.wait);
-            purge_at(rt, place, &teller, &receiving, patience, screen)
+            purge_at(rt, place, teller, &receiving, patience, screen)
         }
-        Way::Hold(receiving) => hold_at(rt, place, &teller, &receiving, patience, screen),
-        Way::Lines(sending) => send_at(rt, input, place, &teller, &sending, patience),
-        Way::Clear => remove_at(rt, place, &teller, command.cred, patience),
-        Way::Once => run_one(rt, input, place, &teller, command, how, screen),
+        Way::Hold(receiving) => hold_at(rt, place, teller, &receiving, patience, screen),
+        Way::Lines(sending) => send_at(rt, input, place, teller, &sending, patience),
+        Way::Clear => remove_at(rt, place, teller, command.cred, patience),
+        Way::Once => run_one(rt, input, place, teller, command, how, screen),
     }
 }
 
@@ -311,10 +399,36 @@ fn tell_fault<R: Leave, W: Write + Drop, S: Write>(
 {
     let is_late = link.has_left();
     let line = line_of(is_late, &command.task, page);
+    let is_told = match command.task {
+        Task::Send { text, .. } if is_late => {
+            link.late = Some(text.len());
+            teller.line_on(screen, line)
+        }
+        _ => tell_at_once(rt, link, command, teller, line, is_late, screen),
+    };
+    failed(is_late && is_told)
+}
+
+/// Tells the fault of a command with this line, and what is known of it. Returns whether the screen
+/// took the line, if there is one.
+fn tell_at_once<R: Leave, W: Write + Drop, S: Write>(
+    rt: &(impl Eprint + AllocGlobal),
+    link: &mut Link<R, W>,
+    command: &Command<'_>,
+    teller: &Teller<'_>,
+    line: &str,
+    is_late: bool,
+    screen: &mut Screen<S>,
+) -> bool
+    ensures left { IsLeft command.now.task (left_by R.remaining link.old)
+        (left_by R.remaining link.new) (taken_by W.contents link.old)
+        (taken_by W.contents link.new) }
+    ensures shown { AppendsPrefix (S.contents screen.old.writer) (S.contents screen.new.writer)
+        line.now }
+{
     let has_sentence = teller.telling.has_sentence();
     let detail = detail_of_line(rt.alloc(), link, &command.task, line, is_late, has_sentence);
-    let is_told = teller.fault_on(rt, screen, line, detail);
-    failed(is_late && is_told)
+    teller.fault_on(rt, screen, line, detail)
 }
 
 /// Returns the line of the fault of a command that showed this page. `is_late` is whether its call

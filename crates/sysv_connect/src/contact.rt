@@ -1,4 +1,4 @@
-//! What became of the place of a server.
+//! What became of the places of a server.
 
 use std::io;
 use std::process::ExitCode;
@@ -21,4 +21,16 @@ pub struct Visit<P, C> {
     pub exit: ExitCode,
     /// What became of the place.
     pub contact: Contact<P, C>,
+}
+
+/// How a client ended that may have made a second connection to look at its queue, and what became
+/// of both places.
+#[derive(Drop)]
+pub struct Visits<P, C> {
+    /// The exit status of the program.
+    pub exit: ExitCode,
+    /// What became of the place where the command was run.
+    pub contact: Contact<P, C>,
+    /// What became of the place of the look.
+    pub look: Contact<P, C>,
 }

@@ -24,7 +24,7 @@ mod stats;
 mod teller;
 
 pub use connection::run_as;
-pub use contact::{Contact, Visit};
+pub use contact::{Contact, Visit, Visits};
 pub use ending::{FAULT, say};
 pub use how::{How, Telling};
 pub use link::Link;

@@ -17,6 +17,9 @@ use std::io::{BufReader, BufWriter, Write};
 pub struct Link<R, W: Write + Drop> {
     pub(crate) reader: BufReader<Leaver<R>, Global>,
     pub(crate) writer: BufWriter<Outgoing<W>, Global>,
+    /// The length of the message of a `snd` that was left, if the sentence of that is to follow a
+    /// look at its queue.
+    pub(crate) late: Option<usize>,
 }
 
 /// Why there is no connection.
@@ -52,7 +55,11 @@ pub(crate) fn linked<P: Place>(
         Ok((input, output)) => {
             reader.get_mut().connect(input, patience.limit);
             writer.get_mut().connect(output);
-            Ok(Link { reader, writer })
+            Ok(Link {
+                reader,
+                writer,
+                late: None,
+            })
         }
         Err(why) => Err(Unlinked::NoServer(why)),
     }

@@ -1,19 +1,29 @@
 //! What keeps a message from its queue.
-ghost use Rattle.std.specs.Prelude.{◌≡◌, ℤ, [], true, IfSome};
+ghost use Rattle.std.specs.Prelude.{◌≡◌, ⊤, ℤ, [], true, IfSome};
 ghost use Rattle.std.specs.Io.KnownBytes.{Appends};
 ghost use Rattle.sysv_clients.specs.Asks.{request_of};
-ghost use Rattle.sysv_connect.specs.Clients.{look_text};
+ghost use Rattle.sysv_connect.specs.Clients.{look_again_text, look_text};
 ghost use Rattle.sysv_connect.specs.Links.{taken_by};
+ghost use Rattle.sysv_connect.specs.Visits.{Visited};
 ghost use Rattle.sysv_model.specs.Writing.{AppendsPrefix};
 ghost use Rattle.sysv_wire.specs.Requests.{request_encoding};
 
-use crate::link::Link;
-use crate::place::Leave;
+use crate::contact::Contact;
+use crate::link::{Link, Unlinked, linked};
+use crate::patience::Patience;
+use crate::place::{Leave, Place};
 use bitflags::Flags as _;
 use std::alloc::Global;
 use std::io::Write;
-use sysv_model::{Body, Flags, Instrumented, QUEUE_MESSAGES, Stat};
+use sysv_model::{Body, Cred, Flags, Instrumented, QUEUE_MESSAGES, Stat};
 use sysv_wire::{Ask, ReplyContent, Request, Version, read_reply, write_request};
+
+/// How long each reply is waited for by a client that looks at a queue after its time was over: a
+/// fifth of a second.
+const LOOK: Patience = Patience {
+    limit: Some(200),
+    may_leave: false,
+};
 
 /// What keeps a message from its queue.
 #[derive(Clone, Copy, PartialEq, Eq, Debug)]
@@ -60,6 +70,46 @@ pub(crate) fn look<R: Leave, W: Write + Drop>(
         ReplyContent::Stat(stat) => Some(Room::lacking(stat, len)),
         _ => None,
     }
+}
+
+/// Looks at the queue of this key, over a new connection, after the time in which a message of
+/// `len` bytes had no room there. Returns what keeps it from the queue, if the server says so in a
+/// fifth of a second, and what became of the place.
+pub(crate) fn look_again<P: Place>(
+    alloc: Global,
+    place: P,
+    path: &str,
+    cred: Cred,
+    key: i32,
+    len: usize,
+) -> (Option<Room>, Contact<P, Link<P::Input, P::Output>>)
+    ensures { Visited (P.refuses place path.now) place ⊤
+        (λ link. (found : ℤ) × AppendsPrefix (P.outgoing place path.now)
+        (taken_by P.Output.contents link) (look_again_text cred key found)) result.1 }
+{
+    match linked(alloc, place, path, LOOK) {
+        Ok(mut link) => {
+            let room = look_with(alloc, &mut link, cred, key, len);
+            (room, Contact::Made(link))
+        }
+        Err(Unlinked::NoServer(why)) => (None, Contact::Refused(why)),
+        Err(Unlinked::NoMemory(place)) => (None, Contact::Unused(place)),
+    }
+}
+
+/// Looks at the queue of this key like `look`, over a connection without a hello so far.
+fn look_with<R: Leave, W: Write + Drop>(
+    alloc: Global,
+    link: &mut Link<R, W>,
+    cred: Cred,
+    key: i32,
+    len: usize,
+) -> Option<Room>
+    ensures { (found : ℤ) × AppendsPrefix (taken_by W.contents link.old)
+        (taken_by W.contents link.new) (look_again_text cred key found) }
+{
+    answer(alloc, link, Ask::Hello(cred))?;
+    look(alloc, link, key, len)
 }
 
 /// Makes a request without a body, and returns the result in its reply, if there is one.

@@ -27,6 +27,8 @@ pub(crate) enum Detail {
     NoHolds,
     /// What keeps a message from its queue.
     Full(Room),
+    /// What keeps a message from its queue after the time of `--wait`.
+    FullInTime(Room),
 }
 
 /// The sentence that tells a fault: what was requested, what went wrong, and the fault's name.
@@ -178,23 +180,10 @@ impl Words<'_> {
     /// Says that a message does not fit.
     fn no_room<W: fmt::Write>(&self, f: &mut fmt::Formatter<W>) -> fmt::Result {
         match self.detail {
-            Detail::Full(Room::Queue(stat)) => {
-                let Stat {
-                    cbytes,
-                    qbytes,
-                    qnum,
-                    ..
-                } = stat;
-                write!(
-                    f,
-                    "no room on the queue, which has {cbytes} of {qbytes} bytes"
-                )?;
-                write!(f, " and {qnum} of {QUEUE_MESSAGES} messages")
-            }
-            Detail::Full(Room::Pool) => write!(
-                f,
-                "the queue has room, but too few blocks of the server's pool are free"
-            ),
+            Detail::Full(Room::Queue(stat)) => full_queue(f, "no room", stat),
+            Detail::FullInTime(Room::Queue(stat)) => full_queue(f, "no room in time", stat),
+            Detail::Full(Room::Pool) => write!(f, "{FULL_POOL}"),
+            Detail::FullInTime(Room::Pool) => write!(f, "no room in time: {FULL_POOL}"),
             Detail::Late => write!(f, "no room in time: the queue or the server's pool is full"),
             _ => write!(f, "no room: the queue or the server's pool is full"),
         }
@@ -274,6 +263,24 @@ impl Words<'_> {
     fn task(&self) -> Option<Task<'_>> {
         self.head.0.map(|command| command.task)
     }
+}
+
+/// What keeps a message from a queue that has room for it.
+const FULL_POOL: &str = "the queue has room, but too few blocks of the server's pool are free";
+
+/// Says that a queue with these attributes has no room for a message.
+fn full_queue<W: fmt::Write>(f: &mut fmt::Formatter<W>, what: &str, stat: Stat) -> fmt::Result {
+    let Stat {
+        cbytes,
+        qbytes,
+        qnum,
+        ..
+    } = stat;
+    write!(
+        f,
+        "{what} on the queue, which has {cbytes} of {qbytes} bytes"
+    )?;
+    write!(f, " and {qnum} of {QUEUE_MESSAGES} messages")
 }
 
 /// Returns the name of the fault in its line.

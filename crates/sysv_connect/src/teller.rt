@@ -62,6 +62,14 @@ impl Teller<'_> {
         if self.telling.has_sentence() {
             self.sentence(rt, line, detail);
         }
+        self.line_on(screen, line)
+    }
+
+    /// Tells a fault by its line on this screen, and not by a sentence. Returns whether the screen
+    /// took the line, if there is one.
+    pub(crate) fn line_on<S: Write>(&self, screen: &mut S, line: &str) -> bool
+        ensures { AppendsPrefix (S.contents screen.old) (S.contents screen.new) line.now }
+    {
         if !self.telling.has_line() {
             return true;
         }
@@ -182,7 +190,7 @@ impl Teller<'_> {
     }
 
     /// Tells a fault by a sentence on standard error.
-    fn sentence(&self, rt: &impl Eprint, line: &str, detail: Detail) {
+    pub(crate) fn sentence(&self, rt: &impl Eprint, line: &str, detail: Detail) {
         let sentence = Sentence {
             head: self.head(),
             name: name_in(line),

@@ -12,7 +12,7 @@ use Rattle.sysv_connect.specs.declared.contact.Contact.{Contact}
 use Rattle.sysv_connect.specs.declared.contact.Contact.TheVariants.{Unused}
 use Rattle.sysv_connect.specs.declared.how.How.{How}
 use Rattle.sysv_connect.specs.declared.link.Link.{Link}
-use Rattle.sysv_connect.specs.Clients.{IsDone, IsUnmade}
+use Rattle.sysv_connect.specs.Clients.{IsDone, IsUnmade, LooksAgain}
 use Rattle.sysv_connect.specs.Ends.{Fails, Succeeds}
 use Rattle.sysv_connect.specs.Links.{left_by, taken_by}
 use Rattle.sysv_connect.specs.Several.{way_by}
@@ -39,65 +39,70 @@ how_in how around = record how { telling = told_by how.telling around }
 
 module _ {P R W : Type 0} (remaining : R → Option (List ℕ)) (contents : W → Option (List ℕ))
     (incoming outgoing : P → List ℕ → Option (List ℕ)) (Refuses : P → List ℕ → Error → Type 0)
-    (around : Surroundings) (place : P) where
-  -- A client ran this task with these credentials at this path, over at most one connection.
+    (around : Surroundings) (place again : P) where
+  -- A client ran this task with these credentials at this path, over at most one connection. It may have
+  -- looked at a queue over one more.
   abbrev pub RunsClient : (path : List ℕ) → Cred → Task → How → ExitCode → (fed shown after : Option (List ℕ)) →
-      Contact P (Link R W) → Type 0
-  RunsClient path cred task how exit fed shown after contact =
+      (contact look : Contact P (Link R W)) → Type 0
+  RunsClient path cred task how exit fed shown after contact look =
       (unfed : Option (List ℕ)) × Visited (Refuses place path) place (IsUnmade how exit fed unfed shown after)
       (λ link. IsDone (way_by cred task how) cred task how exit (incoming place path) (left_by remaining link)
       (outgoing place path) (taken_by contents link) fed unfed shown after) contact
+      × LooksAgain (Refuses again path) again cred task how (outgoing again path) (taken_by contents) look
 
   -- The state of the server at this path was shown, over at most one connection.
   abbrev pub ShowsState : (path : List ℕ) → (json : Bool) → ExitCode → (shown after : Option (List ℕ)) →
-      Contact P (Link R W) → Type 0
-  ShowsState path json exit shown after contact =
-      Visited (Refuses place path) place (Fails exit × (after ≡ shown))
+      (contact look : Contact P (Link R W)) → Type 0
+  ShowsState path json exit shown after contact look = (look ≡ Unused again)
+      × Visited (Refuses place path) place (Fails exit × (after ≡ shown))
       (λ link. HasLooked json exit (incoming place path) (left_by remaining link) (outgoing place path)
       (taken_by contents link) shown after) contact
 
   -- What is asked for was done. A client states the credentials of its words, and for the others those
   -- that its surroundings have for them.
-  abbrev pub Answers : Asked → ExitCode → (fed shown after : Option (List ℕ)) → Contact P (Link R W) → Type 0
-  Answers Script exit fed shown after contact = (contact ≡ Unused place)
+  abbrev pub Answers : Asked → ExitCode → (fed shown after : Option (List ℕ)) → (contact look : Contact P (Link R W))
+      → Type 0
+  Answers Script exit fed shown after contact look = (contact ≡ Unused place) × (look ≡ Unused again)
       × ((text : List ℕ) → fed ≡ Some text → (left : Option (List ℕ)) × AnswersScript exit text shown after left)
-  Answers (Serve serving) exit fed shown after contact = (contact ≡ Unused place)
+  Answers (Serve serving) exit fed shown after contact look = (contact ≡ Unused place) × (look ≡ Unused again)
       × HasServedAll around.open_files serving.until_eof serving.terms exit shown after
-  Answers (Look looking) exit fed shown after contact =
-      ShowsState looking.path.now looking.json exit shown after contact
-  Answers (Client path who task how) exit fed shown after contact =
-      RunsClient path.now (stated_by who around) task (how_in how around) exit fed shown after contact
+  Answers (Look looking) exit fed shown after contact look =
+      ShowsState looking.path.now looking.json exit shown after contact look
+  Answers (Client path who task how) exit fed shown after contact look =
+      RunsClient path.now (stated_by who around) task (how_in how around) exit fed shown after contact look
 
-  -- Nothing was done at the place, and nothing is on the screen.
-  abbrev pub DoesNothing : (shown after : Option (List ℕ)) → Contact P (Link R W) → Type 0
-  DoesNothing shown after contact = (contact ≡ Unused place) × (after ≡ shown)
+  -- Nothing was done at the places, and nothing is on the screen.
+  abbrev pub DoesNothing : (shown after : Option (List ℕ)) → (contact look : Contact P (Link R W)) → Type 0
+  DoesNothing shown after contact look = (contact ≡ Unused place) × (look ≡ Unused again) × (after ≡ shown)
 
   -- These words were refused by an error, and nothing was done. The program fails then, unless they request
   -- the help or the version.
-  abbrev pub RefusesWords : List (List ℕ) → ExitCode → (shown after : Option (List ℕ)) → Contact P (Link R W) → Type 0
-  RefusesWords words exit shown after contact = (error : CommandError) × AreRefused words error
-      × (Succeeds exit → IsHelp (kind_of error)) × DoesNothing shown after contact
+  abbrev pub RefusesWords : List (List ℕ) → ExitCode → (shown after : Option (List ℕ))
+      → (contact look : Contact P (Link R W)) → Type 0
+  RefusesWords words exit shown after contact look = (error : CommandError) × AreRefused words error
+      × (Succeeds exit → IsHelp (kind_of error)) × DoesNothing shown after contact look
 
   -- What these words mean was done; or they were found to mean nothing, or memory was refused.
   abbrev pub AnswersWords : List (List ℕ) → ExitCode → (fed shown after : Option (List ℕ)) →
-      Contact P (Link R W) → Type 0
-  AnswersWords words exit fed shown after contact =
-      ((asked : Asked) × IsMeant words asked × Answers asked exit fed shown after contact)
-      ⊎ RefusesWords words exit shown after contact
+      (contact look : Contact P (Link R W)) → Type 0
+  AnswersWords words exit fed shown after contact look =
+      ((asked : Asked) × IsMeant words asked × Answers asked exit fed shown after contact look)
+      ⊎ RefusesWords words exit shown after contact look
 
   -- Either that, for words that can be read; or the words cannot be read, and the program failed and has
   -- shown nothing on the screen.
   abbrev pub AnswersTold : (Told → Type 0) → ExitCode → (fed shown after : Option (List ℕ)) →
-      Contact P (Link R W) → Type 0
-  AnswersTold Tells exit fed shown after contact =
-      ((words : List (List ℕ)) × Tells (Words words) × AnswersWords words exit fed shown after contact)
-      ⊎ ((why : NoWords) × Tells (Unread why) × Fails exit × DoesNothing shown after contact)
+      (contact look : Contact P (Link R W)) → Type 0
+  AnswersTold Tells exit fed shown after contact look =
+      ((words : List (List ℕ)) × Tells (Words words) × AnswersWords words exit fed shown after contact look)
+      ⊎ ((why : NoWords) × Tells (Unread why) × Fails exit × DoesNothing shown after contact look)
 
 module _ {P R W : Type 0} (remaining : R → Option (List ℕ)) (contents : W → Option (List ℕ))
     (incoming outgoing : P → List ℕ → Option (List ℕ)) (Refuses : P → List ℕ → Error → Type 0) where
   -- The program ran in a process, which learned its words and its surroundings from the system. `Tells` is
   -- what the system may tell it.
-  abbrev pub EndsIn : (Told → Type 0) → P → ExitCode → (fed shown after : Option (List ℕ)) → Type 0
-  EndsIn Tells place exit fed shown after =
-      (around : Surroundings) × AreTold Tells around × (contact : Contact P (Link R W))
-      × AnswersTold remaining contents incoming outgoing Refuses around place Tells exit fed shown after contact
+  abbrev pub EndsIn : (Told → Type 0) → (place again : P) → ExitCode → (fed shown after : Option (List ℕ)) → Type 0
+  EndsIn Tells place again exit fed shown after =
+      (around : Surroundings) × AreTold Tells around × (contact : Contact P (Link R W)) × (look : Contact P (Link R W))
+      × AnswersTold remaining contents incoming outgoing Refuses around place again Tells exit fed shown after contact
+      look

@@ -19,17 +19,23 @@ use sysv_system::Watched;
 
 fn main(rt: HostRuntime) -> ExitCode {
     let _stand_ins = [stand_in(&rt), stand_in(&rt), stand_in(&rt)];
-    let (mut stream, mut screen) = (None, Screen::new(io::writer(&rt)));
+    let (mut first, mut second) = (None, None);
     let place = Socket {
         rt: &rt,
-        stream: &mut stream,
+        stream: &mut first,
     };
+    let again = Socket {
+        rt: &rt,
+        stream: &mut second,
+    };
+    let mut screen = Screen::new(io::writer(&rt));
     let server = OnSockets::new(&rt);
     exit_of(
         &System { rt: &rt },
         &rt,
         rt.stdin(),
         place,
+        again,
         server,
         &mut screen,
     )

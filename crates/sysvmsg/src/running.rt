@@ -18,7 +18,8 @@ use std::sync::Wait;
 use std::thread::Threads;
 use sysv_clients::Command;
 use sysv_connect::{
-    Contact, How, Link, Looking, Place, Progress, Screen, Telling, Visit, look_at, run_as, say,
+    Contact, How, Link, Looking, Place, Progress, Screen, Telling, Visit, Visits, look_at, run_as,
+    say,
 };
 use sysv_options::{
     Asked, NoWords, Process, Surroundings, credentials, no_text, read_words, surroundings, telling,
@@ -28,9 +29,9 @@ use sysv_options::{
 const NOT_UNDERSTOOD: u8 = 2;
 
 /// Runs the program in this process, with the words and the surroundings that the system tells it.
-/// It reads `input`, connects through `place`, serves by `server`, and shows on `screen`. It has no
-/// other way to connect or to serve: only `serve_on_sockets` can use what `server` has. Returns the
-/// exit status.
+/// It reads `input`, connects through `place` and, for a look at a queue, through `again`, serves by
+/// `server`, and shows on `screen`. It has no other way to connect or to serve: only
+/// `serve_on_sockets` can use what `server` has. Returns the exit status.
 pub(crate) fn exit_of<
     Own: Process,
     R: Print + Eprint + AllocGlobal,
@@ -43,16 +44,20 @@ pub(crate) fn exit_of<
     rt: &R,
     input: I,
     place: P,
+    again: P,
     server: OnSockets<'_, V>,
     screen: &mut Screen<S>,
 ) -> ExitCode
     ensures { EndsIn P.Input.remaining P.Output.contents P.incoming P.outgoing P.refuses
-        (Own.tells process.now) place result (I.remaining input)
+        (Own.tells process.now) place again result (I.remaining input)
         (S.contents screen.old.writer) (S.contents screen.new.writer) }
 {
     let around = surroundings(process);
     match process.words() {
-        Ok(words) => run(rt, words.as_slice(), &around, input, place, server, screen).exit,
+        Ok(words) => {
+            let words = words.as_slice();
+            run(rt, words, &around, input, place, again, server, screen).exit
+        },
         Err(why) => refuse(rt, why, &around),
     }
 }
@@ -71,7 +76,7 @@ fn refuse(rt: &(impl Print + Eprint + AllocGlobal), why: NoWords, around: &Surro
 }
 
 /// Runs the program with these words, the first of which is its name. A client connects to its
-/// server through `place`, and a server serves by `server`.
+/// server through `place` and, for a look at a queue, through `again`. A server serves by `server`.
 fn run<
     R: Print + Eprint + AllocGlobal,
     I: Read + AsRawFd + Drop,
@@ -84,30 +89,48 @@ fn run<
     around: &Surroundings,
     input: I,
     place: P,
+    again: P,
     server: OnSockets<'_, V>,
     screen: &mut Screen<S>,
-) -> Visit<P, Link<P::Input, P::Output>>
+) -> Visits<P, Link<P::Input, P::Output>>
     ensures { AnswersWords P.Input.remaining P.Output.contents P.incoming P.outgoing P.refuses
-        around.now place (map string_bytes words.now) result.exit (I.remaining input)
-        (S.contents screen.old.writer) (S.contents screen.new.writer) result.contact }
+        around.now place again (map string_bytes words.now) result.exit (I.remaining input)
+        (S.contents screen.old.writer) (S.contents screen.new.writer)
+        result.contact result.look }
 {
     match read_words(rt.alloc(), words) {
-        Ok(asked) => answer(rt, asked, around, input, place, server, screen),
+        Ok(asked) => answer(rt, asked, around, input, place, again, server, screen),
         Err(error) => {
             let asked = telling(telling_of(words), around);
-            unused(tell(rt, &error, asked), place)
+            unused(tell(rt, &error, asked), place, again)
         }
     }
 }
 
-/// Ends without a use of the place.
-fn unused<P, C>(exit: ExitCode, place: P) -> Visit<P, C>
+/// Ends without a use of the places.
+fn unused<P, C>(exit: ExitCode, place: P, again: P) -> Visits<P, C>
     ensures exit { result.exit ≡ exit }
     ensures contact { result.contact ≡ Contact.Unused place }
+    ensures look { result.look ≡ Contact.Unused again }
 {
-    Visit {
+    Visits {
         exit,
         contact: Contact::Unused(place),
+        look: Contact::Unused(again),
+    }
+}
+
+/// Ends after a visit, without a use of the place for a look.
+fn with_unused<P, C>(visit: Visit<P, C>, again: P) -> Visits<P, C>
+    ensures exit { result.exit ≡ visit.exit }
+    ensures contact { result.contact ≡ visit.contact }
+    ensures look { result.look ≡ Contact.Unused again }
+{
+    let Visit { exit, contact } = visit;
+    Visits {
+        exit,
+        contact,
+        look: Contact::Unused(again),
     }
 }
 
@@ -124,32 +147,33 @@ fn answer<
     around: &Surroundings,
     input: I,
     place: P,
+    again: P,
     server: OnSockets<'_, V>,
     screen: &mut Screen<S>,
-) -> Visit<P, Link<P::Input, P::Output>>
+) -> Visits<P, Link<P::Input, P::Output>>
     requires { IsWithinLimits asked }
     ensures { Answers P.Input.remaining P.Output.contents P.incoming P.outgoing P.refuses
-        around.now place asked.entry result.exit (I.remaining input)
-        (S.contents screen.old.writer) (S.contents screen.new.writer) result.contact }
+        around.now place again asked.entry result.exit (I.remaining input)
+        (S.contents screen.old.writer) (S.contents screen.new.writer)
+        result.contact result.look }
 {
     match asked {
         Asked::Script => {
             let mut script = input;
-            unused(answer_script(rt, &mut script, &mut screen.writer), place)
+            let exit = answer_script(rt, &mut script, &mut screen.writer);
+            unused(exit, place, again)
         }
         Asked::Serve(serving) => {
             let limit = around.open_files;
-            unused(
-                serve_on_sockets(server, input, &serving, limit, &mut screen.writer),
-                place,
-            )
+            let exit = serve_on_sockets(server, input, &serving, limit, &mut screen.writer);
+            unused(exit, place, again)
         }
         Asked::Look(looking) => {
             let looking = Looking {
                 telling: telling(looking.telling, around),
                 ..looking
             };
-            look_at(rt, place, &looking, screen)
+            with_unused(look_at(rt, place, &looking, screen), again)
         }
         Asked::Client {
             path,
@@ -166,7 +190,7 @@ fn answer<
                 ..how
             };
             let mut input = Progress::new(rt, input, how.progress);
-            run_as(rt, &mut input, place, path, &command, &how, screen)
+            run_as(rt, &mut input, place, again, path, &command, &how, screen)
         }
     }
 }

@@ -134,25 +134,43 @@ fn run_once(
 ) -> ExitCode
     requires { HasShortText command.now.task }
 {
+    let (mut replies, mut requests) = (Tape::new(rt, rt.alloc()), Tape::new(rt, rt.alloc()));
+    let again = make_desk(&mut replies, &mut requests, how, false);
+    run_at_both(rt, dialogue, input, again, command, how)
+}
+
+/// Runs a client with this command at the place of a server, with an empty screen, and with this
+/// place for a look. Returns how it ends.
+fn run_at_both(
+    rt: &(impl Print + Eprint + AllocGlobal + Abort),
+    dialogue: &mut Dialogue,
+    input: &mut Tape,
+    again: Desk<'_>,
+    command: &Command<'_>,
+    how: &How,
+) -> ExitCode
+    requires { HasShortText command.now.task }
+{
     let place = make_desk(&mut dialogue.replies, &mut dialogue.requests, how, true);
     let mut screen = Screen::new(Tape::new(rt, rt.alloc()));
-    let exit = exit_of(rt, input, place, command, how, &mut screen);
+    let exit = exit_of(rt, input, place, again, command, how, &mut screen);
     dialogue.screen = screen.writer;
     exit
 }
 
-/// Runs a client with this command at a place. Returns how it ends.
+/// Runs a client with this command at two places. Returns how it ends.
 fn exit_of<P: Place>(
     rt: &(impl Print + Eprint + AllocGlobal),
     input: &mut Tape,
     place: P,
+    again: P,
     command: &Command<'_>,
     how: &How,
     screen: &mut Screen<Tape>,
 ) -> ExitCode
     requires { HasShortText command.now.task }
 {
-    run_as(rt, input, place, "./q", command, how, screen).exit
+    run_as(rt, input, place, again, "./q", command, how, screen).exit
 }
 
 #[test]
@@ -192,6 +210,47 @@ fn a_receive_that_waits_too_long_is_left(rt: HostRuntime) {
     let exit = run(&rt, &mut dialogue, &mut input, RECEIVE_ANY, &how);
     assert_is(&rt, exit, ExitCode::from(3));
     dialogue.assert_shown(&rt, b"sysvmsg: ENOMSG\n", 0);
+}
+
+/// The attributes of a queue with 3 bytes, and their request.
+const STAT: &[u8] = b"\0\0\0\x06\x02\x04\0\0\0\x40";
+
+const ATTRIBUTES: [&[u8]; 2] = [
+    b"\0\0\0\x45\x02\x04\0\0\0\0\x07\0\0\x03\xe8\0\0\x03\xe9\0\0\x03\xea\0\0\x03\xeb\x01\xa0\0\0\0\x03",
+    b"\0\0\0\x01\0\0\x40\0\0\0\0\x65\0\0\0\0\0\0\0\0\0\0\0\x09\0\0\0\0\0\0\0\0\0\0\0\0\0\0\0\x08",
+];
+
+/// Runs a send whose time is over, with faults in sentences. Returns how it ends, and whether it
+/// looked at its queue over a second connection.
+fn look_again(rt: &(impl Print + Eprint + AllocGlobal + Abort)) -> (ExitCode, bool) {
+    let mut dialogue = Dialogue::new(rt, rt.alloc(), &[WELCOME, GOT]);
+    let [first, last] = ATTRIBUTES;
+    let mut second = Dialogue::new(rt, rt.alloc(), &[WELCOME, GOT, first, last]);
+    let mut input = Tape::new(rt, rt.alloc());
+    let how = How {
+        wait: Some(1),
+        telling: Telling::Sentence,
+        ..PLAIN
+    };
+    let command = Command {
+        cred: WHO,
+        task: SEND,
+    };
+    let again = make_desk(&mut second.replies, &mut second.requests, &how, true);
+    let exit = run_at_both(rt, &mut dialogue, &mut input, again, &command, &how);
+    let wanted = joined(rt, rt.alloc(), &[HELLO, FIND, STAT]);
+    (exit, second.requests.text() == wanted.text())
+}
+
+#[test]
+fn a_send_that_waits_too_long_looks_at_its_queue(rt: HostRuntime) {
+    let mut seen = look_again(&rt);
+    for _ in 0..3 {
+        if seen != (ExitCode::from(3), true) {
+            seen = look_again(&rt);
+        }
+    }
+    assert_is(&rt, seen, (ExitCode::from(3), true));
 }
 
 /// `msgget` of key 7 without flags, and a receive of no bytes from identifier 64, with IPC_NOWAIT and
@@ -269,12 +328,14 @@ fn a_client_without_a_server_fails(rt: HostRuntime) {
     let mut dialogue = Dialogue::new(&rt, rt.alloc(), &[]);
     let mut input = Tape::new(&rt, rt.alloc());
     let place = make_desk(&mut dialogue.replies, &mut dialogue.requests, &PLAIN, false);
+    let (mut replies, mut requests) = (Tape::new(&rt, rt.alloc()), Tape::new(&rt, rt.alloc()));
+    let again = make_desk(&mut replies, &mut requests, &PLAIN, false);
     let command = Command {
         cred: WHO,
         task: LIST,
     };
     let mut screen = Screen::new(Tape::new(&rt, rt.alloc()));
-    let (exit, is_made) = contact_of(&rt, &mut input, place, &command, &mut screen);
+    let (exit, is_made) = contact_of(&rt, &mut input, place, again, &command, &mut screen);
     assert_is(&rt, exit, ExitCode::from(FAULT));
     assert_is(&rt, is_made, false);
 }
@@ -285,13 +346,14 @@ fn contact_of<P: Place>(
     rt: &(impl Print + Eprint + AllocGlobal),
     input: &mut Tape,
     place: P,
+    again: P,
     command: &Command<'_>,
     screen: &mut Screen<Tape>,
 ) -> (ExitCode, bool)
     requires { HasShortText command.now.task }
 {
-    let visit = run_as(rt, input, place, "./q", command, &PLAIN, screen);
-    (visit.exit, matches!(visit.contact, Contact::Made(_)))
+    let visits = run_as(rt, input, place, again, "./q", command, &PLAIN, screen);
+    (visits.exit, matches!(visits.contact, Contact::Made(_)))
 }
 
 /// A state of a server.

@@ -2,7 +2,7 @@
 use Rattle.std.proofs.Common.{ap, subst, sym}
 use Rattle.std.specs.Prelude.{ℕ, List, Option}
 use Rattle.std.specs.declared.process.ExitCode.{ExitCode}
-use Rattle.sysv_connect.specs.Clients.{IsDone, IsUnmade}
+use Rattle.sysv_connect.specs.Clients.{IsDone, IsUnmade, LooksAgain}
 use Rattle.sysv_connect.specs.declared.how.Telling.{Telling}
 use Rattle.sysv_connect.specs.Links.{left_by, taken_by}
 use Rattle.sysv_connect.specs.Several.{way_by}
@@ -16,6 +16,7 @@ pub returns-in-Script : goal.returns-in-Script
 returns-in-Script g c =
     rw c.in-Script.is (
       c.unused.ensures.contact,
+      c.unused.ensures.look,
       λ text is. (
         g.I.Read.remaining c.answer_script.new.script,
         subst (λ (exit : ExitCode).
@@ -43,7 +44,9 @@ returns-in-Client g c =
           (λ link.
           IsDone (way_by cred task how) cred task how exit (g.P.Place.incoming c.args.place path)
           (left_by g.P.Input.Read.remaining link) (g.P.Place.outgoing c.args.place path)
-          (taken_by g.P.Output.Write.contents link) fed unfed shown after) c.run_as.result.contact)
+          (taken_by g.P.Output.Write.contents link) fed unfed shown after) c.run_as.result.contact
+          × LooksAgain (g.P.Place.refuses c.args.again path) c.args.again cred task how
+          (g.P.Place.outgoing c.args.again path) (taken_by g.P.Output.Write.contents) c.run_as.result.look)
           c.telling-in-Client.ensures
           (subst (λ (cred : Cred).
           let how = record c.in-Client.how { telling = c.telling-in-Client.result } in
@@ -51,7 +54,9 @@ returns-in-Client g c =
           (λ link.
           IsDone (way_by cred task how) cred task how exit (g.P.Place.incoming c.args.place path)
           (left_by g.P.Input.Read.remaining link) (g.P.Place.outgoing c.args.place path)
-          (taken_by g.P.Output.Write.contents link) fed unfed shown after) c.run_as.result.contact)
+          (taken_by g.P.Output.Write.contents link) fed unfed shown after) c.run_as.result.contact
+          × LooksAgain (g.P.Place.refuses c.args.again path) c.args.again cred task how
+          (g.P.Place.outgoing c.args.again path) (taken_by g.P.Output.Write.contents) c.run_as.result.look)
           c.credentials.ensures
           (subst (λ (fed : Option (List ℕ)).
           let how = record c.in-Client.how { telling = c.telling-in-Client.result } in
@@ -60,6 +65,8 @@ returns-in-Client g c =
           (λ link.
           IsDone (way_by cred task how) cred task how exit (g.P.Place.incoming c.args.place path)
           (left_by g.P.Input.Read.remaining link) (g.P.Place.outgoing c.args.place path)
-          (taken_by g.P.Output.Write.contents link) fed unfed shown after) c.run_as.result.contact)
-          (ap g.I.Read.remaining c.new-input.ensures) c.run_as.ensures)),
+          (taken_by g.P.Output.Write.contents link) fed unfed shown after) c.run_as.result.contact
+          × LooksAgain (g.P.Place.refuses c.args.again path) c.args.again cred task how
+          (g.P.Place.outgoing c.args.again path) (taken_by g.P.Output.Write.contents) c.run_as.result.look)
+          (ap g.I.Read.remaining c.new-input.ensures) (c.run_as.ensures.done, c.run_as.ensures.look))),
     )

@@ -10,6 +10,7 @@ returns-in-Ok g c = (
   c.surroundings-around.result,
   c.surroundings-around.ensures,
   c.run.result.contact,
+  c.run.result.look,
   inl (
     map string_bytes c.as_slice.result.now,
     subst (λ words. g.Own.Process.tells c.args.process.now (Words (map string_bytes words)))
@@ -23,5 +24,6 @@ returns-in-Err g c = (
   c.surroundings-around.result,
   c.surroundings-around.ensures,
   Unused c.args.place,
-  inr (c.in-Err.why, c.in-Err.ensures.err, c.refuse.ensures, (refl, refl)),
+  Unused c.args.again,
+  inr (c.in-Err.why, c.in-Err.ensures.err, c.refuse.ensures, (refl, (refl, refl))),
 )
