@@ -173,17 +173,19 @@ looks_after_hello cred key taken mid more hello (found, looked) = (
 pub looks_not : {P C : Type 0} (Refuses : Error → Type 0) (place : P) (cred : Cred) (task : Task) (how : How)
     (taken : Option (List ℕ)) (more : C → Option (List ℕ))
     → LooksAgain Refuses place cred task how taken more (Unused place)
-looks_not {P} {C} Refuses place cred task how taken more = by (may_look how) task
+looks_not {P} {C} Refuses place cred task how taken more = by (may_look how) task (Unused place) refl
   where
-    by : (flag : Bool) (t : Task) → ByFlag flag (LooksFor Refuses place cred t taken more (Unused place))
-        (Contact.Unused {P} {C} place ≡ Unused place)
-    by false t = refl
-    by true (Send key text mtype nowait) = (refl, tt)
-    by true (Table format) = refl
-    by true (Show id) = refl
-    by true (Remove target) = refl
-    by true (Make making) = refl
-    by true (Receive receipt) = refl
+    by : (flag : Bool) (t : Task) (contact : Contact P C) → contact ≡ Unused place
+        → ByFlag flag (LooksFor Refuses place cred t taken more contact) (contact ≡ Unused place)
+    by false t contact is = is
+    by true (Send key text mtype nowait) contact is =
+        subst (λ (c : Contact P C). LooksFor Refuses place cred (Send key text mtype nowait) taken more c) (sym is)
+            (refl, tt)
+    by true (Table format) contact is = is
+    by true (Show id) contact is = is
+    by true (Remove target) contact is = is
+    by true (Make making) contact is = is
+    by true (Receive receipt) contact is = is
 
 -- A `snd` that looked at its queue.
 pub looks_so : {P C : Type 0} (Refuses : Error → Type 0) (place : P) (cred : Cred) (task : Task) (how : How)
