@@ -3,6 +3,7 @@
 ghost use Rattle.std.specs.Prelude.{◌≡◌, ◌+◌, ◌-◌, ◌≤◌, ◌<◌, [], ◌∷◌, ◌++◌, ℕ, codes, length, max};
 ghost use Rattle.sysv_clients.specs.Table.{column, glyph, hex_byte, key_text, mode_text, row_line};
 ghost use Rattle.sysv_clients.specs.Queue.{count_lines, field_line, id_line, json_counts, json_line, json_owner, owner_lines, stat_lines, time_lines};
+ghost use Rattle.sysv_clients.specs.Saved.{queue_text, saved_counts, saved_perm};
 
 use itoa::{Buffer, Integer};
 use std::marker::Model;
@@ -187,6 +188,55 @@ impl Line {
         self.digits(row.cbytes);
         self.put(b",\"messages\":");
         self.digits(row.qnum);
+        self.put(b"}\n");
+    }
+
+    /// Writes the line of a queue in a file, and an LF, on an empty line.
+    #[tactic(auto, using(std::proofs::Common::append_assoc), unfolding(crate::specs::Saved::queue_text))]
+    pub(crate) fn saved(&mut self, id: i32, stat: &Stat)
+        requires { length self.old ≡ 0 }
+        ensures { self.new ≡ self.old ++ queue_text id stat.now }
+    {
+        self.put(b"{\"key\":\"");
+        self.key(stat.key);
+        self.put(b"\",\"msqid\":");
+        self.digits(id);
+        self.saved_perm(&stat.perm);
+        self.saved_counts(stat);
+    }
+
+    /// Appends the owner, the creator and the mode of a queue in a file.
+    #[tactic(auto, using(std::proofs::Common::append_assoc), unfolding(crate::specs::Saved::saved_perm))]
+    fn saved_perm(&mut self, perm: &Perm)
+        requires { length self.old + 87 ≤ MAX_LINE }
+        ensures after { self.new ≡ self.old ++ saved_perm perm.now }
+        ensures len { length self.new ≤ length self.old + 87 }
+    {
+        self.put(b",\"uid\":");
+        self.digits(perm.uid);
+        self.put(b",\"gid\":");
+        self.digits(perm.gid);
+        self.put(b",\"cuid\":");
+        self.digits(perm.cuid);
+        self.put(b",\"cgid\":");
+        self.digits(perm.cgid);
+        self.put(b",\"perms\":\"");
+        self.put(&octal_digits(perm.mode));
+    }
+
+    /// Appends the limit and the counts of a queue in a file, the end of its object and an LF.
+    #[tactic(auto, using(std::proofs::Common::append_assoc), unfolding(crate::specs::Saved::saved_counts))]
+    fn saved_counts(&mut self, stat: &Stat)
+        requires { length self.old + 66 ≤ MAX_LINE }
+        ensures after { self.new ≡ self.old ++ saved_counts stat.now }
+        ensures len { length self.new ≤ length self.old + 66 }
+    {
+        self.put(b"\",\"qbytes\":");
+        self.digits(stat.qbytes);
+        self.put(b",\"bytes\":");
+        self.digits(stat.cbytes);
+        self.put(b",\"messages\":");
+        self.digits(stat.qnum);
         self.put(b"}\n");
     }
 
