@@ -11,5 +11,6 @@ mod LineLemmas
 mod ObjectLemmas
 mod StatedLemmas
 mod HoldLemmas
+mod SaveLemmas
 mod JsonLemmas
 mod CopyLemmas

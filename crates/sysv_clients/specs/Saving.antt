@@ -21,6 +21,7 @@ use Rattle.sysv_clients.specs.Saved.{format_line, queue_text}
 use Rattle.sysv_model.specs.declared.cred.Cred.{Cred}
 use Rattle.sysv_model.specs.declared.errno.Errno.{Errno}
 use Rattle.sysv_model.specs.declared.errno.Errno.TheVariants as error
+use Rattle.sysv_model.specs.declared.flags.Flags.{Flags}
 use Rattle.sysv_model.specs.declared.limits.TheConstants.{MESSAGE_BYTES}
 use Rattle.sysv_model.specs.Writing.{AppendsPrefix}
 use Rattle.sysv_wire.specs.declared.frame.Version.TheVariants.{Three}
@@ -103,9 +104,11 @@ abbrev pub saving_plan : Cred → Plan
 saving_plan cred [] = Some (Hello cred)
 saving_plan cred (first ∷ more) = saving_ask (fold (λ saving call. moved saving call.answer) (begun first.answer) more)
 
--- The request is one of a queue's attributes or of its first message.
+-- The request is for the attributes of the queue with this identifier, or for a message of it.
 abbrev pub IsOfQueue : ℤ → Ask → Type 0
-IsOfQueue id ask = (ask ≡ Stat id) ⊎ (ask ≡ first_ask id)
+IsOfQueue id ask =
+    (ask ≡ Stat id)
+    ⊎ ((size : ℕ) × (mtype : ℤ) × (flags : Flags) × (seconds : ℕ) × (ask ≡ Hold id size mtype flags seconds))
 
 -- The request of a call was done, or it is one of a queue that the server refused.
 abbrev pub IsTried : Call → Type 0
