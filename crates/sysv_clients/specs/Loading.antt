@@ -1,7 +1,8 @@
 -- A load of a file of queues (this project's programs): it makes the queues that the lines of an input state, sets
 -- their attributes, and sends their messages. Sends to one queue may be on their way together: written, and without a
 -- reply.
-use Rattle.std.specs.Prelude.{◌≡◌, ◌≢◌, ◌≤◌, ◌<◌, ◌⊎◌, ⊤, ℕ, ℤ, pos, ◌+◌, ◌-◌, ◌^◌, Bool, true, false, List, [], ◌∷◌, ◌++◌}
+use Rattle.std.specs.Prelude.{◌≡◌, ◌≢◌, ◌≤◌, ◌<◌, ◌⊎◌, ⊤, ℕ, ℤ, pos, ◌+◌, ◌-◌, ◌^◌, Bool, true, false, List, []}
+use Rattle.std.specs.Prelude.{◌∷◌, ◌++◌}
 use Rattle.std.specs.Prelude.{length, flat_map, if◌then◌else◌, ◌||◌, ◌&&◌, ◌==◌, Option, None, Some, Result, Ok, Err}
 use Rattle.std.specs.Int.RustNames.{bit_or}
 use Rattle.std.specs.Io.KnownBytes.{Appends, Consumes, prepend_known}

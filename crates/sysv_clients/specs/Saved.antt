@@ -23,8 +23,9 @@ format_line = codes "{\"format\":\"sysvmsg-queues\",\"version\":1}" ++ 10 ∷ []
 -- The owner, the creator and the mode of a queue.
 unfoldable pub saved_perm : Perm → List ℕ
 saved_perm p =
-    codes ",\"uid\":" ++ (decimal p.uid ++ (codes ",\"gid\":" ++ (decimal p.gid ++ (codes ",\"cuid\":" ++ (decimal p.cuid
-    ++ (codes ",\"cgid\":" ++ (decimal p.cgid ++ (codes ",\"perms\":\"" ++ mode_text p.mode))))))))
+    codes ",\"uid\":" ++ (decimal p.uid ++ (codes ",\"gid\":" ++ (decimal p.gid
+    ++ (codes ",\"cuid\":" ++ (decimal p.cuid ++ (codes ",\"cgid\":" ++ (decimal p.cgid
+    ++ (codes ",\"perms\":\"" ++ mode_text p.mode))))))))
 
 -- The limit and the counts of a queue, the end of its object, and an LF.
 unfoldable pub saved_counts : Stat → List ℕ

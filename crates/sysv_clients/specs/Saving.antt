@@ -1,8 +1,8 @@
 -- A save of all queues (this project's programs): it requests the row of each slot, the attributes of each
 -- queue that it finds there, and its messages, each by a hold. Its requests are of version 3. A message is done only
 -- after its line was written whole; otherwise the server sends it to its queue again.
-use Rattle.std.specs.Prelude.{◌≡◌, ◌⊎◌, ⊤, ℕ, zero, suc, ℤ, pos, ◌+◌, ◌-◌, ◌^◌, true, List, [], ◌∷◌, ◌++◌, Option, None, Some}
-use Rattle.std.specs.Prelude.{Result, Ok, Err, flat_map, fold, slice_get}
+use Rattle.std.specs.Prelude.{◌≡◌, ◌⊎◌, ⊤, ℕ, zero, suc, ℤ, pos, ◌+◌, ◌-◌, ◌^◌, true, List, [], ◌∷◌, ◌++◌, Option}
+use Rattle.std.specs.Prelude.{None, Some, Result, Ok, Err, flat_map, fold, slice_get}
 use Rattle.std.specs.Io.KnownBytes.{Appends, Consumes}
 use Rattle.sysv_clients.specs.declared.clearing.Refusal.{Refusal}
 use Rattle.sysv_clients.specs.declared.fault.ClientFault.{ClientFault}
