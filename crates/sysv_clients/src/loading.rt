@@ -350,6 +350,7 @@ impl Loader {
             Entry::Format => {
                 self.sender.drain(reader, writer, window, 0)?;
                 self.queue = None;
+                self.is_found = false;
                 window.done += 1;
                 Ok(())
             }

@@ -238,6 +238,15 @@ fn a_line_that_is_refused_ends_a_load(rt: HostRuntime) {
 }
 
 #[test]
+fn a_line_of_the_format_ends_its_queue(rt: HostRuntime) {
+    let lines: &[&[u8]] = &[FORMAT, LINE, FORMAT, MESSAGE];
+    let replies: &[&[u8]] = &[WELCOME, MADE, IS_SET];
+    let ended = Err(Err((3, Unfit::NoQueue)));
+    let asked: &[&[u8]] = &[HELLO, MAKE, SET];
+    assert_loads(&rt, rt.alloc(), &LOADING, lines, replies, ended, asked);
+}
+
+#[test]
 fn an_input_that_cannot_be_read_ends_a_load(rt: HostRuntime) {
     let mut input = joined(&rt, rt.alloc(), &[FORMAT]);
     input.good = 9;
