@@ -530,17 +530,17 @@ Example:
         (
             "from",
             Form::Value("N"),
-            "Begins at line N, for instance at the one that was refused [default: 1]",
+            "Begins at line N [default: 1]",
         ),
         (
             "into",
             Form::Flag,
-            "Uses a queue that has the key already, and sets its attributes",
+            "Uses a queue that has the key, and sets its attributes",
         ),
         (
             "adopt",
             Form::Flag,
-            "Makes queues of other creators too, with the caller as their creator",
+            "Makes queues of other creators too, as the caller",
         ),
         (
             "nowait",
