@@ -380,13 +380,15 @@ undone cred ask outcome why given text left mid rest taken more most shown after
       ends = (
         next ∙ ap (λ (a : Ask). Some a) tried.0,
         (
-          ask,
-          next,
-          unanswered ask why text given mid rest more most is
-              (subst (λ (o : Result ReplyContent ClientFault).
-              ExchangesIn Three (frame ask text) ask o mid rest more most given) tried.1 exchange),
+          (
+            ask,
+            next,
+            unanswered ask why text given mid rest more most is
+                (subst (λ (o : Result ReplyContent ClientFault).
+                ExchangesIn Three (frame ask text) ask o mid rest more most given) tried.1 exchange),
+          ),
+          so_far.shows,
         ),
-        so_far.shows,
       );
       reports = tried.2 ∙ so_far.requests.reports;
     }

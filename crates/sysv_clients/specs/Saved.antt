@@ -20,18 +20,22 @@ use Rattle.sysv_words.specs.Words.{IsNat32}
 unfoldable pub format_line : List ℕ
 format_line = codes "{\"format\":\"sysvmsg-queues\",\"version\":1}" ++ 10 ∷ []
 
+-- A member whose value is a number, from what is before it on.
+unfoldable pub number_text : List ℕ → List ℕ → List ℕ
+number_text name number = name ++ number
+
 -- The owner, the creator and the mode of a queue.
 unfoldable pub saved_perm : Perm → List ℕ
 saved_perm p =
-    codes ",\"uid\":" ++ (decimal p.uid ++ (codes ",\"gid\":" ++ (decimal p.gid
-    ++ (codes ",\"cuid\":" ++ (decimal p.cuid ++ (codes ",\"cgid\":" ++ (decimal p.cgid
-    ++ (codes ",\"perms\":\"" ++ mode_text p.mode))))))))
+    number_text (codes ",\"uid\":") (decimal p.uid) ++ (number_text (codes ",\"gid\":") (decimal p.gid)
+    ++ (number_text (codes ",\"cuid\":") (decimal p.cuid) ++ (number_text (codes ",\"cgid\":") (decimal p.cgid)
+    ++ (codes ",\"perms\":\"" ++ mode_text p.mode))))
 
 -- The limit and the counts of a queue, the end of its object, and an LF.
 unfoldable pub saved_counts : Stat → List ℕ
 saved_counts s =
-    codes "\",\"qbytes\":" ++ (decimal s.qbytes ++ (codes ",\"bytes\":" ++ (decimal s.cbytes
-    ++ (codes ",\"messages\":" ++ (decimal s.qnum ++ 125 ∷ 10 ∷ [])))))
+    number_text (codes "\",\"qbytes\":") (decimal s.qbytes) ++ (number_text (codes ",\"bytes\":") (decimal s.cbytes)
+    ++ (number_text (codes ",\"messages\":") (decimal s.qnum) ++ 125 ∷ 10 ∷ []))
 
 -- The line of the queue with this identifier and these attributes, and an LF.
 unfoldable pub queue_text : ℤ → Stat → List ℕ

@@ -3,7 +3,7 @@
 ghost use Rattle.std.specs.Prelude.{◌≡◌, ◌+◌, ◌-◌, ◌≤◌, ◌<◌, [], ◌∷◌, ◌++◌, ℕ, codes, length, max};
 ghost use Rattle.sysv_clients.specs.Table.{column, glyph, hex_byte, key_text, mode_text, row_line};
 ghost use Rattle.sysv_clients.specs.Queue.{count_lines, field_line, id_line, json_counts, json_line, json_owner, owner_lines, stat_lines, time_lines};
-ghost use Rattle.sysv_clients.specs.Saved.{queue_text, saved_counts, saved_perm};
+ghost use Rattle.sysv_clients.specs.Saved.{number_text, queue_text, saved_counts, saved_perm};
 
 use itoa::{Buffer, Integer};
 use std::marker::Model;
@@ -212,14 +212,10 @@ impl Line {
         ensures after { self.new ≡ self.old ++ saved_perm perm.now }
         ensures len { length self.new ≤ length self.old + 87 }
     {
-        self.put(b",\"uid\":");
-        self.digits(perm.uid);
-        self.put(b",\"gid\":");
-        self.digits(perm.gid);
-        self.put(b",\"cuid\":");
-        self.digits(perm.cuid);
-        self.put(b",\"cgid\":");
-        self.digits(perm.cgid);
+        self.member(b",\"uid\":", perm.uid);
+        self.member(b",\"gid\":", perm.gid);
+        self.member(b",\"cuid\":", perm.cuid);
+        self.member(b",\"cgid\":", perm.cgid);
         self.put(b",\"perms\":\"");
         self.put(&octal_digits(perm.mode));
     }
@@ -231,13 +227,21 @@ impl Line {
         ensures after { self.new ≡ self.old ++ saved_counts stat.now }
         ensures len { length self.new ≤ length self.old + 66 }
     {
-        self.put(b"\",\"qbytes\":");
-        self.digits(stat.qbytes);
-        self.put(b",\"bytes\":");
-        self.digits(stat.cbytes);
-        self.put(b",\"messages\":");
-        self.digits(stat.qnum);
+        self.member(b"\",\"qbytes\":", stat.qbytes);
+        self.member(b",\"bytes\":", stat.cbytes);
+        self.member(b",\"messages\":", stat.qnum);
         self.put(b"}\n");
+    }
+
+    /// Appends a member whose value is a number, from what is before it on.
+    #[tactic(auto, using(std::proofs::Common::append_assoc), unfolding(crate::specs::Saved::number_text))]
+    fn member<I: Integer>(&mut self, name: &[u8], number: I)
+        requires { length self.old + length name.now + I.MAX_STR_LEN ≤ MAX_LINE }
+        ensures after { self.new ≡ self.old ++ number_text name.now (I.text number) }
+        ensures len { length self.new ≤ length self.old + length name.now + I.MAX_STR_LEN }
+    {
+        self.put(name);
+        self.digits(number);
     }
 
     /// Writes an identifier and an LF on an empty line.

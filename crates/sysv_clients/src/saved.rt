@@ -3,7 +3,7 @@ ghost use Rattle.std.specs.Prelude.{ℕ, ℤ, IfOk, List, MatchOption, Some};
 ghost use Rattle.std.specs.Bool.{MatchBool};
 ghost use Rattle.std.specs.Option.{SomeIff};
 ghost use Rattle.std.specs.Prelude.{◌≡◌, ◌∷◌, ◌++◌};
-ghost use Rattle.json.specs.Token.{Token as AToken};
+ghost use Rattle.json.specs.Token.{Token as AToken, key};
 ghost use Rattle.sysv_clients.specs.Saved.{IsFormatLine, IsQueueLine, StatesEntry, StatesNothing, number_member, string_member};
 ghost use Rattle.sysv_clients.specs.Words.{IsHexKey, IsId, IsPerms};
 ghost use Rattle.sysv_clients.specs.declared.saved.SavedQueue.{SavedQueue as ASavedQueue};
@@ -173,6 +173,9 @@ fn number<'a>(reader: &mut Reader<'a>, name: &str) -> Option<&'a str>
 }
 
 /// Returns whether a member of this name begins next.
-fn named(reader: &mut Reader<'_>, name: &str) -> bool {
+fn named(reader: &mut Reader<'_>, name: &str) -> bool
+    ensures { MatchBool result (reader.old ≡ key name.now ∷ reader.new)
+        ((rest : List AToken) → ¬ (reader.old ≡ key name.now ∷ rest)) }
+{
     matches!(reader.next(), Some(Token::Key(found)) if found == name)
 }

@@ -265,7 +265,7 @@ struct Saver {
     page: Page,
     /// The number of messages that it received.
     taken: u64,
-    /// The number of messages that it has written.
+    /// The number of those that it has written.
     shown: u64,
 }
 
@@ -331,6 +331,21 @@ impl Saver {
             (S.contents (stream_of screen.new)) (text_of_call ask answer.now self.old.given)) }
         ensures kept { KeepsStream screen.old screen.new (is_err result) }
     {
+        self.tell(ask, answer);
+        if self.page.is_empty() {
+            return Ok(());
+        }
+        self.show_page(screen)
+    }
+
+    /// Appends the line of a request with this result to the empty page, if it has one.
+    #[tactic(auto, unfolding(crate::specs::Saved::format_line))]
+    fn tell(&mut self, ask: Ask, answer: &ReplyContent)
+        requires page { self.old.page ≡ [] }
+        requires given { length self.old.given ≤ MESSAGE_BYTES }
+        ensures text { self.new.text ≡ self.old.text }
+        ensures page { self.new.page ≡ text_of_call ask answer.now self.old.given }
+    {
         match (ask, answer) {
             (Ask::Hello(_), _) => self.page.put(FORMAT),
             (Ask::Stat { id }, ReplyContent::Stat(stat)) => {
@@ -342,13 +357,8 @@ impl Saver {
                 self.taken = self.taken.saturating_add(1);
                 self.page.message_object(*mtype, &self.given);
             }
-            _ => return Ok(()),
+            _ => {}
         }
-        self.show_page(screen)?;
-        if let Ask::Hold { .. } = ask {
-            self.shown = self.shown.saturating_add(1);
-        }
-        Ok(())
     }
 
     /// Writes the page and flushes it.
@@ -364,6 +374,7 @@ impl Saver {
         match print_instrumented(screen, self.page.bytes()) {
             Ok(()) => {
                 self.page.clear();
+                self.shown = self.taken;
                 Ok(())
             }
             Err(WriteFault) => Err(Unshown {

@@ -55,10 +55,10 @@ loop-ask-preserved g c = record {
       c.loop-ask.refusals.items c.tried.new.refusals.items c.loop-ask.saving c.loop-ask.invariant.saves
       c.in-Some.ensures.ask c.exchange_in-outcome.ensures.exchanges c.in_ok-answer.ensures
       c.in_ok-show-2.ensures.ok);
-  text = c.show-2.ensures.text ∙ c.loop-ask.invariant.text;
+  text = c.show-in-Some.ensures.text ∙ c.loop-ask.invariant.text;
   page = c.in_ok-show-2.ensures.page;
   screen = record {
-    same = c.show-2.ensures.kept.same ∙ c.loop-ask.invariant.screen.same;
+    same = c.show-in-Some.ensures.kept.same ∙ c.loop-ask.invariant.screen.same;
     failed = c.in_ok-show-2.ensures.kept.failed ∙ c.loop-ask.invariant.screen.failed;
   };
   same_writer = c.exchange_in-outcome.ensures.same_writer ∙ c.loop-ask.invariant.same_writer;
