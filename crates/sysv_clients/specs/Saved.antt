@@ -80,12 +80,11 @@ queue_tokens v =
     ++ (number_member (codes "bytes") v.bytes ++ (number_member (codes "messages") v.messages
     ++ end_object ∷ []))))))))))
 
--- The line states this queue. Its members have the order in which a save writes them; white space and escapes
--- may be others. Its identifier and its counts are numbers, which a load does not use.
-pub record IsQueueLine (line : List ℕ) (queue : SavedQueue) : Type 0 where
+-- These are the tokens of this queue. Its members have the order in which a save writes them. Its identifier and its
+-- counts are numbers, which a load does not use.
+pub record IsQueueIn (all : List Token) (queue : SavedQueue) : Type 0 where
   pub values : Values
-  pub utf8 : IsUtf8 line
-  pub object : tokens line ≡ queue_tokens values
+  pub object : all ≡ queue_tokens values
   pub has_key : IsHexKey values.key queue.key
   pub has_id : IsId values.msqid queue.id
   pub has_uid : IsNat32 values.uid queue.uid
@@ -96,6 +95,10 @@ pub record IsQueueLine (line : List ℕ) (queue : SavedQueue) : Type 0 where
   pub has_qbytes : IsNat32 values.qbytes queue.qbytes
   pub has_bytes : IsNat32 values.bytes queue.cbytes
   pub has_messages : IsNat32 values.messages queue.qnum
+
+-- The line states this queue. White space and escapes may be others than those of a save.
+abbrev pub IsQueueLine : List ℕ → SavedQueue → Type 0
+IsQueueLine line queue = IsUtf8 line × IsQueueIn (tokens line) queue
 
 -- The line states this. The body is that of a message, and nothing is said of it otherwise.
 abbrev pub StatesEntry : (line : List ℕ) → Entry → (body : List ℕ) → Type 0

@@ -4,7 +4,7 @@ ghost use Rattle.std.specs.Bool.{MatchBool};
 ghost use Rattle.std.specs.Option.{SomeIff};
 ghost use Rattle.std.specs.Prelude.{◌≡◌, ◌∷◌, ◌++◌};
 ghost use Rattle.json.specs.Token.{Token as AToken, key};
-ghost use Rattle.sysv_clients.specs.Saved.{IsFormatLine, IsQueueLine, StatesEntry, StatesNothing, number_member, string_member};
+ghost use Rattle.sysv_clients.specs.Saved.{IsFormatLine, IsQueueIn, IsQueueLine, StatesEntry, StatesNothing, number_member, string_member};
 ghost use Rattle.sysv_clients.specs.Words.{IsHexKey, IsId, IsPerms};
 ghost use Rattle.sysv_clients.specs.declared.saved.SavedQueue.{SavedQueue as ASavedQueue};
 ghost use Rattle.sysv_words.specs.Words.{IsNat32};
@@ -116,7 +116,10 @@ pub(crate) fn read_queue(
 }
 
 /// Reads the members of a queue, which are all that the reader has.
-fn queue_in(reader: &mut Reader<'_>) -> Option<SavedQueue> {
+fn queue_in(reader: &mut Reader<'_>) -> Option<SavedQueue>
+    ensures { MatchOption result ((queue : ASavedQueue) → ¬ IsQueueIn reader.old queue)
+        (IsQueueIn reader.old) }
+{
     if !opens(reader) {
         return None;
     }
@@ -136,7 +139,13 @@ fn queue_in(reader: &mut Reader<'_>) -> Option<SavedQueue> {
 }
 
 /// Reads a member of this name whose value is a number from 0 to 4294967295.
-fn number_32(reader: &mut Reader<'_>, name: &str) -> Option<u32> {
+fn number_32(reader: &mut Reader<'_>, name: &str) -> Option<u32>
+    ensures { MatchOption result
+        ((value : ℕ) (digits : List ℕ) (rest : List AToken) →
+        reader.old ≡ number_member name.now digits ++ rest → ¬ IsNat32 digits value)
+        (λ value. (digits : List ℕ) × IsNat32 digits value
+        × (reader.old ≡ number_member name.now digits ++ reader.new)) }
+{
     u32::read(number(reader, name)?.as_bytes())
 }
 
