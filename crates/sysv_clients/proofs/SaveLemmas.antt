@@ -3,7 +3,7 @@ use Rattle.std.proofs.Common.{◌≡◌, ℕ, ℤ, ◌+◌, ◌-◌, ◌*◌, �
 use Rattle.std.proofs.Common.{Result, Ok, Err, inl, inr, refl, sym, ap, subst, ◌∙◌, append_assoc, append-nil, arith}
 use Rattle.std.proofs.lemmas.List.Concat.{flat_map-append}
 use Rattle.std.proofs.lemmas.List.Sums.{fold-append}
-use Rattle.std.specs.Prelude.{⊤, fold}
+use Rattle.std.specs.Prelude.{⊤, fold, length}
 use Rattle.std.specs.Io.KnownBytes.{Appends, Consumes}
 use Rattle.std.proofs.KnownBytes.{Appends-nil, Appends-trans}
 use Rattle.sysv_clients.specs.declared.clearing.Refusal.{Refusal}
@@ -27,6 +27,7 @@ use Rattle.sysv_clients.proofs.ClearLemmas.{no_refusal}
 use Rattle.sysv_clients.proofs.HoldLemmas.{frame, unanswered}
 use Rattle.sysv_model.specs.declared.cred.Cred.{Cred}
 use Rattle.sysv_model.specs.declared.errno.Errno.{Errno}
+use Rattle.sysv_model.specs.declared.limits.TheConstants.{MESSAGE_BYTES}
 use Rattle.sysv_model.specs.Writing.{AppendsPrefix}
 use Rattle.sysv_wire.specs.declared.frame.Version.TheVariants.{Three}
 use Rattle.sysv_wire.specs.declared.reply.ReplyContent.{ReplyContent}
@@ -438,6 +439,18 @@ refused cred left taken shown before = record {
   ends = (refl, refl, Appends-nil shown);
   reports = tt;
 }
+
+-- The body of a message that is held is short.
+pub short : (ask : Ask) (outcome : Result ReplyContent ClientFault) (answer : ReplyContent) (given text : List ℕ)
+    (left rest taken more : Option (List ℕ)) (so reported : List Refusal)
+    → ExchangesIn Three (frame ask text) ask outcome left rest taken more given
+    → Tries ask outcome (Ok answer) so reported → (mtype : ℤ) → answer ≡ content.Hold mtype
+    → length given ≤ MESSAGE_BYTES
+short ask outcome answer given text left rest taken more so reported exchange (inl tried) mtype is =
+    (subst (λ (o : Result ReplyContent ClientFault).
+    ExchangesIn Three (frame ask text) ask o left rest taken more given) tried.0 exchange).1.1.fits.2
+short ask outcome answer given text left rest taken more so reported exchange (inr t) mtype is =
+    absurd (no_refusal t.1 (ap error_number (sym t.4 ∙ is)))
 
 -- What is left to do at a step of a slot.
 abbrev pub weight : Step → ℕ

@@ -62,7 +62,8 @@ IsUtf8-octal ds h = IsUtf8-from_ascii ds (IsAscii-octal ds h)
 octal_small : (ds : List ℕ) → AllDigits 8 ds → length ds ≡ 3 → digits_value 8 ds < 2 ^ 32
 octal_small ds h three =
     let below : digits_value 8 ds < 8 ^ length ds = digits_value-lt 8 ds h in
-    let most : 8 ^ length ds ≤ 8 ^ 3 = pow-le-pow_right (omega arith) (omega (arith, three)) in
+    let few : length ds ≤ 3 = omega (arith, three) in
+    let most : 8 ^ length ds ≤ 8 ^ 3 = pow-le-pow_right (omega arith) few in
     omega (arith, below, most)
 
 -- The result of parsing three digits that do not begin with a plus.

@@ -22,7 +22,7 @@ format_line = codes "{\"format\":\"sysvmsg-queues\",\"version\":1}" ++ 10 ∷ []
 
 -- A member whose value is a number, from what is before it on.
 unfoldable pub number_text : List ℕ → List ℕ → List ℕ
-number_text name number = name ++ number
+number_text name digits = name ++ digits
 
 -- The owner, the creator and the mode of a queue.
 unfoldable pub saved_perm : Perm → List ℕ

@@ -1,7 +1,7 @@
 //! A `save`: a session that writes all queues, and takes each message only after its line was
 //! written.
 
-ghost use Rattle.std.specs.Prelude.{◌≡◌, ◌+◌, ◌*◌, ◌<◌, ◌≤◌, [], ◌++◌, length, zero, IfOk, IfSome, OnOk, OnErr, is_err};
+ghost use Rattle.std.specs.Prelude.{◌≡◌, ◌<◌, ◌≤◌, ℤ, [], length, IfOk, IfSome, OnOk, OnErr, is_err};
 ghost use Rattle.std.specs.Io.KnownBytes.{Appends};
 ghost use Rattle.sysv_clients.specs.Holding.{is_of_output};
 ghost use Rattle.sysv_clients.specs.Saved.{format_line};
@@ -9,6 +9,7 @@ ghost use Rattle.sysv_clients.specs.Clearing.{id_of_row};
 ghost use Rattle.sysv_clients.specs.Saving.{SavesAll, Tries, after_hold, after_row, after_stat, begun, first_ask, moved, saving_ask, text_of_call};
 ghost use Rattle.sysv_clients.specs.declared.command.TheConstants.{MAX_ROWS};
 ghost use Rattle.sysv_clients.specs.declared.saving.Step.TheVariants as steps;
+ghost use Rattle.sysv_wire.specs.declared.reply.ReplyContent.TheVariants as contents;
 ghost use Rattle.sysv_model.specs.Instrumented.{KeepsStream, stream_name, stream_of};
 ghost use Rattle.sysv_model.specs.Writing.{AppendsPrefix};
 ghost use Rattle.sysv_model.specs.declared.limits.TheConstants.{MESSAGE_BYTES};
@@ -322,7 +323,8 @@ impl Saver {
         screen: &mut Instrumented<'_, S>,
     ) -> Result<(), Unshown>
         requires page { self.old.page ≡ [] }
-        requires given { length self.old.given ≤ MESSAGE_BYTES }
+        requires given { (mtype : ℤ) → answer.now ≡ contents.Hold mtype
+            → length self.old.given ≤ MESSAGE_BYTES }
         ensures text { self.new.text ≡ self.old.text }
         ensures page { OnOk result (self.new.page ≡ []) }
         ensures ok { OnOk result (Appends (S.contents (stream_of screen.old))
@@ -342,7 +344,8 @@ impl Saver {
     #[tactic(auto, unfolding(crate::specs::Saved::format_line))]
     fn tell(&mut self, ask: Ask, answer: &ReplyContent)
         requires page { self.old.page ≡ [] }
-        requires given { length self.old.given ≤ MESSAGE_BYTES }
+        requires given { (mtype : ℤ) → answer.now ≡ contents.Hold mtype
+            → length self.old.given ≤ MESSAGE_BYTES }
         ensures text { self.new.text ≡ self.old.text }
         ensures page { self.new.page ≡ text_of_call ask answer.now self.old.given }
     {

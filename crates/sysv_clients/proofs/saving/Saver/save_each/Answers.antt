@@ -1,6 +1,7 @@
 use Rattle.std.proofs.Common.{refl, ◌∙◌}
 use Rattle.std.proofs.lemmas.Result.{err_from_is_err_and}
 use Rattle.sysv_clients.proofs.SaveLemmas.{breaks_off, fails_at, fails_first, finishes, goes_on, no_hello, opens}
+use Rattle.sysv_clients.proofs.SaveLemmas.{short}
 use Rattle.sysv_clients.proofs.saving.Saver.save_each.Goals as goal
 
 pub returns-in_err-welcome-clause-saves : goal.returns-in_err-welcome-clause-saves
@@ -68,3 +69,9 @@ pub returns-clause-saves : goal.returns-clause-saves
 returns-clause-saves g c =
     finishes c.args.cred _ _ _ _ _ _ _ c.args.refusals.now.items c.loop-ask.refusals.items c.loop-ask.saving
     c.loop-ask.invariant.saves c.in_default.ensures.ask
+
+pub show-requires-in-Some-clause-given : goal.show-requires-in-Some-clause-given
+show-requires-in-Some-clause-given g c =
+    short c.in-Some.ask c.exchange_in-outcome.result c.in_ok-answer.answer c.exchange_in-outcome.new.given
+    c.loop-ask.self.text _ _ _ _ c.loop-ask.refusals.items c.tried.new.refusals.items
+    c.exchange_in-outcome.ensures.exchanges c.in_ok-answer.ensures
