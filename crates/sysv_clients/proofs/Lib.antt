@@ -12,5 +12,6 @@ mod ObjectLemmas
 mod StatedLemmas
 mod HoldLemmas
 mod SaveLemmas
+mod SavedLemmas
 mod JsonLemmas
 mod CopyLemmas
