@@ -367,7 +367,8 @@ impl Loader {
             Entry::Message(mtype) => {
                 self.find(loading, lines, window, reader, writer)?;
                 let sending = loading.sending();
-                self.sender.send(writer, window, sending.send(window.id, mtype))?;
+                self.sender
+                    .send(writer, window, sending.send(window.id, mtype))?;
                 let keep = kept(&sending, window.waiting, self.sender.chunk.has_line());
                 self.sender.drain(reader, writer, window, keep)?;
                 Ok(())

@@ -91,18 +91,17 @@ fn read_format(line: &[u8], scratch: &mut Scratch) -> Result<bool, NoMemory>
     let Ok(mut reader) = Reader::new(line, scratch) else {
         return Err(NoMemory);
     };
-    Ok(opens(&mut reader)
-        && string(&mut reader, "format") == Some("sysvmsg-queues")
-        && number(&mut reader, "version") == Some("1")
-        && closes(&mut reader))
+    Ok(
+        opens(&mut reader)
+            && string(&mut reader, "format") == Some("sysvmsg-queues")
+            && number(&mut reader, "version") == Some("1")
+            && closes(&mut reader),
+    )
 }
 
 /// Reads the queue that a line states, or `None` if it states none. Fails with `NoMemory` if memory
 /// for the line is refused.
-pub(crate) fn read_queue(
-    line: &[u8],
-    scratch: &mut Scratch,
-) -> Result<Option<SavedQueue>, NoMemory>
+pub(crate) fn read_queue(line: &[u8], scratch: &mut Scratch) -> Result<Option<SavedQueue>, NoMemory>
     ensures { IfOk result (λ found. MatchOption found
         ((queue : ASavedQueue) → ¬ IsQueueLine line.now queue) (IsQueueLine line.now)) }
 {

@@ -13,12 +13,10 @@ use crate::patience::{Patience, REPLY_MILLIS};
 use crate::place::{Leave, Place};
 use crate::sentence::{Detail, Subject};
 use crate::teller::Teller;
+use std::fmt;
 use std::io::{Eprint, Read, Write};
 use std::process::ExitCode;
-use std::fmt;
-use sysv_clients::{
-    ClientFault, Cut, Loading as Load, Unfit, Unloaded, load_lines,
-};
+use sysv_clients::{ClientFault, Cut, Loading as Load, Unfit, Unloaded, load_lines};
 use sysv_model::{Cred, Errno};
 
 /// No room came in time.
@@ -111,13 +109,8 @@ fn load_on<I: Read, R: Leave, W: Write + Drop>(
         (taken_by W.contents link.old) (taken_by W.contents link.new)
         (I.remaining input.old) (I.remaining input.new) }
 {
-    let Err(unloaded) = load_lines(
-        rt.alloc(),
-        loads,
-        input,
-        &mut link.reader,
-        &mut link.writer,
-    ) else {
+    let Err(unloaded) = load_lines(rt.alloc(), loads, input, &mut link.reader, &mut link.writer)
+    else {
         return ExitCode::SUCCESS;
     };
     match unloaded {
@@ -155,7 +148,14 @@ fn tell_cut<R: Leave, W: Write + Drop>(
         (cut.fault, cut.unknown)
     };
     match fault {
-        ClientFault::Refused(error) => told_line(rt, cut.before, Refused { error, cred: loads.cred }),
+        ClientFault::Refused(error) => told_line(
+            rt,
+            cut.before,
+            Refused {
+                error,
+                cred: loads.cred,
+            },
+        ),
         fault => {
             teller.fault(rt, fault.line(), detail_of(fault, false, link));
             let _ = eprintln!(rt; "sysvmsg: load: lines that are loaded: {}", cut.before);
@@ -193,7 +193,10 @@ impl fmt::Display for Refused {
                 "not permitted to user {}, group {} ({error})",
                 cred.uid, cred.gid
             ),
-            Errno::EAGAIN => write!(f, "no room: the queue or the server's pool is full ({error})"),
+            Errno::EAGAIN => write!(
+                f,
+                "no room: the queue or the server's pool is full ({error})"
+            ),
             Errno::ENOENT => write!(f, "no queue has the key of its queue ({error})"),
             Errno::ENOSPC => write!(f, "the server has no place for another queue ({error})"),
             _ => write!(f, "{error}"),

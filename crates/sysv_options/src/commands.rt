@@ -527,11 +527,7 @@ Example:
   $ sysvmsg load ./q --uid 0 --adopt < queues",
     arguments: &[
         SERVER,
-        (
-            "from",
-            Form::Value("N"),
-            "Begins at line N [default: 1]",
-        ),
+        ("from", Form::Value("N"), "Begins at line N [default: 1]"),
         (
             "into",
             Form::Flag,

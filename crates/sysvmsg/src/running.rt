@@ -18,7 +18,8 @@ use std::sync::Wait;
 use std::thread::Threads;
 use sysv_clients::Command;
 use sysv_connect::{
-    Contact, How, Link, Looking, Place, Progress, Screen, Telling, Visit, load_at, look_at, run_as, save_at, say,
+    Contact, How, Link, Looking, Place, Progress, Screen, Telling, Visit, load_at, look_at, run_as,
+    save_at, say,
 };
 use sysv_options::{
     Asked, NoWords, Process, Surroundings, credentials, no_text, read_words, surroundings, telling,

@@ -1,8 +1,8 @@
 //! Queues that a client saves, and a file of queues that it loads.
 use super::*;
 use sysv_clients::{
-    ClientFault, Cut, Feed, Loading, Refusal, Unfit, Unheld, Unloaded, load_feed,
-    load_lines, save_all, save_instrumented,
+    ClientFault, Cut, Feed, Loading, Refusal, Unfit, Unheld, Unloaded, load_feed, load_lines,
+    save_all, save_instrumented,
 };
 use sysv_model::{Errno, Instrumented};
 
@@ -24,11 +24,13 @@ const DONE: &[u8] = b"\0\0\0\x02\x03\x09";
 /// messages, of type 5.
 const SLOTS: &[u8] = b"\0\0\0\x07\x03\0\0\0\0\0\x02";
 
-const QUEUE: &[u8] = b"\0\0\0\x1a\x03\x07\0\x01\0\0\0\x40\0\0\0\x07\0\0\x03\xe8\x01\x80\0\0\0\x06\0\0\0\x02";
+const QUEUE: &[u8] =
+    b"\0\0\0\x1a\x03\x07\0\x01\0\0\0\x40\0\0\0\x07\0\0\x03\xe8\x01\x80\0\0\0\x06\0\0\0\x02";
 
 const VACANT: &[u8] = b"\0\0\0\x04\x03\x07\0\0";
 
-const ATTRIBUTES: &[u8] = b"\0\0\0\x45\x03\x04\0\0\0\0\x07\0\0\x03\xe8\0\0\x03\xe9\0\0\x03\xea\0\0\x03\xeb\x01\xa0\0\0\
+const ATTRIBUTES: &[u8] =
+    b"\0\0\0\x45\x03\x04\0\0\0\0\x07\0\0\x03\xe8\0\0\x03\xe9\0\0\x03\xea\0\0\x03\xeb\x01\xa0\0\0\
     \0\x06\0\0\0\x02\0\0\x40\0\0\0\0\x01\0\0\0\0\0\0\0\0\0\0\0\0\0\0\0\0\0\0\0\0\0\0\0\0\0\0\0\0";
 
 const HELD: &[u8] = b"\0\0\0\x0e\x03\x08\0\0\0\0\0\0\0\0\x05abc";
@@ -45,7 +47,8 @@ const NO_STAT: &[u8] = b"\0\0\0\x03\x03\x04\x0d";
 /// What is written of these.
 const FORMAT: &[u8] = b"{\"format\":\"sysvmsg-queues\",\"version\":1}\n";
 
-const LINE: &[u8] = b"{\"key\":\"0x00000007\",\"msqid\":64,\"uid\":1000,\"gid\":1001,\"cuid\":1002,\"cgid\":1003,\
+const LINE: &[u8] =
+    b"{\"key\":\"0x00000007\",\"msqid\":64,\"uid\":1000,\"gid\":1001,\"cuid\":1002,\"cgid\":1003,\
     \"perms\":\"640\",\"qbytes\":16384,\"bytes\":6,\"messages\":2}\n";
 
 const MESSAGE: &[u8] = b"{\"type\":5,\"body\":\"abc\"}\n";
@@ -96,7 +99,15 @@ fn queues_are_written_and_their_messages_taken(rt: HostRuntime) {
         SLOTS, QUEUE, ATTRIBUTES, HELD, SPENT, HELD, SPENT, NONE_LEFT, VACANT,
     ];
     let asked: &[&[u8]] = &[
-        HELLO_TO_SAVE, FIRST_ROW, STAT, HOLD, DONE, HOLD, DONE, HOLD, SECOND_ROW,
+        HELLO_TO_SAVE,
+        FIRST_ROW,
+        STAT,
+        HOLD,
+        DONE,
+        HOLD,
+        DONE,
+        HOLD,
+        SECOND_ROW,
     ];
     let lines: &[&[u8]] = &[FORMAT, LINE, MESSAGE, MESSAGE];
     assert_saves(&rt, rt.alloc(), replies, Ok(()), asked, lines, None);
@@ -224,7 +235,15 @@ fn a_line_that_is_refused_ends_a_load(rt: HostRuntime) {
     };
     let replies: &[&[u8]] = &[WELCOME, EXISTS];
     let asked: &[&[u8]] = &[HELLO, MAKE];
-    assert_loads(&rt, rt.alloc(), &LOADING, lines, replies, Err(Ok(cut)), asked);
+    assert_loads(
+        &rt,
+        rt.alloc(),
+        &LOADING,
+        lines,
+        replies,
+        Err(Ok(cut)),
+        asked,
+    );
     let own = Loading {
         adopt: false,
         ..LOADING
