@@ -764,10 +764,11 @@ static void give_back(struct connection *connection, struct connection *single)
 }
 
 /* Notes whether the session holds a message after a call that returns `error`. With any reply to a
- * back it holds none, and it holds none once it has ended. */
+ * back it holds none, and it holds none once it has ended. If a done fails with EINVAL, the time of
+ * the message was over. */
 static void note_held(struct connection *connection, const struct frame *frame, int error)
 {
-    if (frame->operation == BACK)
+    if (frame->operation == BACK || (frame->operation == DONE && error == EINVAL))
         connection->holds = false;
     else if (error == 0 && is_of_held(frame))
         connection->holds = frame->operation == HOLD;

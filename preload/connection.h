@@ -43,7 +43,7 @@ bool connection_was_sent(const struct connection *connection);
  * listen yet; -1 is no limit. Returns 0, or an errno: EBUSY if another thread is in a call. */
 int connection_retry(struct connection *connection, int milliseconds_at_most);
 
-/* Whether the session holds a message. */
+/* Whether the session holds a message, or held one whose time may be over. */
 bool connection_is_holding(const struct connection *connection);
 
 /* Sends a request and reads its reply into the same frame, over a connection that was opened, or

@@ -76,13 +76,12 @@ int request_rcv(struct connection *opened, int id, void *message, size_t size, i
 }
 
 int request_hold(struct connection *opened, int id, void *message, size_t size, int64_t type,
-    int flags, int milliseconds_at_most, size_t *got)
+    int flags, int milliseconds_at_most, uint32_t seconds, size_t *got)
 {
     const struct receive receive = {id, message, size, type, flags};
     struct frame frame;
     begin_receive(&frame, HOLD, &receive);
-    /* (the message is held without a limit of time) */
-    frame_put_u32(&frame, 0);
+    frame_put_u32(&frame, seconds);
     return ask_message(opened, &frame, &receive, milliseconds_at_most, got);
 }
 

@@ -38,11 +38,11 @@ int request_snd(struct connection *opened, int id, int64_t type, const void *bod
 int request_rcv(struct connection *opened, int id, void *message, size_t size, int64_t type,
     int flags, int milliseconds_at_most, size_t *got);
 
-/* The same, and the session holds the message until it says that it is done, or ends. It fails with
- * EPROTONOSUPPORT if the connection cannot hold messages, and with EBUSY if another thread uses it.
- */
+/* The same, and the session holds the message until it says that it is done, or ends, or for that
+ * many seconds if they are not 0. It fails with EPROTONOSUPPORT if the connection cannot hold
+ * messages, and with EBUSY if another thread uses it. */
 int request_hold(struct connection *opened, int id, void *message, size_t size, int64_t type,
-    int flags, int milliseconds_at_most, size_t *got);
+    int flags, int milliseconds_at_most, uint32_t seconds, size_t *got);
 
 /* Fails with EINVAL if no message is held, and with EBUSY if another thread uses the connection. */
 int request_done(struct connection *opened);

@@ -4,7 +4,6 @@
 #include <errno.h>
 #include <fcntl.h>
 #include <inttypes.h>
-#include <stdbool.h>
 #include <stdio.h>
 #include <stdlib.h>
 #include <string.h>
@@ -142,6 +141,13 @@ void command_await(const struct command *command)
     siginfo_t info;
     while (waitid(P_PID, (id_t)command->pid, &info, WEXITED | WNOWAIT) != 0 && errno == EINTR)
         continue;
+}
+
+bool command_has_ended(pid_t command)
+{
+    siginfo_t info = {0};
+    return waitid(P_PID, (id_t)command, &info, WEXITED | WNOWAIT | WNOHANG) == 0
+           && info.si_pid == command;
 }
 
 int command_status(const struct command *command)

@@ -3,6 +3,7 @@
 #define COMMAND_H
 
 #include <signal.h>
+#include <stdbool.h>
 #include <stdint.h>
 #include <sys/types.h>
 
@@ -27,6 +28,9 @@ void command_feed(struct command *command, const char *body, size_t size);
 
 /* Waits until it has ended, and leaves its status to command_status. */
 void command_await(const struct command *command);
+
+/* Whether it has ended. It leaves the status too. */
+bool command_has_ended(pid_t command);
 
 /* Its status, as a shell has it: 0 to 255, or 128 and the number of the signal that ended it. */
 int command_status(const struct command *command);

@@ -9,10 +9,9 @@
 #include "run.h"
 #include "slot.h"
 
-static const char usage[] =
-    "usage: sysvmsg-work PATH KEY [OPTION ...] -- COMMAND [ARGUMENT ...]\n"
-    "options: --jobs N, --type N, --upto N, --pause SECONDS, --failed KEY2,\n"
-    "         --until-empty, --create, --retry SECONDS\n";
+static const char usage[] = "usage: sysvmsg-work PATH KEY [OPTION ...] -- COMMAND [ARGUMENT ...]\n"
+                            "options: --jobs N, --type N, --upto N, --seconds N, --pause SECONDS,\n"
+                            "         --failed KEY2, --until-empty, --create, --retry SECONDS\n";
 
 static const char help[] =
     "\n"
@@ -24,6 +23,7 @@ static const char help[] =
     "  --jobs N         Runs up to N commands at once, 1 to 256 [default: 1]\n"
     "  --type N         Takes the first message of type N\n"
     "  --upto N         Takes the first message of the lowest type that is at most N\n"
+    "  --seconds N      Ends COMMAND after N seconds; its message comes back then\n"
     "  --pause SECONDS  Keeps a message that failed that long [default: 1]\n"
     "  --failed KEY2    Sends a message that failed to the queue of KEY2 instead\n"
     "  --until-empty    Ends once the queue has no such message\n"

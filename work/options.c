@@ -57,7 +57,7 @@ static const char TIMES[] = "a number of seconds, 0 to 1000000";
 
 /* Which options were given. */
 struct given {
-    bool type, upto, failed, jobs, pause, retry, until_empty, create;
+    bool type, upto, failed, jobs, seconds, pause, retry, until_empty, create;
 };
 
 /* An option: where it notes that it was given, and how its value is read, or NULL. */
@@ -96,6 +96,15 @@ static bool read_jobs(const char *name, const char *value, struct options *optio
     return true;
 }
 
+static bool read_limit(const char *name, const char *value, struct options *options, char *why)
+{
+    int64_t seconds = 0;
+    if (!read_number(value, 1, LONGEST_SECONDS, &seconds))
+        return refuse_value(name, value, "a number, 1 to 1000000", why);
+    options->seconds = (int)seconds;
+    return true;
+}
+
 static bool read_pause(const char *name, const char *value, struct options *options, char *why)
 {
     return read_seconds(value, &options->pause_ms) || refuse_value(name, value, TIMES, why);
@@ -111,9 +120,9 @@ static bool read_option(char ***word, struct options *options, struct given *giv
 {
     const struct option all[] = {{"--type", &given->type, read_type},
         {"--upto", &given->upto, read_upto}, {"--failed", &given->failed, read_failed},
-        {"--jobs", &given->jobs, read_jobs}, {"--pause", &given->pause, read_pause},
-        {"--retry", &given->retry, read_retry}, {"--until-empty", &given->until_empty, NULL},
-        {"--create", &given->create, NULL}};
+        {"--jobs", &given->jobs, read_jobs}, {"--seconds", &given->seconds, read_limit},
+        {"--pause", &given->pause, read_pause}, {"--retry", &given->retry, read_retry},
+        {"--until-empty", &given->until_empty, NULL}, {"--create", &given->create, NULL}};
     size_t length = strcspn(**word, "="), i = 0, count = sizeof all / sizeof *all;
     while (
         i < count && (strlen(all[i].name) != length || strncmp(all[i].name, **word, length) != 0))

@@ -14,6 +14,7 @@ struct options {
     int64_t type; /* as that of a receive: -N is --upto N */
     int jobs;
     int pause_ms;
+    int seconds; /* for which a message is held; 0: without a limit */
     int retry_ms;
     bool ends_if_empty, creates;
     char **command;

@@ -2,6 +2,7 @@
 #include "run.h"
 
 #include <errno.h>
+#include <limits.h>
 #include <poll.h>
 #include <signal.h>
 #include <stdio.h>
@@ -9,7 +10,6 @@
 #include <string.h>
 #include <sys/eventfd.h>
 #include <sys/signalfd.h>
-#include <time.h>
 #include <unistd.h>
 
 #include "slot.h"
@@ -17,8 +17,7 @@
 enum {
     POKE = SIGUSR1, /* ends a call that waits */
     POKE_MS = 20,   /* between two of them: one may come before the call */
-    APART_MS = 200, /* signals that are closer together are one */
-    KILL_MS = 5000  /* how long commands may take to end after SIGTERM */
+    APART_MS = 200  /* signals that are closer together are one */
 };
 
 struct run {
@@ -28,13 +27,6 @@ struct run {
     int signals;
     long first, second; /* when these signals came, in milliseconds; 0: not yet */
 };
-
-static long milliseconds(void)
-{
-    struct timespec now;
-    clock_gettime(CLOCK_MONOTONIC, &now);
-    return now.tv_sec * 1000L + now.tv_nsec / 1000000L;
-}
 
 static _Noreturn void give_up(const char *what)
 {
@@ -100,13 +92,25 @@ static void tell_slots(struct run *run)
     }
 }
 
+/* Ends the commands whose time is over. Returns for how many milliseconds to wait after that; -1 is
+ * no limit. */
+static int end_late_commands(struct run *run)
+{
+    long now = milliseconds(), next = run->work.stage == WORKS ? LONG_MAX : now + POKE_MS;
+    for (int i = 0; i < run->count; i++) {
+        long due = slot_end_late(&run->slots[i], now);
+        next = due < next ? due : next;
+    }
+    return next == LONG_MAX ? -1 : (int)(next - now);
+}
+
 /* Waits for something to happen, and takes it. */
 static void step(struct run *run)
 {
     uint64_t count;
     struct pollfd events[] = {
         {.fd = run->signals, .events = POLLIN}, {.fd = run->work.ended, .events = POLLIN}};
-    poll(events, 2, run->work.stage == WORKS ? -1 : POKE_MS);
+    poll(events, 2, end_late_commands(run));
     if (events[0].revents)
         take_signal(run);
     if (events[1].revents && read(run->work.ended, &count, sizeof count) < 0 && errno != EAGAIN)

@@ -3,6 +3,7 @@
 
 #include <errno.h>
 #include <inttypes.h>
+#include <limits.h>
 #include <poll.h>
 #include <stdio.h>
 #include <stdlib.h>
@@ -12,7 +13,7 @@
 
 enum { TRY_MS = 100 /* between two tries to find a server or its queue */ };
 
-static long milliseconds(void)
+long milliseconds(void)
 {
     struct timespec now;
     clock_gettime(CLOCK_MONOTONIC, &now);
@@ -129,6 +130,23 @@ static bool lose(struct slot *slot, const char *what)
     return find_server(slot);
 }
 
+/* For how many milliseconds the message is held at most, up to `most`; -1 is no limit. */
+static int time_left(const struct slot *slot, int most)
+{
+    if (slot->due == 0)
+        return most;
+    long left = slot->due - milliseconds();
+    left = left > 0 ? left : 0;
+    return most < 0 || left < most ? (int)left : most;
+}
+
+/* Whether a message came back when its time was over: it is not held, and its queue is there. */
+static bool came_back(const struct slot *slot, int error)
+{
+    return error == EINVAL && slot->due > 0
+           && sysvmsg_get(slot->server, slot->work->options.key, 0) == slot->queue;
+}
+
 /* A message cannot come back: its queue was removed, or this user may no longer send to it. */
 static void say_lost(const struct slot *slot, int error)
 {
@@ -141,8 +159,9 @@ static void say_lost(const struct slot *slot, int error)
  * again. A message whose session was lost comes back without this. */
 static bool give_back(struct slot *slot)
 {
-    if (sysvmsg_back(slot->server) < 0 && errno != EIO)
-        say_lost(slot, errno);
+    int error = sysvmsg_back(slot->server) < 0 ? errno : 0;
+    if (error != 0 && error != EIO && !came_back(slot, error))
+        say_lost(slot, error);
     return is_at_work(slot) && (!find_queues(slot) || find_server(slot));
 }
 
@@ -153,6 +172,10 @@ static bool finish(struct slot *slot)
         return true;
     if (errno == EIO)
         return lose(slot, "the connection ended, and a job that was done may be done again");
+    if (errno == EINVAL && slot->due > 0) {
+        say(slot, "a job that was done may be done again", "its time was over");
+        return true;
+    }
     fail(slot, FAILED, "done", strerror(errno));
     return false;
 }
@@ -160,44 +183,83 @@ static bool finish(struct slot *slot)
 /* Gives the message back after a pause. */
 static bool give_back_later(struct slot *slot)
 {
-    pause_for(slot, slot->work->options.pause_ms);
+    pause_for(slot, time_left(slot, slot->work->options.pause_ms));
     return give_back(slot);
 }
 
-/* Sends the message to the queue of --failed. It is held meanwhile. */
+/* Sends the message to the queue of --failed, while it is held. */
 static bool send_failed(struct slot *slot, size_t size)
 {
     do {
-        if (sysvmsg_snd(slot->server, slot->failed, &slot->message, size, SYSVMSG_NO_LIMIT) == 0)
+        int limit = time_left(slot, SYSVMSG_NO_LIMIT);
+        if (sysvmsg_snd(slot->server, slot->failed, &slot->message, size, limit) == 0)
             return finish(slot);
     } while (errno == EINTR && slot->work->stage != GIVES_BACK);
     if (errno == EIO)
         return lose(slot, "the connection ended");
-    if (errno != EINTR)
+    if (errno == ETIMEDOUT || errno == EAGAIN)
+        say(slot, slot->work->options.failed_word, "there was no room in time");
+    else if (errno != EINTR)
         say(slot, slot->work->options.failed_word, strerror(errno));
     return give_back_later(slot);
 }
 
-/* Notes which command another thread may end. */
+/* Notes that another thread may end a command. */
 static void note_command(struct slot *slot, pid_t command)
 {
     pthread_mutex_lock(&slot->lock);
     slot->command = command;
-    slot->is_told = false;
+    slot->is_told = slot->is_late = false;
     pthread_mutex_unlock(&slot->lock);
+    if (slot->due > 0)
+        report(slot->work);
+}
+
+/* Notes that it has ended. Returns whether the time of its message was over. */
+static bool note_end(struct slot *slot)
+{
+    pthread_mutex_lock(&slot->lock);
+    slot->command = 0;
+    bool is_late = slot->is_late;
+    pthread_mutex_unlock(&slot->lock);
+    return is_late;
+}
+
+/* Sends a signal to the command. The lock is held. */
+static void signal_command(struct slot *slot, int number)
+{
+    if (number != SIGTERM || !slot->is_told)
+        kill(-slot->command, number);
+    slot->is_told = true;
 }
 
 void slot_signal(struct slot *slot, int number)
 {
     pthread_mutex_lock(&slot->lock);
-    if (slot->command > 0 && (number != SIGTERM || !slot->is_told)) {
-        slot->is_told = true;
-        kill(-slot->command, number);
-    }
+    if (slot->command > 0)
+        signal_command(slot, number);
     pthread_mutex_unlock(&slot->lock);
 }
 
-/* Runs the command with the message. Returns its status, or -1 if it was not run. */
+long slot_end_late(struct slot *slot, long now)
+{
+    long next = LONG_MAX;
+    pthread_mutex_lock(&slot->lock);
+    if (slot->command > 0 && slot->due > 0 && !command_has_ended(slot->command)) {
+        long last = slot->due + KILL_MS;
+        next = now < slot->due ? slot->due : now < last ? last : LONG_MAX;
+        slot->is_late = now >= slot->due;
+        if (slot->is_late)
+            signal_command(slot, now < last ? SIGTERM : SIGKILL);
+    }
+    pthread_mutex_unlock(&slot->lock);
+    return next;
+}
+
+enum { NOT_RUN = -1, LATE = -2 };
+
+/* Runs the command with the message. Returns its status, or LATE if it ran until the time of the
+ * message was over. */
 static int run_command(struct slot *slot, size_t size)
 {
     const struct options *options = &slot->work->options;
@@ -207,29 +269,42 @@ static int run_command(struct slot *slot, size_t size)
     if (error != 0) {
         int status = error == ENOENT ? NOT_FOUND : NOT_EXECUTABLE;
         fail(slot, status, options->command[0], strerror(error));
-        return -1;
+        return NOT_RUN;
     }
     note_command(slot, command.pid);
     command_feed(&command, slot->message.body, size);
     command_await(&command);
     /* (from here on its number may be that of another process) */
-    note_command(slot, 0);
-    return command_status(&command);
+    bool is_late = note_end(slot);
+    int status = command_status(&command);
+    return is_late ? LATE : status;
+}
+
+/* Says that the command of a job failed. */
+static void say_failed(const struct slot *slot, size_t size, int status)
+{
+    const struct options *options = &slot->work->options;
+    char how[60];
+    if (status == LATE)
+        snprintf(how, sizeof how, "was ended after %d seconds", options->seconds);
+    else
+        snprintf(how, sizeof how, "ended with status %d", status);
+    fprintf(stderr, "sysvmsg-work: %s: a job of type %" PRId64 " and %zu bytes: the command %s\n",
+        options->path, slot->message.type, size, how);
 }
 
 /* Does a job: the message that is held. */
 static bool do_job(struct slot *slot, size_t size)
 {
-    char line[100];
     int status = run_command(slot, size);
     if (status == 0 && slot->work->stage != GIVES_BACK)
         return finish(slot);
-    if (status < 0 || slot->work->stage == GIVES_BACK)
+    if (status == NOT_RUN || slot->work->stage == GIVES_BACK)
         return give_back(slot);
-    snprintf(
-        line, sizeof line, "a job of type %" PRId64 " and %zu bytes", slot->message.type, size);
-    fprintf(stderr, "sysvmsg-work: %s: %s: the command ended with status %d\n",
-        slot->work->options.path, line, status);
+    say_failed(slot, size, status);
+    /* (it is another one's, so it is neither kept nor sent to the queue of --failed) */
+    if (status == LATE)
+        return give_back(slot);
     return slot->work->options.failed_word ? send_failed(slot, size) : give_back_later(slot);
 }
 
@@ -263,10 +338,11 @@ static bool step(struct slot *slot)
 {
     const struct options *options = &slot->work->options;
     int limit = options->ends_if_empty ? SYSVMSG_NOWAIT : SYSVMSG_NO_LIMIT;
-    ssize_t size = sysvmsg_hold(slot->server, slot->queue, &slot->message,
-        sizeof slot->message.body, options->type, 0, limit);
+    ssize_t size = sysvmsg_hold_for(slot->server, slot->queue, &slot->message,
+        sizeof slot->message.body, options->type, 0, limit, (uint32_t)options->seconds);
     if (size < 0)
         return take_refusal(slot, errno);
+    slot->due = options->seconds == 0 ? 0 : milliseconds() + options->seconds * 1000L;
     slot->work->waits_for_place = false;
     return is_at_work(slot) ? do_job(slot, (size_t)size) : give_back(slot);
 }

@@ -17,6 +17,8 @@ enum stage {
     GIVES_BACK /* it ends the commands, and gives their messages back */
 };
 
+enum { KILL_MS = 5000 /* how long a command may take to end after SIGTERM */ };
+
 enum { FAILED = 1, NOT_UNDERSTOOD = 2, NOT_EXECUTABLE = 126, NOT_FOUND = 127, BY_SIGNAL = 128 };
 
 /* What the slots share. */
@@ -36,9 +38,11 @@ struct slot {
     struct sysvmsg *server;
     int queue, failed;
     struct sysvmsg_message message;
-    pthread_mutex_t lock; /* of these two, which another thread uses to end the command */
+    long due;             /* when the time of the message is over, in milliseconds; 0: never */
+    pthread_mutex_t lock; /* of the rest, which another thread uses to end the command */
     pid_t command;        /* 0: none runs */
     bool is_told;         /* that it is to end */
+    bool is_late;         /* it ran until the time of its message was over */
 };
 
 /* The function of the thread of a slot. */
@@ -46,5 +50,12 @@ void *slot_run(void *slot);
 
 /* Has its command end by a signal. SIGTERM is sent once to each command. */
 void slot_signal(struct slot *slot, int number);
+
+/* Has its command end if the time of its message is over. Returns when to look again: in
+ * milliseconds, of the clock that does not jump; LONG_MAX is never. */
+long slot_end_late(struct slot *slot, long now);
+
+/* That clock. */
+long milliseconds(void);
 
 #endif

@@ -148,13 +148,19 @@ EXPORTED ssize_t sysvmsg_rcv(struct sysvmsg *server, int queue, void *message, s
 EXPORTED ssize_t sysvmsg_hold(struct sysvmsg *server, int queue, void *message, size_t size,
     int64_t type, int flags, int milliseconds)
 {
+    return sysvmsg_hold_for(server, queue, message, size, type, flags, milliseconds, 0);
+}
+
+EXPORTED ssize_t sysvmsg_hold_for(struct sysvmsg *server, int queue, void *message, size_t size,
+    int64_t type, int flags, int milliseconds, uint32_t seconds)
+{
     size_t got;
     if (!server || !is_readable(message))
         return outcome(EFAULT);
     /* (the server refuses SYSVMSG_NOERROR) */
     flags = (flags & (SYSVMSG_NOERROR | SYSVMSG_EXCEPT)) | wait_flag(milliseconds);
     int error = request_hold(server->connection, queue, message, size < TEXT_MAX ? size : TEXT_MAX,
-        type, flags, milliseconds, &got);
+        type, flags, milliseconds, seconds, &got);
     return error ? outcome(error) : (ssize_t)got;
 }
 

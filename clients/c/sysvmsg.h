@@ -115,15 +115,23 @@ ssize_t sysvmsg_rcv(struct sysvmsg *server, int queue, void *message, size_t siz
 ssize_t sysvmsg_hold(struct sysvmsg *server, int queue, void *message, size_t size, int64_t type,
     int flags, int milliseconds);
 
-/* The message that is held is done with, and gone. It fails with EINVAL if none is held. After EIO
- * it may have come back. */
+/* The same, for that many seconds at most, or without a limit for 0. If the message is not done
+ * with by then, the server sends it again, and the session goes on and holds nothing: sysvmsg_done
+ * and sysvmsg_back fail with EINVAL. */
+ssize_t sysvmsg_hold_for(struct sysvmsg *server, int queue, void *message, size_t size,
+    int64_t type, int flags, int milliseconds, uint32_t seconds);
+
+/* The message that is held is done with, and gone. It fails with EINVAL if none is held, as after
+ * the seconds of sysvmsg_hold_for: then another client may receive the message. After EIO it may
+ * have come back. */
 int sysvmsg_done(struct sysvmsg *server);
 
 /* Gives back the message that is held: the server sends it again, as the last one of its queue. If
  * the queue has no room for 100 milliseconds, or a signal handler runs, the session ends, and the
- * server sends the message once there is room. It fails with EINVAL if none is held. EINVAL and
- * EIDRM, if the queue was removed, and EACCES, if the session may no longer send to it: the message
- * is gone. After EIO it comes back, unless the server has ended. */
+ * server sends the message once there is room. It fails with EINVAL if none is held, as after the
+ * seconds of sysvmsg_hold_for. EINVAL and EIDRM, if the queue was removed, and EACCES, if the
+ * session may no longer send to it: the message is gone. After EIO it comes back, unless the server
+ * has ended. */
 int sysvmsg_back(struct sysvmsg *server);
 
 int sysvmsg_stat(struct sysvmsg *server, int queue, struct sysvmsg_stat *stat);

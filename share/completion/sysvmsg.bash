@@ -69,7 +69,7 @@ _sysvmsg_serve() {
 # The word after -- is a program.
 _sysvmsg_work() {
     local word=${COMP_WORDS[COMP_CWORD]} dashes
-    local options="--jobs --type --upto --pause --failed --until-empty --create --retry"
+    local options="--jobs --type --upto --seconds --pause --failed --until-empty --create --retry"
     COMPREPLY=()
     dashes=$(_sysvmsg_dashes)
     if [ -n "$dashes" ]; then

@@ -115,9 +115,14 @@ static int call(struct sysvmsg *server, char **w)
         if (result >= 0)
             print_body(&message, result);
     } else if (strcmp(name, "hold") == 0) {
-        int flags = atoi(w[4]);
-        result = (int)sysvmsg_hold(server, number, &message, (size_t)atoi(w[2]),
-            strtoll(w[3], NULL, 10), flags, flags & 2048 ? SYSVMSG_NOWAIT : SYSVMSG_NO_LIMIT);
+        int flags = atoi(w[4]), limit = flags & 2048 ? SYSVMSG_NOWAIT : SYSVMSG_NO_LIMIT;
+        uint32_t seconds = (uint32_t)strtoul(w[5], NULL, 10);
+        size_t size = (size_t)atoi(w[2]);
+        int64_t type = strtoll(w[3], NULL, 10);
+        result =
+            (int)(seconds == 0 ? sysvmsg_hold(server, number, &message, size, type, flags, limit)
+                               : sysvmsg_hold_for(
+                                   server, number, &message, size, type, flags, limit, seconds));
         if (result >= 0)
             print_body(&message, result);
     } else if (strcmp(name, "done") == 0 || strcmp(name, "back") == 0) {
@@ -425,6 +430,7 @@ static void try_no_connection(void)
     CHECK(sysvmsg_retry(NULL, 0) == -1 && errno == EFAULT);
     errno = 0;
     CHECK(sysvmsg_hold(NULL, 0, &message, 1, 0, 0, 0) == -1 && errno == EFAULT);
+    CHECK(sysvmsg_hold_for(NULL, 0, &message, 1, 0, 0, 0, 1) == -1 && errno == EFAULT);
     errno = 0;
     CHECK(sysvmsg_done(NULL) == -1 && errno == EFAULT);
     errno = 0;
@@ -484,6 +490,51 @@ static void try_back(void)
     queue = sysvmsg_get(server, KEY, SYSVMSG_CREAT | 0600);
     CHECK(send_text(server, queue, 7, "kept", 10000) == 0 && holds(holder, queue, 7, "kept"));
     CHECK(sysvmsg_back(holder) == 0 && receives(server, queue, 0, "kept"));
+    sysvmsg_close(holder);
+    sysvmsg_close(server);
+}
+
+/* Holds a message of type 5 for a second, and waits until its time is over and a queue has a number
+ * of messages. */
+static void hold_too_long(struct sysvmsg *holder, int queue, const char *text, uint32_t wanted)
+{
+    struct sysvmsg_message message;
+    struct sysvmsg_stat stat;
+    ssize_t size = (ssize_t)strlen(text);
+    CHECK(sysvmsg_hold_for(holder, queue, &message, 99, 5, 0, 10000, 1) == size
+          && memcmp(message.body, text, (size_t)size) == 0);
+    CHECK(sysvmsg_stat(holder, queue, &stat) == 0 && stat.qnum == wanted - 1);
+    usleep(1000000);
+    for (int i = 0; i < 500 && stat.qnum != wanted; i++) {
+        usleep(20000);
+        CHECK(sysvmsg_stat(holder, queue, &stat) == 0);
+    }
+    CHECK(stat.qnum == wanted);
+}
+
+/* A message whose time is over comes back, and the session goes on and holds nothing. */
+static void try_hold_for(void)
+{
+    struct sysvmsg *server = open_server(), *holder = sysvmsg_open_holding(path, 10000);
+    struct sysvmsg_message message;
+    int queue = sysvmsg_get(server, KEY, SYSVMSG_CREAT | 0600);
+    CHECK(holder && send_text(server, queue, 5, "late", 10000) == 0);
+    CHECK(send_text(server, queue, 6, "other", 10000) == 0);
+    hold_too_long(holder, queue, "late", 2);
+    CHECK(sysvmsg_done(holder) == -1 && errno == EINVAL);
+    hold_too_long(holder, queue, "late", 2);
+    CHECK(sysvmsg_back(holder) == -1 && errno == EINVAL);
+    CHECK(sysvmsg_back(holder) == -1 && errno == EINVAL);
+    /* (the next hold need not wait for either of them) */
+    hold_too_long(holder, queue, "late", 2);
+    CHECK(holds(holder, queue, 6, "other"));
+    CHECK(sysvmsg_hold_for(holder, queue, &message, 99, 0, 0, 0, 1) == -1 && errno == EINVAL);
+    CHECK(sysvmsg_done(holder) == 0 && receives(server, queue, 0, "late"));
+    /* A message that is done with in time does not come back. */
+    CHECK(send_text(server, queue, 5, "done", 10000) == 0);
+    CHECK(sysvmsg_hold_for(holder, queue, &message, 99, 0, 0, 0, 1) == 4);
+    CHECK(sysvmsg_done(holder) == 0);
+    CHECK(sysvmsg_rcv(server, queue, &message, 99, 0, 0, 1500) == -1 && errno == ETIMEDOUT);
     sysvmsg_close(holder);
     sysvmsg_close(server);
 }
@@ -614,6 +665,8 @@ static void try_hold_refused(void)
     int queue = sysvmsg_get(server, KEY, SYSVMSG_CREAT | 0600);
     CHECK(!sysvmsg_open_holding(path, 10000) && errno == EPROTONOSUPPORT);
     CHECK(sysvmsg_hold(server, queue, &message, 9, 0, 0, 0) == -1 && errno == EPROTONOSUPPORT);
+    CHECK(
+        sysvmsg_hold_for(server, queue, &message, 9, 0, 0, 0, 1) == -1 && errno == EPROTONOSUPPORT);
     CHECK(sysvmsg_done(server) == -1 && errno == EPROTONOSUPPORT);
     CHECK(send_text(server, queue, 5, "kept", 10000) == 0 && receives(server, queue, 0, "kept"));
     sysvmsg_close(server);
@@ -642,7 +695,7 @@ int main(int count, char **words)
         {"no-connection", try_no_connection}, {"many", try_many}, {"restart", try_restart},
         {"hold", try_hold}, {"hold-apart", try_hold_apart}, {"hold-killed", try_hold_killed},
         {"hold-refused", try_hold_refused}, {"back", try_back}, {"back-denied", try_back_denied},
-        {"back-full", try_back_full}, {"hold-late", try_hold_late}};
+        {"back-full", try_back_full}, {"hold-late", try_hold_late}, {"hold-for", try_hold_for}};
     if (count < 3)
         return 2;
     path = words[2];

@@ -19,9 +19,9 @@ share a connection; a child of fork needs its own.
 
 from ._connection import Connection, Held, Pipeline, connect
 from ._errors import (
-    ANSWERED, ERRORS, NOT_MADE, UNKNOWN, CannotHold, ConnectionLost, Denied, Error, Exists, ForkedConnection, InUse,
-    Invalid, NoMessage, NoQueue, NoRoom, NoSlot, NotMade, NotPermitted, Overflow, ProtocolError, QueueError, Removed,
-    TimedOut, TooLong,
+    ANSWERED, ERRORS, NOT_MADE, UNKNOWN, CannotHold, ConnectionLost, Denied, Error, Exists, ForkedConnection,
+    HoldExpired, InUse, Invalid, NoMessage, NoQueue, NoRoom, NoSlot, NotMade, NotPermitted, Overflow, ProtocolError,
+    QueueError, Removed, TimedOut, TooLong,
 )  # fmt: skip
 from ._session import Pending
 from ._wire import (
@@ -34,8 +34,8 @@ __version__ = "0.4.0.dev0"
 __all__ = [
     "ANSWERED", "BACK", "BODY_MAX", "CREAT", "DONE", "ERRORS", "EXCEPT", "EXCL", "GET", "HELLO", "HOLD", "NOERROR",
     "NOT_MADE", "NOWAIT", "PRIVATE", "RCV", "RM", "ROW", "SET", "SND", "STAT", "UNKNOWN", "CannotHold", "Connection",
-    "ConnectionLost", "Denied", "Error", "Exists", "ForkedConnection", "Held", "InUse", "Invalid", "Message",
-    "NoMessage", "NoQueue", "NoRoom", "NoSlot", "NotMade", "NotPermitted", "Overflow", "Pending", "Pipeline",
+    "ConnectionLost", "Denied", "Error", "Exists", "ForkedConnection", "Held", "HoldExpired", "InUse", "Invalid",
+    "Message", "NoMessage", "NoQueue", "NoRoom", "NoSlot", "NotMade", "NotPermitted", "Overflow", "Pending", "Pipeline",
     "ProtocolError", "QueueError", "Removed", "Request", "Row", "Stat", "TimedOut", "TooLong", "connect", "frame",
     "read_reply",
 ]  # fmt: skip

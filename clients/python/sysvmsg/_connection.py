@@ -10,7 +10,7 @@ from types import TracebackType
 from typing import Iterator, List, Optional, Tuple, Type, TypeVar, Union, cast
 
 from ._errors import (
-    NOT_MADE, CannotHold, ConnectionLost, Error, ForkedConnection, Invalid, QueueError, Removed, TimedOut,
+    NOT_MADE, CannotHold, ConnectionLost, Error, ForkedConnection, HoldExpired, Invalid, QueueError, Removed, TimedOut,
 )  # fmt: skip
 from ._session import BACK_WAIT, LONGEST, Pauses, Pending, Place, Session, deadline_in, time_left
 from ._wire import (
@@ -113,7 +113,7 @@ class Connection:
             yield message
 
     def hold(self, queue: int, type: int = 0, *, size: int = BODY_MAX, wait: Optional[float] = None,
-             all_but: bool = False) -> Held:
+             all_but: bool = False, seconds: Optional[int] = None) -> Held:
         """Receives a message as `rcv` does, and holds it: it comes back to the queue unless it is done with.
 
             with server.hold(queue) as message:
@@ -122,8 +122,11 @@ class Connection:
         The end of the `with` block reports that the message is done with; an exception gives it back. If the process
         dies first, the message comes back too. Each message that is held has a session of its own. A server without
         --hold raises `CannotHold`. The server raises `NoRoom` if it has no place for one more message that is held.
+
+        With `seconds`, a whole number, the message also comes back if it is held for that many seconds. The end of the
+        `with` block then raises `HoldExpired`.
         """
-        request = hold_request(queue, type, size, wait_flag(wait), all_but)
+        request = hold_request(queue, type, size, wait_flag(wait), all_but, seconds)
         deadline = deadline_in(wait if wait is not None and wait > 0 else None)
         self._place.check_process()
         session = self._holder(deadline)
@@ -338,10 +341,13 @@ class Held:
 
     def done(self) -> None:
         """The message is done with, and gone. If this raises `ConnectionLost`, it may have come back. A message that is
-        not held any more raises `Invalid`."""
+        not held any more raises `Invalid`, and one whose seconds were over `HoldExpired`."""
         session = self._taken("done")
         try:
             self._connection._make(session, Request.done(), None)
+        except Invalid:
+            self._connection._keep(session)
+            raise HoldExpired().of("done", self._connection.path, None, None) from None
         except BaseException:
             session.close()
             raise
@@ -352,7 +358,8 @@ class Held:
 
         If the queue has no room for 0.1 seconds, the session ends, and the server sends the message once there is room.
         `Invalid` and `Removed`, if the queue was removed, and `Denied`, if this client may no longer send to it: the
-        message is gone. If this raises `ConnectionLost`, it comes back, unless the server has ended."""
+        message is gone. If this raises `ConnectionLost`, it comes back, unless the server has ended. A message whose
+        seconds were over has come back, and raises `Invalid` too."""
         session = self._taken("back")
         try:
             self._connection._make(session, Request.back(), deadline_in(BACK_WAIT))

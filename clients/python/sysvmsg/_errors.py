@@ -178,6 +178,13 @@ class ConnectionLost(Error, ConnectionError):
         return (*super().__reduce__(), {"outcome": self.outcome})
 
 
+class HoldExpired(Invalid):
+    """EINVAL: a message was held for longer than its `seconds`. The server has sent it again, so its work may be done
+    twice."""
+
+    sentence = "the message was held for longer than its seconds, and came back: its work may be done twice"
+
+
 class CannotHold(Error):
     """EPROTONOSUPPORT: the server lets clients hold no messages."""
 

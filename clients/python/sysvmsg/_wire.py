@@ -12,6 +12,7 @@ T = TypeVar("T")
 
 PRIVATE = 0  # the key of a queue that no other call finds
 BODY_MAX = 8192  # the longest message
+SECONDS_MAX = 2**32 - 1  # the longest time for which a message is held
 
 HELLO, GET, SND, RCV, STAT, SET, RM, ROW, HOLD, DONE, BACK = range(11)
 CALLS = ("hello", "get", "snd", "rcv", "stat", "set", "rm", "row", "hold", "done", "back")
@@ -151,7 +152,7 @@ class Request(Generic[T]):
 
     @staticmethod
     def hold(id: int, size: int, type: int, flags: int, seconds: int = 0) -> Request[Message]:
-        """Version 3 has it. Servers refuse a number of seconds that is not 0."""
+        """Version 3 has it. With 0 seconds it has no limit of time."""
         return Request(HOLD, _pack("iIqII", id, size, type, flags, seconds), _message, queue=id)
 
     @staticmethod
@@ -219,8 +220,11 @@ def rcv_request(queue: int, type: int, size: int, flags: int, truncate: bool, al
     return Request.rcv(queue, size, type, flags | (NOERROR if truncate else 0) | (EXCEPT if all_but else 0))
 
 
-def hold_request(queue: int, type: int, size: int, flags: int, all_but: bool) -> Request[Message]:
-    return Request.hold(queue, size, type, flags | (EXCEPT if all_but else 0))
+def hold_request(queue: int, type: int, size: int, flags: int, all_but: bool,
+                 seconds: Optional[int]) -> Request[Message]:
+    if seconds is not None and not 1 <= seconds <= SECONDS_MAX:
+        raise ValueError("a message is held for 1 to %d seconds, or without a limit" % SECONDS_MAX)
+    return Request.hold(queue, size, type, flags | (EXCEPT if all_but else 0), seconds or 0)
 
 
 def set_request(queue: int, uid: Optional[int], gid: Optional[int], mode: Optional[int], qbytes: Optional[int],

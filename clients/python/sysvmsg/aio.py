@@ -25,7 +25,7 @@ from typing import AsyncIterator, Coroutine, Generator, List, Optional, Type, Ty
 
 from ._connection import Path, identity
 from ._errors import (
-    NOT_MADE, CannotHold, ConnectionLost, Error, ForkedConnection, Invalid, QueueError, Removed, TimedOut,
+    NOT_MADE, CannotHold, ConnectionLost, Error, ForkedConnection, HoldExpired, Invalid, QueueError, Removed, TimedOut,
 )  # fmt: skip
 from ._session import BACK_WAIT, Pauses, Place, Session, Steps, deadline_in, time_left
 from ._wire import (
@@ -145,9 +145,9 @@ class Connection:
             yield message
 
     def hold(self, queue: int, type: int = 0, *, size: int = BODY_MAX, wait: Optional[float] = None,
-             all_but: bool = False) -> Holding:
+             all_but: bool = False, seconds: Optional[int] = None) -> Holding:
         """`sysvmsg.Connection.hold`. Its result is awaited, or used in `async with`."""
-        return Holding(self, hold_request(queue, type, size, wait_flag(wait), all_but), wait)
+        return Holding(self, hold_request(queue, type, size, wait_flag(wait), all_but, seconds), wait)
 
     async def stat(self, queue: int) -> Stat:
         """`sysvmsg.Connection.stat`."""
@@ -356,6 +356,9 @@ class Held:
         session = self._taken("done")
         try:
             await self._connection._make(session, Request.done(), None)
+        except Invalid:
+            self._connection._keep(session)
+            raise HoldExpired().of("done", self._connection.path, None, None) from None
         except BaseException:
             session.close()
             raise

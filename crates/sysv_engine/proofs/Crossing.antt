@@ -28,6 +28,7 @@ use Rattle.sysv_seats.specs.contracts.zero.ZeroClock.TheImpl as clock
 use Rattle.sysv_seats.specs.declared.non_blocking.NonBlocking.{Ghosts}
 use Rattle.sysv_parking.proofs.Crossing.{agenda_send}
 use Rattle.sysv_seats.proofs.parked.Parked.TheSendSync.{the_send as parked_send}
+use Rattle.sysv_seats.proofs.returning.Returned.TheSendSync.{the_send as returned_send}
 use Rattle.sysv_steps.proofs.send.SendWait.TheSendSync.{the_send as wait_send}
 use Rattle.sysv_wire.proofs.frame.Version.TheSendSync.{the_send as version_send}
 use Rattle.sysv_session.proofs.session.Session.TheSendSync.{the_send as session_send}
@@ -40,6 +41,7 @@ use Rattle.sysv_engine.specs.contracts.place.Place.TheInside as place_inside
 use Rattle.sysv_engine.specs.contracts.rounds.Serving as serving
 use Rattle.sysv_engine.specs.contracts.spinning.Spinning as spinning
 use Rattle.sysv_engine.specs.contracts.times.Times as times
+use Rattle.sysv_engine.specs.contracts.times.HoldTime as hold_time
 use Rattle.sysv_engine.specs.contracts.watch.Ready as ready
 use Rattle.sysv_engine.specs.contracts.worker.Worker as worker
 use Rattle.sysv_engine.proofs.alarm.Rest.TheSendSync as rests
@@ -65,14 +67,20 @@ handler_send l R sr =
 held_send : IsSend held.the_row
 held_send = view_send held_inside.the_row _ _ _ _ (declared_send held_inside.the_type (
   search crossing depth 30,
-  (search crossing depth 10, (search crossing depth 10, (search crossing depth 30, tt))),
+  (
+    search crossing depth 10,
+    (search crossing depth 10, (search crossing depth 10, (search crossing depth 30, tt))),
+  ),
 ))
 
 keeper_send : (l : NamedLft) (R : RattleType) → IsSync R → IsSend (keeper.the_row l zero.the_row R clock.ghosts)
 keeper_send l R sr =
     declared_send (keeper.the_type l zero.the_row R clock.ghosts) (
       handler_send l R sr,
-      (options.the_send _ held_send, (options.the_send _ heaps.the_send, tt)),
+      (
+        options.the_send _ held_send,
+        (options.the_send _ heaps.the_send, (search crossing depth 10, (returned_send, tt))),
+      ),
     )
 
 body_send : IsSend body.the_row
@@ -134,6 +142,9 @@ client_send T B ghosts t = view_send (client_inside.the_row T B ghosts) _ _ _ _
 times_send : IsSend times.the_row
 times_send = search crossing depth 40
 
+hold_time_send : IsSend hold_time.the_row
+hold_time_send = search crossing depth 40
+
 place_send : (l : NamedLft) (R T B : RattleType) (ghosts : Ghosts T.Denot B.Denot) → IsSync R → IsSend T → IsSend B →
     IsSend (place.the_row l R T B ghosts)
 place_send l R T B ghosts r t b = view_send (place_inside.the_row l R T B ghosts) _ _ _ _
@@ -161,7 +172,13 @@ place_send l R T B ghosts r t b = view_send (place_inside.the_row l R T B ghosts
                           version_send,
                           (
                             options.the_send _ heaps.the_send,
-                            (search crossing depth 10, (search crossing depth 10, tt)),
+                            (
+                              search crossing depth 10,
+                              (
+                                search crossing depth 10,
+                                (search crossing depth 10, (hold_time_send, tt)),
+                              ),
+                            ),
                           ),
                         ),
                       ),

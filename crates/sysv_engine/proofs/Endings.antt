@@ -8,11 +8,12 @@ use Rattle.sysv_service.specs.Seats.{Gates}
 use Rattle.sysv_session.specs.declared.handler.RequestOutcome.TheVariants.{Left}
 use Rattle.sysv_steps.specs.declared.send.SendWait.{SendWait}
 use Rattle.sysv_seats.specs.GivingBack.{EachReturnCanBeLeft, WaitsBack}
-use Rattle.sysv_seats.specs.Holding.{Holder, Message}
+use Rattle.sysv_seats.specs.Holding.{Message, Timed}
 use Rattle.sysv_seats.specs.Sits.{Sitting}
 use Rattle.sysv_service.specs.Ran.{Pass}
 use Rattle.sysv_seats.specs.Untold.{Closing}
 use Rattle.sysv_engine.specs.Fated.{with_unsent}
+use Rattle.sysv_engine.specs.Handled.{fated_all}
 use Rattle.sysv_engine.specs.Places.{Handled, HasLeft, IsPlace, Seated, SitsOn, Standing, Stands, View, fates_at_end}
 use Rattle.sysv_engine.specs.Places.{has_ended, view_of}
 use Rattle.sysv_engine.proofs.FatesOfSessions.{fated_replied}
@@ -53,7 +54,7 @@ module _ {T B : Type 0} (incoming outgoing : T → Option (List ℕ)) (closes : 
         mid = one.mid;
         leaves = one.leaves;
         gives = one.gives;
-        fated = one.fated ∙ fated_replied old.fates one.back one.ended;
+        fated = one.fated ∙ fated_replied (fated_all old.fates one.mid.late) one.back one.ended;
         returned = λ over. one.ended;
       }
 
@@ -64,9 +65,10 @@ module _ {T B : Type 0} (incoming outgoing : T → Option (List ℕ)) (closes : 
       (begins folds.0, one_ran old connection folds.0 folds.1, all_ran folds.0 had new folds.2)
 
   -- What gives back the message still waits, and is left.
-  last_ran : EachReturnCanBeLeft → (old view : View B) (connection : T) (left : Holder Pass) (message : Message)
+  last_ran : EachReturnCanBeLeft → (old view : View B) (connection : T) (left : Timed Pass) (message : Message)
       (wait : SendWait) → HasLeft incoming outgoing closes old connection left view →
-      WaitsBack left.at (record { at = view.pass; message = Some message }) wait → Some message ≡ left.message →
+      WaitsBack left.holder.at (record { at = view.pass; message = Some message }) wait →
+      Some message ≡ left.holder.message →
       Ran (begins old) connection
       (record { view = record view { fates = with_unsent view.fates }; is_left = true })
   last_ran law old view connection left message wait has waits held =
@@ -93,7 +95,7 @@ module _ {T B : Type 0} (incoming outgoing : T → Option (List ℕ)) (closes : 
         gives = (
           message,
           sym held,
-          law left.at (record { at = view.pass; message = Some message }) wait message refl waits,
+          law left.holder.at (record { at = view.pass; message = Some message }) wait message refl waits,
         );
         fated = ap with_unsent has.1;
         returned = λ over. absurd (cc over);

@@ -1,7 +1,7 @@
 -- What became of the messages that sessions held at their ends.
 use Rattle.std.proofs.Common.{◌≡◌, ◌∙◌, ℕ, ◌+◌, List, [], ◌∷◌, ◌++◌, Option, Some, None, Bool, cond, ap, refl, sym}
-use Rattle.std.proofs.Common.{arith}
-use Rattle.std.specs.Prelude.{◌||◌, true, false, not, IfSome, count_by, flat_map}
+use Rattle.std.proofs.Common.{append_assoc, arith}
+use Rattle.std.specs.Prelude.{◌||◌, true, false, not, IfSome, count_by, flat_map, map}
 use Rattle.std.specs.Option.{option_to_list}
 use Rattle.std.specs.List.{sum_by}
 use Rattle.std.proofs.lemmas.List.{append-nil}
@@ -10,6 +10,7 @@ use Rattle.sysv_model.specs.declared.errno.Errno.TheVariants.{EINVAL, EIDRM}
 use Rattle.sysv_session.specs.declared.handler.RequestOutcome.{RequestOutcome}
 use Rattle.sysv_session.specs.declared.handler.RequestOutcome.TheVariants.{Reply, Got, Left}
 use Rattle.sysv_session.specs.Answers.{IsReplied}
+use Rattle.sysv_wire.specs.declared.reply.Reply.{Reply as Answer}
 use Rattle.sysv_wire.specs.declared.reply.ReplyContent.{ReplyContent}
 use Rattle.sysv_wire.specs.declared.reply.ReplyContent.TheVariants.{Refused as RefusedWith}
 use Rattle.sysv_seats.specs.declared.returning.Fate.TheVariants.{Sent, Discarded, Refused}
@@ -19,7 +20,8 @@ use Rattle.sysv_engine.specs.declared.fates.Fates.{Fates}
 use Rattle.sysv_engine.specs.Added.{capped}
 use Rattle.sysv_engine.specs.Converses.{Dialogue}
 use Rattle.sysv_engine.specs.Fated.{all_fates, one_fated, with_unsent}
-use Rattle.sysv_engine.specs.Handled.{fated_by, fates_of, finds_no_queue, is_discarded, is_sent, is_unsent}
+use Rattle.sysv_engine.specs.Handled.{backs_from, fated_all, fated_by, fates_of, finds_no_queue, is_discarded}
+use Rattle.sysv_engine.specs.Handled.{is_sent, is_unsent}
 use Rattle.sysv_engine.proofs.SumsOfSessions.{cap_both, cap_one}
 
 -- The numbers once a session was followed by this, at the end of the server: a send may still wait.
@@ -29,7 +31,11 @@ fated_at_end fates (Some outcome) = cond (is_unsent outcome) (with_unsent fates)
 
 -- The outcomes of what gave messages back, of these sessions.
 abbrev pub backs_of : List Dialogue → List RequestOutcome
-backs_of dialogues = flat_map (λ (d : Dialogue). option_to_list d.back) dialogues
+backs_of dialogues = flat_map backs_from dialogues
+
+-- Those of one session.
+abbrev pub backs_by : List Answer → Option RequestOutcome → List RequestOutcome
+backs_by late back = map (λ (answer : Answer). let o : RequestOutcome = Reply answer in o) late ++ option_to_list back
 
 -- A send that ended is counted alike.
 pub fated_replied : (fates : Fates) (back : Option RequestOutcome) → IfSome back IsReplied →
@@ -112,12 +118,21 @@ as_replied xs (RefusedWith why) = as_refused xs
 as_replied xs content = as_sent xs
 
 -- The session that follows these held this at its end.
-pub fated_last : (xs : List RequestOutcome) (back : Option RequestOutcome) →
+fated_last : (xs : List RequestOutcome) (back : Option RequestOutcome) →
     fated_at_end (fates_of xs) back ≡ fates_of (xs ++ option_to_list back)
 fated_last xs None = ap fates_of (sym (append-nil xs))
 fated_last xs (Some (Reply reply)) = as_replied xs reply.result ∙ ticks xs (Reply reply)
 fated_last xs (Some (Got delivery)) = as_refused xs ∙ ticks xs (Got delivery)
 fated_last xs (Some Left) = as_unsent xs ∙ ticks xs Left
+
+-- The messages of one session more.
+pub fated_session : (xs : List RequestOutcome) (late : List Answer) (back : Option RequestOutcome) →
+    fated_at_end (fated_all (fates_of xs) late) back ≡ fates_of (xs ++ backs_by late back)
+fated_session xs [] back = fated_last xs back
+fated_session xs (answer ∷ late) back =
+    let one : RequestOutcome = Reply answer in
+    ap (λ (f : Fates). fated_at_end (fated_all f late) back) (fated_last xs (Some one))
+    ∙ (fated_session (xs ++ one ∷ []) late back ∙ ap fates_of (append_assoc xs (one ∷ []) (backs_by late back)))
 
 -- ---- all places
 

@@ -9,15 +9,18 @@ use Rattle.sysv_thread_laws.specs.AtRest.{Rests}
 use Rattle.sysv_thread_laws.specs.Order.{Called}
 use Rattle.sysv_session.specs.declared.served.Served.{Served}
 use Rattle.sysv_wire.specs.declared.frame.Version.{Version}
-use Rattle.sysv_seats.specs.Holding.{Holder, empty_handed}
+use Rattle.sysv_seats.specs.Holding.{Timed, begun_with}
 use Rattle.sysv_thread_laws.specs.Hiring.{all_of, first_pass, Hires, IsRemoval, EveryHiringObeys, EveryStopRemoves}
 use Rattle.sysv_thread_laws.specs.PoolWhole.{EveryHiringLeavesThePoolWhole, NoHiringLeavesAGateHeld}
 use Rattle.sysv_thread_laws.specs.AfterStop.{EveryStopEmpties}
 use Rattle.sysv_thread_laws.specs.ParkedOnThreads.{EveryOrderParksRightly}
+use Rattle.sysv_thread_laws.specs.Points.{EachPointParksRightly}
+use Rattle.sysv_model.specs.Turns.{turns_of}
+use Rattle.sysv_objects.specs.LegalOp.{AreLegal}
 use Rattle.sysv_service.specs.Ran.{Pass}
 use Rattle.sysv_thread_laws.specs.Working as working
 use Rattle.sysv_thread_laws.specs.Working.{Works}
-use Rattle.sysv_engine.specs.Made.{log, held_in, EachReturnMakesACall, EachSessionMakesCalls, GivesBackIn}
+use Rattle.sysv_engine.specs.Made.{log, held_in, timed_in, EachReturnMakesACall, EachSessionMakesCalls, GivesBackIn}
 use Rattle.sysv_engine.specs.Handled.{Shift, first_passes, last_passes, AreMadeBy}
 use Rattle.sysv_thread_laws.specs.Team.{IsServed}
 use Rattle.sysv_engine.specs.Looking as looking
@@ -48,24 +51,24 @@ works_without before after (looking.reads slot result new looked told) =
 module _ (law : EachSessionMakesCalls zero_moment ⊤) (returning : EachReturnMakesACall) where
   -- The calls that were made in a session with this report.
   record InSession (newest : Version) (start old : Pass) (told : Option Served) (left rest taken more : Option (List ℕ))
-      (new : Holder Pass) (made : List Called) : Type 0 where
+      (new : Timed Pass) (made : List Called) : Type 0 where
     calls : List Called
     rests : AllByRecursion Resting calls
-    works : Works start (made ++ calls) new.at
-    dialogues : ConversesAsIn newest (log old made) told left rest taken more (held_in (made ++ calls) new)
+    works : Works start (made ++ calls) new.holder.at
+    dialogues : ConversesAsIn newest (log old made) told left rest taken more (timed_in (made ++ calls) new)
 
   in_session : (newest : Version) (start old : Pass) (told : Option Served) (left rest taken more : Option (List ℕ))
-      (new : Holder Pass) (made : List Called) → Works start made old →
+      (new : Timed Pass) (made : List Called) → Works start made old →
       ConversesAs newest old told left rest taken more new →
       InSession newest start old told left rest taken more new made
   in_session newest start old None left rest taken more new made works dialogues = record {
     calls = [];
     rests = tt;
-    works = subst (Works start (made ++ [])) (sym (ap (λ (h : Holder Pass). h.at) dialogues.0))
+    works = subst (Works start (made ++ [])) (sym (ap (λ (t : Timed Pass). t.holder.at) dialogues.0))
         (subst (λ calls. Works start calls old) (sym (append-nil made)) works);
     dialogues = (
-      ap (λ (h : Holder Pass). held_in (made ++ []) h) dialogues.0
-          ∙ ap (λ (calls : List Called). empty_handed (log old calls)) (append-nil made),
+      ap (λ (t : Timed Pass). timed_in (made ++ []) t) dialogues.0
+          ∙ ap (λ (calls : List Called). begun_with (log old calls)) (append-nil made),
       dialogues.1,
       dialogues.2,
     );
@@ -88,18 +91,19 @@ module _ (law : EachSessionMakesCalls zero_moment ⊤) (returning : EachReturnMa
   in_dialogue newest start old dialogue new made works converses =
       let mid = converses.0 in
       let one = in_session newest start old dialogue.told dialogue.left dialogue.rest dialogue.taken dialogue.more mid
-      made works converses.1 in
-      let back = returning start mid (made ++ one.calls) dialogue.back new one.works converses.2 in
+      made works converses.1.0 in
+      let back = returning start mid.holder (made ++ one.calls) dialogue.back new one.works converses.2 in
       let all = append_assoc made one.calls back.0 in
       record {
         calls = one.calls ++ back.0;
         rests = both one.calls back.0 one.rests back.3;
         works = subst (λ calls. Works start calls new) all back.1;
         dialogues = (
-          held_in (made ++ one.calls) mid,
+          timed_in (made ++ one.calls) mid,
           one.dialogues,
-          subst (λ calls. GivesBackIn zero_moment (held_in (made ++ one.calls) mid) dialogue.back (log new calls)) all
-              back.2,
+          converses.1.1,
+          subst (λ calls. GivesBackIn zero_moment (held_in (made ++ one.calls) mid.holder) dialogue.back
+              (log new calls)) all back.2,
         );
       }
 
@@ -190,8 +194,9 @@ module _ (law : EachSessionMakesCalls zero_moment ⊤) (returning : EachReturnMa
         same = refl;
       }
 
-  pub each_lifetime : EveryHiringObeys → EveryStopRemoves → EveryOrderParksRightly → EachLifetimeIsOneRun
-  each_lifetime obeys stops parks reads blocks gates shifts removed stopped closed counted opened fits hires
+  pub each_lifetime : EveryHiringObeys → EveryStopRemoves → EveryOrderParksRightly → EachPointParksRightly →
+      EachLifetimeIsOneRun
+  each_lifetime obeys stops parks points reads blocks gates shifts removed stopped closed counted opened fits hires
       turns_left =
       let all = in_all reads shifts (first_pass gates) stopped.before hires in
       let stop = stops _ stopped.removed stopped.worn stopped.before stopped.after stopped.stops in
@@ -199,14 +204,17 @@ module _ (law : EachSessionMakesCalls zero_moment ⊤) (returning : EachReturnMa
       subst (λ calls. IsServed 0 blocks counted.all.order (calls ++ stop.0)) all.same
       (obeys 0 blocks 0 gates all.theirs all.left stopped.before stopped.after all.each stop.0 closed opened
       all.hires all.works stop.1 fits counted turns_left) in
+      let legal : AreLegal 0 blocks (turns_of counted.all.order) = counted.all.legal 0 blocks 0 gates opened fits in
       record {
         each = all.done.each;
         made = all.done.made;
         removals = stop.0;
         are_removals = stop.2;
         counted = stop.3;
+        legal = legal;
         served = served;
         parks = parks 0 blocks counted.all.order (all_of all.done.each ++ stop.0) served.run;
+        throughout = points 0 blocks counted.all.order (all_of all.done.each ++ stop.0) legal served.all;
       }
 
   pub each_whole : EveryHiringLeavesThePoolWhole → EveryStopRemoves → EachLifetimeLeavesThePoolWhole

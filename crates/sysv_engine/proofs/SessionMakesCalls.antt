@@ -10,7 +10,7 @@ use Rattle.sysv_steps.specs.Begin.{begin}
 use Rattle.sysv_steps.specs.Call.{SystemCall, Msgget, Msgsnd, Msgrcv, MsgctlStat, MsgctlSet, MsgctlRmid, kind_of}
 use Rattle.sysv_steps.specs.Resume.{Released}
 use Rattle.sysv_steps.specs.State.{State, Waits, Over}
-use Rattle.std.specs.List.{AllByRecursion}
+use Rattle.std.specs.List.{AllByRecursion, FoldsTo}
 use Rattle.sysv_thread_laws.specs.AtRest.{Rests}
 use Rattle.sysv_thread_laws.specs.Order.{Called}
 use Rattle.sysv_session.specs.declared.handler.RequestOutcome.{RequestOutcome}
@@ -24,12 +24,12 @@ use Rattle.sysv_service.specs.Ran.{Pass, Ran}
 use Rattle.sysv_thread_laws.specs.Working as working
 use Rattle.sysv_thread_laws.specs.Working.{Works}
 use Rattle.sysv_seats.specs.Asked.{Asks}
-use Rattle.sysv_seats.specs.Held.{AsksForWriting, HoldAsks, holds_with}
+use Rattle.sysv_seats.specs.Held.{AsksForWriting, HoldAsks, Lapses, holds_with}
 use Rattle.sysv_seats.specs.Holding as holding
-use Rattle.sysv_seats.specs.Holding.{Holder, empty_handed, no_flags}
+use Rattle.sysv_seats.specs.Holding.{Holder, Timed, begun_with, empty_handed, no_flags}
 use Rattle.sysv_seats.specs.Sits.{zero_moment}
 use Rattle.sysv_wire.specs.declared.frame.Version.TheVariants.{Three}
-use Rattle.sysv_engine.specs.Made.{log, held_in, MakesCall, ReadsBeside, ShowsBeside, makes_with}
+use Rattle.sysv_engine.specs.Made.{log, held_in, timed_in, MakesCall, ReadsBeside, ShowsBeside, makes_with}
 use Rattle.sysv_engine.specs.Made.{EachSessionMakesCalls, EachReturnMakesACall}
 use Rattle.sysv_seats.specs.Requests as requests
 
@@ -219,7 +219,8 @@ module _ (may : ℕ → Type 0) (may_leave : Type 0) (any : EachRunIsAtAnyMoment
     rests : AllByRecursion Resting calls
     works : (start : Pass) (made : List Called) → Works start made old → Works start (made ++ calls) new
     asks : (made : List Called) →
-        holding.AsksForWriting MakesCall ReadsBeside ShowsBeside cred id (log old made) granted (log new (made ++ calls))
+        holding.AsksForWriting MakesCall ReadsBeside ShowsBeside cred id (log old made) granted
+        (log new (made ++ calls))
 
   asks_makes : (id : ℤ) (old : Pass) (granted : Result ⊤ Errno) (new : Pass) → AsksForWriting cred id old granted new →
       AsksMakes id old granted new
@@ -292,7 +293,8 @@ module _ (may : ℕ → Type 0) (may_leave : Type 0) (any : EachRunIsAtAnyMoment
     asks = λ made. inl (none, same_held old new made same, told, empty);
   }
   hold_makes Back text old outcome given new (inr (message, is, came, sends, told, held, empty)) =
-      let one = makes may may_leave any unstamped Three message.cred (Snd message.id message.mtype no_flags) message.text
+      let one =
+      makes may may_leave any unstamped Three message.cred (Snd message.id message.mtype no_flags) message.text
       old.at came [] new.at (sends, refl) in
       record {
         calls = one.calls;
@@ -309,83 +311,199 @@ module _ (may : ℕ → Type 0) (may_leave : Type 0) (any : EachRunIsAtAnyMoment
         asks = λ made. (one.asks made, asked.1);
       }
 
+-- The same state, with the calls that were made with its pass.
+same_timed : (old new : Timed Pass) (made : List Called) → old ≡ new → timed_in made old ≡ timed_in (made ++ []) new
+same_timed old new made is =
+    ap (timed_in made) is ∙ ap (λ (calls : List Called). timed_in calls new) (sym (append-nil made))
+
+module _ (may : ℕ → Type 0) (any : EachRunIsAtAnyMoment may) (unstamped : EachRunIsAtAnyMoment no_moment) where
+  -- The call that gives back what is held, since its time is over.
+  record LapseMakes (old : Timed Pass) (outcome : RequestOutcome) (new : Timed Pass) : Type 0 where
+    calls : List Called
+    rests : AllByRecursion Resting calls
+    works : (start : Pass) (made : List Called) → Works start made old.holder.at →
+        Works start (made ++ calls) new.holder.at
+    lapses : (made : List Called) →
+        holding.Lapses MakesCall ReadsBeside ShowsBeside may (timed_in made old) outcome (timed_in (made ++ calls) new)
+
+  lapse_makes : (old : Timed Pass) (outcome : RequestOutcome) (new : Timed Pass) → Lapses may old outcome new →
+      LapseMakes old outcome new
+  lapse_makes old outcome new (message, is, limited, sends, kept, late) =
+      let one = makes may ⊤ any unstamped Three message.cred (Snd message.id message.mtype no_flags) message.text
+      old.holder.at outcome [] new.holder.at (sends, refl) in
+      record {
+        calls = one.calls;
+        rests = one.rests;
+        works = one.works;
+        lapses = λ made. (message, is, limited, (one.asks made).0, kept, late);
+      }
+
+  -- The calls of any number of them.
+  record LapsesMake (old : Timed Pass) (outcomes : List RequestOutcome) (new : Timed Pass) : Type 0 where
+    calls : List Called
+    rests : AllByRecursion Resting calls
+    works : (start : Pass) (made : List Called) → Works start made old.holder.at →
+        Works start (made ++ calls) new.holder.at
+    folds : (made : List Called) → FoldsTo (holding.Lapses MakesCall ReadsBeside ShowsBeside may) (timed_in made old)
+        outcomes (timed_in (made ++ calls) new)
+
+  lapses_make : (old : Timed Pass) (outcomes : List RequestOutcome) (new : Timed Pass) →
+      FoldsTo (Lapses may) old outcomes new → LapsesMake old outcomes new
+  lapses_make old [] new is = record {
+    calls = [];
+    rests = tt;
+    works = λ start made works.
+        still start old.holder.at new.holder.at made (sym (ap (λ (t : Timed Pass). t.holder.at) is)) works;
+    folds = λ made. same_timed old new made is;
+  }
+  lapses_make old (outcome ∷ outcomes) new (mid, lapse, more) =
+      let one = lapse_makes old outcome mid lapse in
+      let rest = lapses_make mid outcomes new more in
+      record {
+        calls = one.calls ++ rest.calls;
+        rests = both one.calls rest.calls one.rests rest.rests;
+        works = λ start made works.
+            subst (λ calls. Works start calls new.holder.at) (append_assoc made one.calls rest.calls)
+            (rest.works start (made ++ one.calls) (one.works start made works));
+        folds = λ made. (
+          timed_in (made ++ one.calls) mid,
+          one.lapses made,
+          subst (λ all. FoldsTo (holding.Lapses MakesCall ReadsBeside ShowsBeside may)
+              (timed_in (made ++ one.calls) mid) outcomes (timed_in all new))
+              (append_assoc made one.calls rest.calls) (rest.folds (made ++ one.calls)),
+        );
+      }
+
 module _ (may : ℕ → Type 0) (may_leave : Type 0) (any : EachRunIsAtAnyMoment may)
     (unstamped : EachRunIsAtAnyMoment no_moment) where
+  -- The calls that a request of a session makes, after those that gave back what it held.
+  record TimedMakes (cred : Cred) (call : Call) (old new : Timed Pass) : Type 0 where
+    calls : List Called
+    rests : AllByRecursion Resting calls
+    works : (start : Pass) (made : List Called) → Works start made old.holder.at →
+        Works start (made ++ calls) new.holder.at
+    asks : (made : List Called) → makes_with may may_leave (timed_in made old) cred call.request call.text call.outcome
+        call.given (timed_in (made ++ calls) new)
+
+  timed_makes : (cred : Cred) (call : Call) (old new : Timed Pass) →
+      holds_with may may_leave old cred call.request call.text call.outcome call.given new →
+      TimedMakes cred call old new
+  timed_makes cred call old new (mid, lapsed, asked, late) =
+      let request = call.request in
+      let one = lapses_make may any unstamped old lapsed.0 mid lapsed.1 in
+      let two =
+      hold_makes may may_leave any unstamped request.version cred request.ask call.text mid.holder call.outcome
+      call.given new.holder asked in
+      record {
+        calls = one.calls ++ two.calls;
+        rests = both one.calls two.calls one.rests two.rests;
+        works = λ start made works.
+            subst (λ calls. Works start calls new.holder.at) (append_assoc made one.calls two.calls)
+            (two.works start (made ++ one.calls) (one.works start made works));
+        asks = λ made. (
+          timed_in (made ++ one.calls) mid,
+          (lapsed.0, one.folds made),
+          subst (λ all. holding.HoldAsks MakesCall ReadsBeside ShowsBeside may may_leave request.version cred
+              request.ask call.text (held_in (made ++ one.calls) mid.holder) call.outcome call.given
+              (held_in all new.holder)) (append_assoc made one.calls two.calls) (two.asks (made ++ one.calls)),
+          late,
+        );
+      }
+
   -- The calls that the requests of a session make.
-  record Led (cred : Cred) (old : Holder Pass) (calls : List Call) (new : Holder Pass) : Type 0 where
+  record Led (cred : Cred) (old : Timed Pass) (calls : List Call) (new : Timed Pass) : Type 0 where
     calls_made : List Called
     rests : AllByRecursion Resting calls_made
-    works : (start : Pass) (made : List Called) → Works start made old.at → Works start (made ++ calls_made) new.at
+    works : (start : Pass) (made : List Called) → Works start made old.holder.at →
+        Works start (made ++ calls_made) new.holder.at
     leads : (made : List Called) →
-        Leads (makes_with may may_leave) cred (held_in made old) calls (held_in (made ++ calls_made) new)
+        Leads (makes_with may may_leave) cred (timed_in made old) calls (timed_in (made ++ calls_made) new)
 
-  led : (cred : Cred) (old : Holder Pass) (calls : List Call) (new : Holder Pass) →
+  led : (cred : Cred) (old : Timed Pass) (calls : List Call) (new : Timed Pass) →
       Leads (holds_with may may_leave) cred old calls new → Led cred old calls new
   led cred old [] new is = record {
     calls_made = [];
     rests = tt;
-    works = λ start made works. still start old.at new.at made (ap (λ (h : Holder Pass). h.at) is) works;
-    leads = λ made. same_held old new made is;
+    works = λ start made works.
+        still start old.holder.at new.holder.at made (ap (λ (t : Timed Pass). t.holder.at) is) works;
+    leads = λ made. sym (same_timed old new made (sym is));
   }
   led cred old (call ∷ calls) new leads =
-      let one = hold_makes may may_leave any unstamped call.request.version cred call.request.ask call.text old
-      call.outcome call.given leads.0 leads.1 in
+      let one = timed_makes cred call old leads.0 leads.1 in
       let more = led cred leads.0 calls new leads.2 in
       record {
         calls_made = one.calls ++ more.calls_made;
         rests = both one.calls more.calls_made one.rests more.rests;
         works = λ start made works.
-            subst (λ calls. Works start calls new.at) (append_assoc made one.calls more.calls_made)
+            subst (λ calls. Works start calls new.holder.at) (append_assoc made one.calls more.calls_made)
             (more.works start (made ++ one.calls) (one.works start made works));
         leads = λ made. (
-          held_in (made ++ one.calls) leads.0,
+          timed_in (made ++ one.calls) leads.0,
           one.asks made,
-          subst (λ all. Leads (makes_with may may_leave) cred (held_in (made ++ one.calls) leads.0) calls
-              (held_in all new))
+          subst (λ all. Leads (makes_with may may_leave) cred (timed_in (made ++ one.calls) leads.0) calls
+              (timed_in all new))
               (append_assoc made one.calls more.calls_made) (more.leads (made ++ one.calls)),
         );
       }
 
   pub each_session : EachSessionMakesCalls may may_leave
-  each_session newest start old new made served left rest taken more works (inl stays) = (
-    [],
-    still start old new.at made (ap (λ (h : Holder Pass). h.at) stays.handler) works,
-    inl (record {
-      handler = same_held (empty_handed old) new made stays.handler;
-      ends = stays.ends;
-      writes = stays.writes;
-      tallies = stays.tallies;
-      counts = stays.counts;
-    }),
-    tt,
-  )
-  each_session newest start old new made served left rest taken more works (inr dialogues) =
-      let done = led dialogues.cred (empty_handed old) dialogues.calls new dialogues.leads in (
-        done.calls_made,
-        done.works start made works,
-        inr (record {
-          version = dialogues.version;
-          cred = dialogues.cred;
-          known = dialogues.known;
-          calls = dialogues.calls;
-          are_calls = dialogues.are_calls;
-          leads = done.leads made;
-          unread = dialogues.unread;
-          reads = dialogues.reads;
-          stopped = dialogues.stopped;
-          ends = dialogues.ends;
-          bounded = dialogues.bounded;
-          replies = dialogues.replies;
-          replied = dialogues.replied;
-          sent = dialogues.sent;
-          prefix = dialogues.prefix;
-          writes = dialogues.writes;
-          reports = dialogues.reports;
-          all = dialogues.all;
-          written = dialogues.written;
-          counts = dialogues.counts;
-        }),
-        done.rests,
+  each_session newest start old new made served left rest taken more works (settled, inl stays, lapsed) =
+      let last = lapses_make may any unstamped settled lapsed.0 new lapsed.1 in (
+        last.calls,
+        last.works start made
+            (subst (Works start made) (sym (ap (λ (t : Timed Pass). t.holder.at) stays.handler)) works),
+        (
+          timed_in made settled,
+          inl (record {
+            handler = ap (timed_in made) stays.handler;
+            ends = stays.ends;
+            writes = stays.writes;
+            tallies = stays.tallies;
+            counts = stays.counts;
+          }),
+          (lapsed.0, last.folds made),
+        ),
+        last.rests,
+      )
+  each_session newest start old new made served left rest taken more works (settled, inr dialogues, lapsed) =
+      let done = led dialogues.cred (begun_with old) dialogues.calls settled dialogues.leads in
+      let last = lapses_make may any unstamped settled lapsed.0 new lapsed.1 in
+      let all = append_assoc made done.calls_made last.calls in (
+        done.calls_made ++ last.calls,
+        subst (λ calls. Works start calls new.holder.at) all
+            (last.works start (made ++ done.calls_made) (done.works start made works)),
+        (
+          timed_in (made ++ done.calls_made) settled,
+          inr (record {
+            version = dialogues.version;
+            cred = dialogues.cred;
+            known = dialogues.known;
+            calls = dialogues.calls;
+            are_calls = dialogues.are_calls;
+            leads = done.leads made;
+            unread = dialogues.unread;
+            reads = dialogues.reads;
+            stopped = dialogues.stopped;
+            ends = dialogues.ends;
+            bounded = dialogues.bounded;
+            replies = dialogues.replies;
+            replied = dialogues.replied;
+            sent = dialogues.sent;
+            prefix = dialogues.prefix;
+            writes = dialogues.writes;
+            reports = dialogues.reports;
+            all = dialogues.all;
+            written = dialogues.written;
+            counts = dialogues.counts;
+          }),
+          (
+            lapsed.0,
+            subst (λ calls. FoldsTo (holding.Lapses MakesCall ReadsBeside ShowsBeside may)
+                (timed_in (made ++ done.calls_made) settled) lapsed.0 (timed_in calls new)) all
+                (last.folds (made ++ done.calls_made)),
+          ),
+        ),
+        both done.calls_made last.calls done.rests last.rests,
       )
 
 -- What gives a message back makes one call.

@@ -2,7 +2,6 @@
 use Rattle.std.proofs.Common.{◌≡◌, ◌∙◌, ℕ, ◌+◌, ◌<◌, ◌≤◌, List, [], ◌∷◌, ◌++◌, map, reverse, length, Option, ap, refl}
 use Rattle.std.proofs.Common.{sym, subst, arith, append_assoc, length-append}
 use Rattle.std.specs.Prelude.{Bool, IfSome, false}
-use Rattle.std.specs.Option.{option_to_list}
 use Rattle.std.specs.List.{All, AllByRecursion, FoldsTo, flat_map, slice_index_or, sum_by}
 use Rattle.std.specs.List.Sorted.{IsPermutation}
 use Rattle.std.proofs.lemmas.List.{append-nil, get_or_append_left, length-map, length-reverse, reverse-append}
@@ -17,7 +16,7 @@ use Rattle.sysv_session.specs.declared.served.Served.{Served}
 use Rattle.sysv_session.specs.Answers.{IsReplied}
 use Rattle.sysv_wire.specs.declared.frame.Version.{Version}
 use Rattle.sysv_seats.specs.GivingBack as giving
-use Rattle.sysv_seats.specs.Holding.{Holder}
+use Rattle.sysv_seats.specs.Holding.{Timed}
 use Rattle.sysv_workers.specs.Parts.{Part, Leads, AreInOrder, IsSubsequenceOf}
 use Rattle.sysv_workers.specs.Running.{GivesBack, LeavesSource, RunsAll}
 use Rattle.sysv_workers.specs.declared.workers.TheConstants.{MAX_WORKERS}
@@ -28,13 +27,14 @@ use Rattle.sysv_engine.specs.declared.sums.Sums.{Sums}
 use Rattle.sysv_engine.specs.Added.{added, all_added, capped, one_session}
 use Rattle.sysv_engine.specs.Desks.{Desk, InTeam, Sat, AreServedInOrder, all_connections}
 use Rattle.sysv_engine.specs.Fated.{all_fates, none_fated}
-use Rattle.sysv_engine.specs.Handled.{AreReturned, Leaves, Shift, backs_in, fates_of, first_passes, last_passes}
+use Rattle.sysv_engine.specs.Handled.{AreReturned, Leaves, Shift, backs_from, backs_in, fated_all, fates_of}
+use Rattle.sysv_engine.specs.Handled.{first_passes, last_passes}
 use Rattle.sysv_engine.specs.Handled.{one_refused, refused_of, reports_of, sums_of, told_in}
 use Rattle.sysv_engine.specs.Serving.{FaultOf, HiredFrom, IsNew, LeavesBooks, LeavesConnections, LeavesUnused}
 use Rattle.sysv_engine.specs.Serving.{WorkedFrom}
 use Rattle.sysv_engine.specs.Converses.{Closes, IsOn, IsReturned, Dialogue, Converses, tally_of}
 use Rattle.sysv_seats.specs.Untold.{Closing}
-use Rattle.sysv_engine.proofs.FatesOfSessions.{backs_of, fated_at_end, fated_last, fates_first}
+use Rattle.sysv_engine.proofs.FatesOfSessions.{backs_by, backs_of, fated_at_end, fated_session, fates_first}
 use Rattle.sysv_engine.proofs.SumsOfSessions.{emptied, refused_first, refused_last, sum_by_map, told_first, told_last}
 use Rattle.sysv_engine.proofs.FaultLeaves.{left}
 use Rattle.sysv_engine.proofs.SessionsPerConnection.{sat_each}
@@ -88,11 +88,11 @@ module _ {W T B : Type 0} (incoming outgoing : T → Option (List ℕ)) (closes 
     pub going : ended old ≡ false
     pub same : newest new ≡ newest old
     pub back : Option RequestOutcome
-    pub mid : Holder Pass
+    pub mid : Timed Pass
     pub leaves : Leaves incoming outgoing closes (newest old) item (pass old) (sums old) (refused old) (book old) back
         mid (sums new) (refused new) (book new)
-    pub gives : giving.GivesBack mid back (pass new)
-    pub fated : fates new ≡ fated_at_end (fates old) back
+    pub gives : giving.GivesBack mid.holder back (pass new)
+    pub fated : fates new ≡ fated_at_end (fated_all (fates old) mid.late) back
     pub returned : ended new ≡ false → IfSome back IsReplied
 
   abbrev pub Runs : W → T → W → Type 0
@@ -136,15 +136,17 @@ module _ {W T B : Type 0} (incoming outgoing : T → Option (List ℕ)) (closes 
       let more_refused : refused h.0 ≡ refused_of (xs ++ dialogue.told ∷ []) =
       subst (λ t. refused h.0 ≡ refused_of (xs ++ t ∷ [])) is
       (run.leaves.counts ∙ (ap (λ n. capped (n + one_refused told)) counted ∙ refused_last xs told)) in
-      let more_back : fates h.0 ≡ fates_of (bs ++ option_to_list dialogue.back) =
-      subst (λ b. fates h.0 ≡ fates_of (bs ++ option_to_list b)) (sym holds.returns)
-      (run.fated ∙ (ap (λ f. fated_at_end f run.back) back ∙ fated_last bs run.back)) in
-      let more = tells items h.0 w' (xs ++ dialogue.told ∷ []) (bs ++ option_to_list dialogue.back) h.2 next
-      more_refused more_back in
+      let more_back : fates h.0 ≡ fates_of (bs ++ backs_from dialogue) =
+      subst (λ b. fates h.0 ≡ fates_of (bs ++ backs_by dialogue.late b)) (sym holds.returns)
+      (subst (λ l. fates h.0 ≡ fates_of (bs ++ backs_by l run.back)) (sym holds.dialogues.1)
+      (run.fated
+      ∙ (ap (λ f. fated_at_end (fated_all f run.mid.late) run.back) back ∙ fated_session bs run.mid.late run.back))) in
+      let more = tells items h.0 w' (xs ++ dialogue.told ∷ []) (bs ++ backs_from dialogue) h.2 next more_refused
+      more_back in
       let whole : Converses (newest w) (pass w) dialogue (pass h.0) = (
         run.mid,
         holds.dialogues,
-        subst (λ b. giving.GivesBack run.mid b (pass h.0)) (sym holds.returns) run.gives,
+        subst (λ b. giving.GivesBack run.mid.holder b (pass h.0)) (sym holds.returns) run.gives,
       ) in
       let is_returned : ended h.0 ≡ false → IsReturned dialogue =
       λ going. subst (λ b. IfSome b IsReplied) (sym holds.returns) (run.returned going) in
@@ -160,7 +162,7 @@ module _ {W T B : Type 0} (incoming outgoing : T → Option (List ℕ)) (closes 
         adds = more.adds ∙ ap sums_of (append_assoc xs (dialogue.told ∷ []) (reports_of more.dialogues));
         counts = more.counts ∙ ap refused_of (append_assoc xs (dialogue.told ∷ []) (reports_of more.dialogues));
         fated = more.fated
-            ∙ ap fates_of (append_assoc bs (option_to_list dialogue.back) (backs_of more.dialogues));
+            ∙ ap fates_of (append_assoc bs (backs_from dialogue) (backs_of more.dialogues));
         follows = λ d is. (is run.going, more.follows dialogue is_returned);
         returned = more.follows dialogue is_returned;
       }

@@ -6,20 +6,24 @@ use Rattle.sysv_service.specs.Ran.{Pass}
 use Rattle.sysv_session.specs.Answers.{IsReplied}
 use Rattle.sysv_session.specs.declared.handler.RequestOutcome.{RequestOutcome}
 use Rattle.sysv_wire.specs.declared.frame.Version.{Version}
+use Rattle.sysv_wire.specs.declared.reply.Reply.{Reply as Answer}
 use Rattle.sysv_seats.specs.GivingBack.{GivesBack}
 use Rattle.sysv_seats.specs.Held.{ServesHolding}
-use Rattle.sysv_seats.specs.Holding.{Holder, empty_handed}
+use Rattle.sysv_seats.specs.Holding.{Timed, begun_with}
 use Rattle.sysv_seats.specs.Breaking.{MayTell}
+use Rattle.sysv_seats.specs.Said.{TellsAsSaid}
 use Rattle.sysv_seats.specs.Sits.{IsBehind, zero_moment}
 use Rattle.sysv_seats.specs.Untold.{Closing}
 use Rattle.sysv_engine.specs.Made.{GivesBackIn, Log, ServesLog}
 
 -- One session: what it reported, if anything; the bytes that could still be read before it and
 -- after it; and the bytes that were written before it and after it. The bytes are known if the
--- connection tells them. If the session held a message at its end, `back` is the outcome of the send that
--- gave the message back, or that the send was left at a wait.
+-- connection tells them. `late` are the replies to the sends that gave back messages of the session before
+-- its end, since their time was over. If the session held a message at its end, `back` is the outcome of the
+-- send that gave the message back, or that the send was left at a wait.
 pub record Dialogue : Type 0 where
   pub told : Option Served
+  pub late : List Answer
   pub back : Option RequestOutcome
   pub left : Option (List ℕ)
   pub rest : Option (List ℕ)
@@ -29,23 +33,24 @@ pub record Dialogue : Type 0 where
 -- A session that reported this, whose replies were gathered, led from the one pass to the other, and held
 -- this at its end. It read versions up to the newest one. Without a report its memory was refused; it read
 -- nothing, wrote nothing, and made no call.
-abbrev pub ConversesAs : Version → Pass → Option Served → (left rest taken more : Option (List ℕ)) → Holder Pass →
+abbrev pub ConversesAs : Version → Pass → Option Served → (left rest taken more : Option (List ℕ)) → Timed Pass →
     Type 0
 ConversesAs newest before None left rest taken more after =
-    (after ≡ empty_handed before) × (rest ≡ left) × (more ≡ taken)
+    (after ≡ begun_with before) × (rest ≡ left) × (more ≡ taken)
 ConversesAs newest before (Some served) left rest taken more after =
     ServesHolding newest zero_moment ⊤ served before after left rest taken more
 
 -- The session led from the one pass to the other, and held this at its end. Its client may leave a call that
 -- waits.
-abbrev pub Talks : Version → Pass → Dialogue → Holder Pass → Type 0
+abbrev pub Talks : Version → Pass → Dialogue → Timed Pass → Type 0
 Talks newest before dialogue after =
     ConversesAs newest before dialogue.told dialogue.left dialogue.rest dialogue.taken dialogue.more after
+    × (dialogue.late ≡ after.late)
 
 -- The session and what gave back the message that it held led from the one pass to the other.
 abbrev pub Converses : Version → Pass → Dialogue → Pass → Type 0
 Converses newest before dialogue after =
-    (mid : Holder Pass) × Talks newest before dialogue mid × GivesBack mid dialogue.back after
+    (mid : Timed Pass) × Talks newest before dialogue mid × GivesBack mid.holder dialogue.back after
 
 -- What the session held was given back by a send that ended, if the session held something.
 abbrev pub IsReturned : Dialogue → Type 0
@@ -59,28 +64,29 @@ tally_of (Some served) = served.tally
 -- ---- the calls of the service
 
 -- A session that reported this made these calls, and held this at its end.
-abbrev pub ConversesAsIn : Version → Log → Option Served → (left rest taken more : Option (List ℕ)) → Holder Log →
+abbrev pub ConversesAsIn : Version → Log → Option Served → (left rest taken more : Option (List ℕ)) → Timed Log →
     Type 0
 ConversesAsIn newest before None left rest taken more after =
-    (after ≡ empty_handed before) × (rest ≡ left) × (more ≡ taken)
+    (after ≡ begun_with before) × (rest ≡ left) × (more ≡ taken)
 ConversesAsIn newest before (Some served) left rest taken more after =
     ServesLog newest zero_moment ⊤ served before after left rest taken more
 
 -- The session made these calls, and then the send that gave back what it held.
 abbrev pub ConversesIn : Version → Log → Dialogue → Log → Type 0
-ConversesIn newest before dialogue after = (mid : Holder Log)
+ConversesIn newest before dialogue after = (mid : Timed Log)
     × ConversesAsIn newest before dialogue.told dialogue.left dialogue.rest dialogue.taken dialogue.more mid
-    × GivesBackIn zero_moment mid dialogue.back after
+    × (dialogue.late ≡ mid.late) × GivesBackIn zero_moment mid.holder dialogue.back after
 
 -- ---- the connection
 
 -- The session was one over this very connection: it began with the bytes that the connection had, and
 -- ended for a reason that there is. So it did not end with `Fault(Read)` unless reading from the
 -- connection may break off, nor with `Reset` unless its client may reset it, nor with `Write` or `Left`
--- unless writing to it may break off.
+-- unless writing to it may break off. It reported what the reads of the connection had said.
 abbrev pub IsOn : {T B : Type 0} → (incoming outgoing : T → Option (List ℕ)) → Closing T B → T → Dialogue → Type 0
 IsOn incoming outgoing closes connection dialogue = (dialogue.left ≡ incoming connection)
     × (dialogue.taken ≡ outgoing connection) × MayTell (closes.breaks connection) dialogue.told
+    × TellsAsSaid closes connection dialogue.told
 
 -- The connection of the session was closed with what the session had written, and with the bytes
 -- that the session left, except those that were read ahead.

@@ -3,7 +3,7 @@ use Rattle.std.specs.Prelude.{◌≡◌, ◌≢◌, ◌+◌, ℕ, Bool, true, fa
 use Rattle.sysv_engine.specs.Added.{capped}
 use Rattle.sysv_engine.specs.declared.counter.Added.{Added}
 use Rattle.sysv_engine.specs.declared.counter.Counter.{Counter}
-use Rattle.sysv_engine.specs.declared.counter.Kind.TheVariants.{InUse, Lost, Written}
+use Rattle.sysv_engine.specs.declared.counter.Kind.TheVariants.{Gone, InUse, Lost, SentBack, Written}
 use Rattle.sysv_engine.specs.declared.counts.Counts.{Counts}
 use Rattle.sysv_engine.specs.declared.counts.Moved.{Moved}
 use Rattle.sysv_engine.specs.declared.counts.SlotCounts.{SlotCounts}
@@ -23,6 +23,7 @@ IsCounted counter more told = (told.kind ≡ counter.kind) × (told.more ≡ mor
 -- Each of the counters counts what its name says.
 abbrev pub HasKinds : Counts → Type 0
 HasKinds counts = (counts.written.kind ≡ Written) × (counts.lost.kind ≡ Lost) × (counts.in_use.kind ≡ InUse)
+    × (counts.sent_back.kind ≡ SentBack) × (counts.gone.kind ≡ Gone)
 
 -- The word under which a message that moved is counted: that of the receives of its slot if it was placed
 -- there, and that of the sends for room there if it was taken.

@@ -1,6 +1,6 @@
 -- What a place of a server does with its connections (this project's profile).
 use Rattle.std.specs.Prelude.{◌≡◌, ◌+◌, ◌||◌, ⊤, ℕ, Bool, true, false, not, List, [], ◌∷◌, Option, None, Some, IfSome}
-use Rattle.std.specs.Prelude.{map, flat_map, cond, count_by}
+use Rattle.std.specs.Prelude.{◌++◌, map, flat_map, cond, count_by}
 use Rattle.std.specs.Option.{option_to_list}
 use Rattle.std.specs.List.{FoldsTo, sum_by}
 use Rattle.sysv_session.specs.declared.served.Served.{Served}
@@ -11,13 +11,14 @@ use Rattle.sysv_session.specs.declared.handler.RequestOutcome.{RequestOutcome}
 use Rattle.sysv_session.specs.declared.handler.RequestOutcome.TheVariants.{Reply, Got, Left as WasLeft}
 use Rattle.sysv_session.specs.Answers.{IsReplied}
 use Rattle.sysv_model.specs.declared.errno.Errno.TheVariants.{EINVAL, EIDRM}
+use Rattle.sysv_wire.specs.declared.reply.Reply.{Reply as Answer}
 use Rattle.sysv_wire.specs.declared.frame.Version.{Version}
 use Rattle.sysv_wire.specs.declared.frame.Version.TheVariants.{Two, Three}
 use Rattle.sysv_wire.specs.declared.reply.ReplyContent.{ReplyContent}
 use Rattle.sysv_wire.specs.declared.reply.ReplyContent.TheVariants.{Refused as RefusedWith}
 use Rattle.sysv_service.specs.Ran.{Pass}
-use Rattle.sysv_seats.specs.GivingBack.{GivesBack, fate_of}
-use Rattle.sysv_seats.specs.Holding.{Holder}
+use Rattle.sysv_seats.specs.GivingBack.{GivesBack, fate_by, fate_of}
+use Rattle.sysv_seats.specs.Holding.{Timed}
 use Rattle.sysv_seats.specs.Notification.{is_refusal}
 use Rattle.sysv_thread_laws.specs.Order.{Called}
 use Rattle.sysv_engine.specs.Made.{log}
@@ -106,6 +107,11 @@ fates_of backs = record {
   unsent = capped (count_by is_unsent backs);
 }
 
+-- The numbers once messages were given back with these replies.
+abbrev pub fated_all : Fates → List Answer → Fates
+fated_all fates [] = fates
+fated_all fates (answer ∷ late) = fated_all (one_fated (fate_by answer.result) fates) late
+
 -- The numbers once a session was followed by this.
 abbrev pub fated_by : Fates → Option RequestOutcome → Fates
 fated_by fates None = fates
@@ -115,7 +121,7 @@ module _ {T B : Type 0} (incoming outgoing : T → Option (List ℕ)) (closes : 
   -- One session with this report was held on the connection, which was then closed. It may have held a message
   -- at its end. What gives that back has come so far: it is `back`.
   pub record Holds (newest : Version) (connection : T) (before : Pass) (book : B) (told : Option Served)
-      (back : Option RequestOutcome) (after : Holder Pass) (book' : B) : Type 0 where
+      (back : Option RequestOutcome) (after : Timed Pass) (book' : B) : Type 0 where
     pub dialogue : Dialogue
     pub reports : dialogue.told ≡ told
     pub returns : dialogue.back ≡ back
@@ -125,7 +131,7 @@ module _ {T B : Type 0} (incoming outgoing : T → Option (List ℕ)) (closes : 
 
   -- One more session was held, on this connection, and it was added to the sums.
   pub record Leaves (newest : Version) (connection : T) (before : Pass) (sums : Sums) (refused : ℕ) (book : B)
-      (back : Option RequestOutcome) (after : Holder Pass) (sums' : Sums) (refused' : ℕ) (book' : B) : Type 0 where
+      (back : Option RequestOutcome) (after : Timed Pass) (sums' : Sums) (refused' : ℕ) (book' : B) : Type 0 where
     pub told : Option Served
     pub holds : Holds newest connection before book told back after book'
     pub adds : sums' ≡ added sums (one_session (tally_of told))
@@ -135,11 +141,11 @@ module _ {T B : Type 0} (incoming outgoing : T → Option (List ℕ)) (closes : 
   pub record Handles (newest : Version) (connection : T) (before : Pass) (sums : Sums) (refused : ℕ) (fates : Fates)
       (book : B) (after : Pass) (sums' : Sums) (refused' : ℕ) (fates' : Fates) (book' : B) : Type 0 where
     pub back : Option RequestOutcome
-    pub mid : Holder Pass
+    pub mid : Timed Pass
     pub leaves : Leaves newest connection before sums refused book back mid sums' refused' book'
-    pub gives : GivesBack mid back after
+    pub gives : GivesBack mid.holder back after
     pub ended : IfSome back IsReplied
-    pub fated : fates' ≡ fated_by fates back
+    pub fated : fates' ≡ fated_by (fated_all fates mid.late) back
 
 -- The messages that these sessions held at their ends were given back, each before the next session. That of
 -- the last one may still wait.
@@ -163,10 +169,15 @@ pub record Shift : Type 0 where
 abbrev pub newest_of : Bool → Version
 newest_of holds = cond holds Three Two
 
--- The outcomes of what gave messages back, of the sessions of all places.
+-- The outcomes of what gave back the messages of a session: those whose time was over, and then the one that it
+-- held at its end.
+abbrev pub backs_from : Dialogue → List RequestOutcome
+backs_from dialogue =
+    map (λ (answer : Answer). let o : RequestOutcome = Reply answer in o) dialogue.late ++ option_to_list dialogue.back
+
+-- Those of the sessions of all places.
 abbrev pub backs_in : List Shift → List RequestOutcome
-backs_in shifts = flat_map (λ (shift : Shift). flat_map (λ (d : Dialogue). option_to_list d.back) shift.dialogues)
-    shifts
+backs_in shifts = flat_map (λ (shift : Shift). flat_map backs_from shift.dialogues) shifts
 
 -- The passes with which the places began.
 abbrev pub first_passes : List Shift → List Pass

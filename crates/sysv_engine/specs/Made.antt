@@ -1,7 +1,8 @@
 -- The calls of a service that a session makes: one for each request, except for a request for a
 -- row, for a done, and for a hold or a back that is refused. Each request is answered as its call
--- ended, or its call was left at a wait and has no reply. A session that held a message at its end is
--- followed by one call more, which gives the message back (this project's profile).
+-- ended, or its call was left at a wait and has no reply. A message that a session holds longer than its
+-- time makes calls between requests, which give it back. A session that held a message at its end is
+-- followed by one call more, which does so (this project's profile).
 use Rattle.std.specs.Prelude.{◌≡◌, ℕ, List, [], ◌∷◌, ◌++◌, Option, Result}
 use Rattle.sysv_keys.specs.declared.identifier.TheConstants.{SLOTS}
 use Rattle.sysv_model.specs.declared.attributes.Row.{Row}
@@ -24,7 +25,7 @@ use Rattle.sysv_seats.specs.Asked.{ReadsReleased}
 use Rattle.sysv_seats.specs.GivingBack.{GivesBack}
 use Rattle.sysv_seats.specs.Held.{ServesHolding}
 use Rattle.sysv_seats.specs.Holding as holding
-use Rattle.sysv_seats.specs.Holding.{Holder, empty_handed}
+use Rattle.sysv_seats.specs.Holding.{Holder, Timed, begun_with, timed}
 use Rattle.sysv_seats.specs.Sits.{zero_moment}
 use Rattle.sysv_seats.specs.Requests.{Going}
 
@@ -41,6 +42,9 @@ log pass made = record { pass = pass; made = made }
 abbrev pub held_in : List Called → Holder Pass → Holder Log
 held_in made holder = record { at = log holder.at made; message = holder.message }
 
+abbrev pub timed_in : List Called → Timed Pass → Timed Log
+timed_in made state = timed (held_in made state.holder) state.late
+
 -- The call was made with the pass, and is added to the calls made with it.
 abbrev pub MakesCall : Going Log
 MakesCall may cred asked released before state after =
@@ -56,17 +60,22 @@ abbrev pub ShowsBeside : ℕ → Log → Result (Option Row) Errno → Log → T
 ShowsBeside slot before answer after = TellsRow slot before.pass answer after.pass × (after.made ≡ before.made)
 
 -- Request by request: the outcome, and the call that was made.
-abbrev pub makes_with : (ℕ → Type 0) → Type 0 → Meaning (Holder Log)
+abbrev pub makes_with : (ℕ → Type 0) → Type 0 → Meaning (Timed Log)
 makes_with may may_leave old cred request text outcome given new =
-    holding.HoldAsks MakesCall ReadsBeside ShowsBeside may may_leave request.version cred request.ask text old outcome
+    holding.TimedAsks MakesCall ReadsBeside ShowsBeside may may_leave request.version cred request.ask text old outcome
     given new
+
+-- The calls that gave back what was held, since its time was over.
+abbrev pub LapsesIn : (ℕ → Type 0) → Timed Log → Timed Log → Type 0
+LapsesIn = holding.LapsesTo MakesCall ReadsBeside ShowsBeside
 
 -- What a session over a service did to its pass, the calls that it made of the service, and what it held at
 -- its end.
-abbrev pub ServesLog : Version → (ℕ → Type 0) → Type 0 → Served → (old : Log) → (new : Holder Log) →
+abbrev pub ServesLog : Version → (ℕ → Type 0) → Type 0 → Served → (old : Log) → (new : Timed Log) →
     (left rest taken more : Option (List ℕ)) → Type 0
-ServesLog newest may may_leave served old new left rest taken more =
-    ServesTogether newest (makes_with may may_leave) SLOTS served (empty_handed old) new left rest taken more
+ServesLog newest may may_leave served old new left rest taken more = (settled : Timed Log)
+    × ServesTogether newest (makes_with may may_leave) SLOTS served (begun_with old) settled left rest taken more
+    × LapsesIn may settled new
 
 -- The call that gave back what a session held at its end, if it held something.
 abbrev pub GivesBackIn : (ℕ → Type 0) → Holder Log → Option RequestOutcome → Log → Type 0
@@ -77,11 +86,11 @@ GivesBackIn = holding.GivesBack MakesCall ReadsBeside ShowsBeside
 -- from that start. Each of the calls is over or was left at a wait.
 abbrev pub EachSessionMakesCalls : (ℕ → Type 0) → Type 0 → Type 0
 EachSessionMakesCalls may may_leave =
-    (newest : Version) (start old : Pass) (new : Holder Pass) (made : List Called) (served : Served)
+    (newest : Version) (start old : Pass) (new : Timed Pass) (made : List Called) (served : Served)
     (left rest taken more : Option (List ℕ)) →
     Works start made old → ServesHolding newest may may_leave served old new left rest taken more →
-    (calls : List Called) × Works start (made ++ calls) new.at
-    × ServesLog newest may may_leave served (log old made) (held_in (made ++ calls) new) left rest taken more ×
+    (calls : List Called) × Works start (made ++ calls) new.holder.at
+    × ServesLog newest may may_leave served (log old made) (timed_in (made ++ calls) new) left rest taken more ×
     AllByRecursion (λ (call : Called). Rests call.state) calls
 
 -- So does what gives back the message that a session held at its end.

@@ -2,7 +2,8 @@
 use Rattle.std.specs.Prelude.{◌≡◌, ◌<◌, ℕ, Bool, List, ◌++◌, Result, Some, slice_get}
 use Rattle.std.specs.List.{AllByRecursion, sum_by}
 use Rattle.sysv_bank.specs.Banks.{Each2}
-use Rattle.sysv_model.specs.Turns.{Numbered}
+use Rattle.sysv_model.specs.Turns.{Numbered, turns_of}
+use Rattle.sysv_objects.specs.LegalOp.{AreLegal}
 use Rattle.sysv_thread_laws.specs.Order.{Called}
 use Rattle.sysv_steps.specs.Call.{kind_of}
 use Rattle.sysv_steps.specs.Resume.{awaited, goal_of}
@@ -10,6 +11,7 @@ use Rattle.sysv_steps.specs.State.{Wait, Waits}
 use Rattle.sysv_core.specs.World.{World, value_of}
 use Rattle.sysv_thread_laws.specs.OrderIsRun.{name_at}
 use Rattle.sysv_thread_laws.specs.ParkedOnThreads.{HasReasonOnThreads}
+use Rattle.sysv_thread_laws.specs.Points.{IsPoint}
 use Rattle.sysv_thread_laws.specs.Team.{IsServed}
 use Rattle.sysv_service.specs.Opened.{AreOpen}
 use Rattle.sysv_service.specs.Seats.{Gates, AreOf}
@@ -33,18 +35,27 @@ AreLeftRightly world calls = (place : ℕ) (c : Called) (wait : Wait (kind_of c.
     slice_get calls place ≡ Some c → c.state ≡ Waits wait →
     value_of world.turns (awaited wait) < goal_of wait → HasReasonOnThreads world (name_at place) c.cred c.asked wait
 
+-- At each point of an order, the turns up to there are a run with these calls as they were then, and each
+-- of them that waited below its goal had the reason to wait that the law of waits names.
+abbrev pub WaitsRightlyThroughout : (blocks : ℕ) → List Numbered → List Called → Type 0
+WaitsRightlyThroughout blocks order calls = (front back : List Numbered) → order ≡ front ++ back →
+    IsPoint 0 blocks front calls
+
 -- The calls of the sessions, each answered as it ended or left without a reply, and the removals of
--- the stop, which removed this number of queues, are all the calls that made the order of turns. The
--- order is a run of a world with these calls, and the run obeys the headline of threads. Each call that
--- was left at a wait has its reason.
+-- the stop, which removed this number of queues, are all the calls that made the order of turns. Each
+-- reply of the order is legal. The order is a run of a world with these calls, and the run obeys the
+-- headline of threads. Each call that was left at a wait has its reason, and each call that waited at any
+-- point of the order had its reason there.
 pub record IsOneRun (blocks : ℕ) (shifts : List Shift) (removed : ℕ) (order : List Numbered) : Type 0 where
   pub each : List (List Called)
   pub made : Each2 AreMadeBy shifts each
   pub removals : List Called
   pub are_removals : AllByRecursion IsRemoval removals
   pub counted : sum_by (λ (call : Called). removed_at call.state) removals ≡ removed
+  pub legal : AreLegal 0 blocks (turns_of order)
   pub served : IsServed 0 blocks order (all_of each ++ removals)
   pub parks : AreLeftRightly served.run.world (all_of each ++ removals)
+  pub throughout : WaitsRightlyThroughout blocks order (all_of each ++ removals)
 
 -- A stop of these gates reported this. At each slot it read the row and tried to remove the queue
 -- that it found.

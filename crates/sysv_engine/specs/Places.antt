@@ -7,17 +7,19 @@ use Rattle.sysv_bank.specs.Banks.{Each2}
 use Rattle.sysv_service.specs.Ran.{Pass}
 use Rattle.sysv_service.specs.Seats.{Gates}
 use Rattle.sysv_wire.specs.declared.frame.Version.{Version}
+use Rattle.sysv_wire.specs.declared.reply.Reply.{Reply as Answer}
 use Rattle.sysv_steps.specs.declared.send.SendWait.{SendWait}
 use Rattle.sysv_seats.specs.declared.returning.Return.{Return}
 use Rattle.sysv_seats.specs.declared.returning.Return.TheVariants as come
 use Rattle.sysv_seats.specs.GivingBack.{WaitsBack}
-use Rattle.sysv_seats.specs.Holding.{Holder, Message}
+use Rattle.sysv_seats.specs.Holding.{Holder, Message, Timed, seconds_of}
+use Rattle.sysv_seats.specs.Said.{IsAsSaid}
 use Rattle.sysv_seats.specs.Sits.{Sits, Sitting}
 use Rattle.sysv_seats.specs.Untold.{Closing}
 use Rattle.sysv_engine.specs.declared.sums.Sums.{Sums}
 use Rattle.sysv_engine.specs.Fated.{none_fated, one_fated, with_unsent}
 use Rattle.sysv_engine.specs.declared.fates.Fates.{Fates}
-use Rattle.sysv_engine.specs.Handled.{Handles, Leaves}
+use Rattle.sysv_engine.specs.Handled.{Handles, Leaves, fated_all}
 use Rattle.sysv_engine.specs.Serving.{IsNew}
 
 -- A place as the server began with it, and the connections that were adopted in it since then, in
@@ -58,14 +60,15 @@ pub record View (B : Type 0) : Type 0 where
   pub fates : Fates
   pub book : B
 
--- The same place with this pass.
-abbrev pub with_pass : {B : Type 0} → Pass → View B → View B
-with_pass pass view = record {
+-- The place, since a session began there: its pass is this one, and messages were given back with these replies,
+-- since their time was over.
+abbrev pub since : {B : Type 0} → Pass → List Answer → View B → View B
+since pass late view = record {
   pass = pass;
   newest = view.newest;
   sums = view.sums;
   refused = view.refused;
-  fates = view.fates;
+  fates = fated_all view.fates late;
   book = view.book;
 }
 
@@ -78,8 +81,8 @@ module _ {T B : Type 0} (incoming outgoing : T → Option (List ℕ)) (closes : 
 
   -- The place had one more session, on this connection, which left the pass `after` and a message. What gives
   -- the message back has not ended.
-  abbrev pub HasLeft : View B → T → Holder Pass → View B → Type 0
-  HasLeft old connection after new = (new.newest ≡ old.newest) × (new.fates ≡ old.fates)
+  abbrev pub HasLeft : View B → T → Timed Pass → View B → Type 0
+  HasLeft old connection after new = (new.newest ≡ old.newest) × (new.fates ≡ fated_all old.fates after.late)
       × Leaves incoming outgoing closes old.newest connection old.pass old.sums old.refused old.book None after new.sums
       new.refused new.book
 
@@ -88,21 +91,30 @@ module _ {T B : Type 0} (incoming outgoing : T → Option (List ℕ)) (closes : 
   ComesBackAt left None now = now ≡ left
   ComesBackAt left (Some wait) now = WaitsBack left.at now wait × (now.message ≡ left.message)
 
+  -- The time of what a session holds is over. If it is given back, the send that does so waits.
+  abbrev pub LapsesAt : Holder Pass → Option SendWait → Holder Pass → Type 0
+  LapsesAt left None now = now ≡ left
+  LapsesAt left (Some wait) now =
+      (1 ≤ seconds_of left.message) × WaitsBack left.at now wait × (now.message ≡ left.message)
+
   -- A place without a client and without a message has had a session on each of its connections. A place with a
   -- client has had one on each connection but the last, and the client is on the last: its session began with the
-  -- pass that the place had then. `Sits` states how far it is. A place that has a message and no client has had one
-  -- on each connection, and gives back what the last one held.
-  abbrev pub IsPlace : {C : Type 0} → (Sits : Version → Pass → T → C → Holder Pass → Type 0) → Standing (View B) T →
-      View B → Option C → Option Message → Option SendWait → Type 0
-  IsPlace Sits place view (Some client) message returning = (done : List T) × (connection : T) × (pass : Pass)
-      × (place.had ≡ done ++ connection ∷ []) × FoldsTo Handled place.start done (with_pass pass view)
-      × Sits view.newest pass connection client (record { at = view.pass; message = message }) × (returning ≡ None)
+  -- pass that the place had then. `Sits` states how far it is, and whether what it holds is on its way back, since
+  -- its time is over. A place that has a message and no client has had one on each connection, and gives back what
+  -- the last one held.
+  abbrev pub IsPlace : {C : Type 0} → (Sits : Version → Pass → T → C → Timed Pass → Bool → Type 0) →
+      Standing (View B) T → View B → Option C → Option Message → Option SendWait → Type 0
+  IsPlace Sits place view (Some client) message returning =
+      (done : List T) × (connection : T) × (mid : View B) × (left : Timed Pass)
+      × (place.had ≡ done ++ connection ∷ []) × FoldsTo Handled place.start done mid
+      × (view ≡ since view.pass left.late mid) × Sits mid.newest mid.pass connection client left (is_some returning)
+      × LapsesAt left.holder returning (record { at = view.pass; message = message })
   IsPlace Sits place view None None returning = FoldsTo Handled place.start place.had view × (returning ≡ None)
   IsPlace Sits place view None (Some message) returning =
-      (done : List T) × (connection : T) × (mid : View B) × (left : Holder Pass)
+      (done : List T) × (connection : T) × (mid : View B) × (left : Timed Pass)
       × (place.had ≡ done ++ connection ∷ []) × FoldsTo Handled place.start done mid
       × HasLeft mid connection left view
-      × ComesBackAt left returning (record { at = view.pass; message = Some message })
+      × ComesBackAt left.holder returning (record { at = view.pass; message = Some message })
 
 -- What the contracts see of a place: the gates of its service, its pass, the newest version that its sessions
 -- read, the sums of its sessions, the number of those whose memory was refused, its book, its client, if it has
@@ -188,10 +200,12 @@ come_so_far came place = record {
 
 module _ {T B : Type 0} (incoming outgoing : T → Option (List ℕ)) (closes : Closing T B) where
   -- The client's session began with the pass `start`, on the connection `origin`. What may break it
-  -- off is what it was then.
-  abbrev pub SitsOn : Version → Pass → T → Sitting T → Holder Pass → Type 0
-  SitsOn newest start origin client now =
+  -- off is what it was then. If what it holds is on its way back, no call of it is parked. If no read had said
+  -- anything then, the client stops for what they have said.
+  abbrev pub SitsOn : Version → Pass → T → Sitting T → Timed Pass → (is_late : Bool) → Type 0
+  SitsOn newest start origin client now is_late =
       Sits incoming outgoing newest start origin client now × (closes.breaks client.connection ≡ closes.breaks origin)
+      × (is_late ≡ true → client.parked ≡ None) × (closes.said origin ≡ None → IsAsSaid closes client)
 
   -- The place is one of a service with these gates, and is what it has to be after what it has had.
   abbrev pub Stands : Gates → Standing (View B) T → Seated B T → Type 0
@@ -227,6 +241,12 @@ module _ {T B : Type 0} (incoming outgoing : T → Option (List ℕ)) (closes : 
   -- A worker adopted the connection and served its clients, which led to these places.
   abbrev pub AdoptsAt : Gates → T → (old new : List (Seated B T)) → Type 0
   AdoptsAt gates connection old new = Serves (Stands gates) old connection new
+
+-- What the client of the place holds may be given back: it is held for a limited time, no call of the client is
+-- parked, and it is not on its way back.
+abbrev pub MayLapse : {B T : Type 0} → Seated B T → Type 0
+MayLapse {B} {T} place = IsSomeAnd place.client (λ (client : Sitting T). client.parked ≡ None)
+    × (place.returning ≡ None) × (1 ≤ seconds_of place.message)
 
 -- The place has no client, and gives back no message.
 abbrev pub is_vacant : {B T : Type 0} → Seated B T → Bool

@@ -12,6 +12,10 @@ pub(crate) enum Kind {
     Lost,
     /// Blocks in use.
     InUse,
+    /// Messages that were held and went back to their queue.
+    SentBack,
+    /// Messages that were held and could not go back to their queue.
+    Gone,
     /// Calls that waited when an orderly end cut their sessions off.
     CutOff,
 }

@@ -8,7 +8,7 @@ use std::sync::atomic::{AtomicU64, Ordering};
 use sysv_keys::SLOTS;
 use sysv_parking::{BLOCKS_WORD, WORDS, room_word};
 use sysv_queue::Tally;
-use sysv_seats::Notification;
+use sysv_seats::{Notification, Returned};
 
 /// What a worker counts for those who look at the server. The worker alone writes the numbers, once
 /// for all messages that moved one after another to or from one queue.
@@ -23,6 +23,12 @@ pub(crate) struct Counts {
     lost: Counter,
     /// The number of blocks that calls of the worker reserved and did not release, modulo 2^64.
     in_use: Counter,
+    /// The number of places that hold a message.
+    held: AtomicU64,
+    /// The number of messages that were held and went back to their queue, and of those that could
+    /// not.
+    sent_back: Counter,
+    gone: Counter,
 }
 
 /// What the workers have counted at a slot.
@@ -57,6 +63,12 @@ pub struct Counted {
     /// The number of blocks in use, modulo 2^64. While calls are made, it may be below 0 or above
     /// the number of blocks of the pool.
     pub in_use: u64,
+    /// The number of messages that clients hold or that are given back.
+    pub held: u64,
+    /// The number of messages that were held and went back to their queue.
+    pub sent_back: u64,
+    /// The number of messages that were held and could not go back to their queue.
+    pub gone: u64,
 }
 
 /// What the workers had counted when it was read. Only `ServerState::counted` makes a value of this
@@ -145,6 +157,9 @@ impl Counts {
             written: Counter::new(Kind::Written),
             lost: Counter::new(Kind::Lost),
             in_use: Counter::new(Kind::InUse),
+            held: AtomicU64::new(0),
+            sent_back: Counter::new(Kind::SentBack),
+            gone: Counter::new(Kind::Gone),
         })
     }
 
@@ -160,6 +175,22 @@ impl Counts {
         ensures { IsCounted self.now.in_use more result }
     {
         self.in_use.add(more)
+    }
+
+    /// Sets the number of places that hold a message.
+    pub(crate) fn set_held(&self, count: u64) {
+        self.held.store(count, Ordering::SeqCst);
+    }
+
+    /// Counts messages that were held and were given back.
+    pub(crate) fn count_returns(&self, returns: Returned) -> (Added, Added)
+        ensures sent { IsCounted self.now.sent_back returns.sent result.0 }
+        ensures gone { IsCounted self.now.gone returns.gone result.1 }
+    {
+        (
+            self.sent_back.add(returns.sent),
+            self.gone.add(returns.gone),
+        )
     }
 
     /// Counts messages that moved.
@@ -201,6 +232,9 @@ impl Counts {
         sum.written = sum.written.wrapping_add(self.written.read());
         sum.lost = sum.lost.wrapping_add(self.lost.read());
         sum.in_use = sum.in_use.wrapping_add(self.in_use.read());
+        sum.held = sum.held.wrapping_add(self.held.load(Ordering::SeqCst));
+        sum.sent_back = sum.sent_back.wrapping_add(self.sent_back.read());
+        sum.gone = sum.gone.wrapping_add(self.gone.read());
     }
 }
 

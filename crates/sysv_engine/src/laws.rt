@@ -6,8 +6,8 @@ ghost use Rattle.sysv_engine.specs.OneRun.{EachLifetimeEndsEmpty, EachLifetimeIs
 use sysv_seats::ZERO;
 use sysv_service::Clock;
 use sysv_thread_laws::{
-    every_hiring_obeys, every_order_parks_rightly, every_pool_is_whole, every_service_obeys,
-    every_stop_empties,
+    each_point_parks_rightly, every_hiring_obeys, every_order_parks_rightly, every_pool_is_whole,
+    every_service_obeys, every_stop_empties,
 };
 
 /// States which calls of a service a session makes.
@@ -35,9 +35,10 @@ pub fn each_return_makes_a_call()
 /// The calls of all sessions, each answered as it ended or left without a reply, and the removals
 /// of the stop are all the calls that made the order of turns of the service. That order is a run
 /// of a world with those calls, and the run obeys the headline of threads. Each call that was left
-/// at a wait, below its goal, has the reason that the law of waits names. After the close the pool
-/// has all its blocks, no slot has a live queue and no message is queued. No gate is held then,
-/// also if one was found worn out.
+/// at a wait, below its goal, has the reason that the law of waits names. The replies of the order are
+/// legal, so the turns up to each point of it are such a run too, and each call that waited there,
+/// below its goal, had its reason. After the close the pool has all its blocks, no slot has a live
+/// queue and no message is queued. No gate is held then, also if one was found worn out.
 pub fn each_lifetime_is_one_run()
     ensures run { EachLifetimeIsOneRun }
     ensures whole { EachLifetimeLeavesThePoolWhole }
@@ -48,6 +49,7 @@ pub fn each_lifetime_is_one_run()
     every_pool_is_whole();
     every_stop_empties();
     every_order_parks_rightly();
+    each_point_parks_rightly();
     each_session_makes_calls(&ZERO);
     each_return_makes_a_call();
 }

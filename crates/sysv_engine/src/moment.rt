@@ -54,6 +54,15 @@ impl Moment {
     }
 }
 
+/// Returns the sooner of two moments, if any is given.
+pub(crate) fn sooner(one: Option<Moment>, other: Option<Moment>) -> Option<Moment> {
+    match (one, other) {
+        (Some(one), Some(other)) => Some(one.min(other)),
+        (Some(one), None) => Some(one),
+        (None, other) => other,
+    }
+}
+
 /// Waits until the doorbell is rung, or until the deadline.
 pub(crate) fn await_doorbell(doorbell: Watched, deadline: Option<Moment>) {
     await_event(Event::readable(doorbell), deadline.map(Moment::left));

@@ -1,27 +1,29 @@
 //! The places of a server: each serves one client after another.
 ghost use Rattle.std.specs.Prelude.{◌≡◌, ◌+◌, None, Some, IfSome, cond, is_some, not, true};
 ghost use Rattle.sysv_service.specs.Seats.{AreOf};
+ghost use Rattle.sysv_seats.specs.Said.{KeepsAsSaid};
 ghost use Rattle.sysv_seats.specs.Sits.{Keeps, is_finished};
 ghost use Rattle.sysv_engine.specs.Added.{added, capped, nothing, one_session};
 ghost use Rattle.sysv_engine.specs.Fated.{none_fated, with_unsent};
 ghost use Rattle.sysv_engine.specs.Handled.{one_refused};
-ghost use Rattle.sysv_engine.specs.Places.{IsIdle, IsIdleAt, KeepsPlace, TakesIn};
+ghost use Rattle.sysv_engine.specs.Places.{IsIdle, IsIdleAt, KeepsPlace, MayLapse, TakesIn};
 ghost use Rattle.sysv_engine.specs.Places.{come_so_far, fates_at_end, fates_by, has_ended, is_vacant};
 ghost use Rattle.sysv_engine.specs.Places.{taken_by, wait_in};
 
 use crate::awaited::key_of;
 use crate::fates::Fates;
-use crate::moment::Moment;
+use crate::moment::{Moment, sooner};
 use crate::sums::Sums;
 use crate::terms::Patience;
-use crate::times::Times;
+use crate::times::{HoldTime, Times};
 use crate::watch::{Ready, Watch};
 use std::alloc::Global;
 use std::marker::Model;
 use std::sync::Wait;
 use sysv_parking::Key;
 use sysv_seats::{
-    Client, Keeper, Limit, NonBlocking, Return, ServiceHandler, Tools, Waiting, ZERO, Zero,
+    Client, Keeper, Limit, NonBlocking, Return, Returned, ServiceHandler, Tools, Waiting, ZERO,
+    Zero, each_return_can_be_left,
 };
 use sysv_service::{Pass, SendWait, Service};
 use sysv_session::{End, Served};
@@ -31,11 +33,13 @@ use sysv_wire::Version;
 ///
 /// It has a handler with a pass of its own, the client that has it now, the sums of its sessions,
 /// the number of those whose memory was refused, and its book. A client that is closed while it holds
-/// a message leaves the message at the place, which gives it back before it has another client.
+/// a message leaves the message at the place, which gives it back before it has another client. It
+/// also gives back what its client holds once the time of that is over.
 pub(crate) struct Place<'a, R: Wait, T: NonBlocking> {
     handler: Keeper<'a, Zero, R>,
     client: Option<Client<T>>,
-    /// The wait of the send that gives back the message that the last client held, if it waits.
+    /// The wait of the send that gives back a message, if it waits: that of the last client, or that of
+    /// this one, since its time is over.
     returning: Option<SendWait>,
     sums: Sums,
     refused: u64,
@@ -52,8 +56,12 @@ pub(crate) struct Place<'a, R: Wait, T: NonBlocking> {
     memory: Option<Global>,
     /// Whether the place is counted as one that holds a message, or whose client waits for one.
     holds: bool,
+    /// Whether the place is counted as one that holds a message.
+    counted: bool,
     /// Whether a message that the last client held is given back.
     returns: bool,
+    /// How long the message that is held may be held.
+    hold_time: HoldTime,
 }
 
 impl<'a, R: Wait, T: NonBlocking> Model for Place<'a, R, T> {
@@ -121,7 +129,9 @@ impl<'a, R: Wait, T: NonBlocking> Place<'a, R, T> {
             newest,
             memory,
             holds: false,
+            counted: false,
             returns: false,
+            hold_time: HoldTime::new(),
         }
     }
 
@@ -149,7 +159,9 @@ impl<'a, R: Wait, T: NonBlocking> Place<'a, R, T> {
             newest: _,
             memory: _,
             holds: _,
+            counted: _,
             returns: _,
+            hold_time: _,
         } = self;
         match client {
             Some(_) => unreachable!(),
@@ -190,6 +202,7 @@ impl<'a, R: Wait, T: NonBlocking> Place<'a, R, T> {
         if !self.is_over() {
             return None;
         }
+        self.leave_return();
         let client = self.client.take()?;
         let served = client.close(&mut self.book);
         self.count(&served);
@@ -236,9 +249,64 @@ impl<'a, R: Wait, T: NonBlocking> Place<'a, R, T> {
         self.note_return(came);
     }
 
+    /// Begins to give back the message that the client holds, if it is held for a limited time, no call
+    /// of the client is parked, and it is not on its way back.
+    pub(crate) fn lapse(&mut self, tools: &mut Tools)
+        ensures keeps { KeepsPlace T.incoming T.outgoing T.closes self.old self.new }
+        ensures stays { (MayLapse self.old → ⊥) → self.new ≡ self.old }
+    {
+        if self.may_lapse() {
+            self.begin_lapse(tools);
+            self.count_hold(tools);
+        }
+    }
+
+    /// Begins to give back the message that the client holds.
+    fn begin_lapse(&mut self, tools: &mut Tools)
+        requires { MayLapse self.old }
+        ensures keeps { KeepsPlace T.incoming T.outgoing T.closes self.old self.new }
+    {
+        let came = self.handler.give_back(tools);
+        self.note_return(came);
+    }
+
+    /// Returns whether the message that the client holds may be given back once its time is over.
+    fn may_lapse(&self) -> bool
+        ensures { result ≡ true → MayLapse self.now }
+    {
+        match &self.client {
+            Some(client) => {
+                let parked = client.parked();
+                parked.is_none() && self.returning.is_none() && self.handler.seconds() != 0
+            }
+            None => false,
+        }
+    }
+
+    /// Leaves the send that gives back what the client holds, if one waits. It is still held.
+    fn leave_return(&mut self)
+        ensures keeps { KeepsPlace T.incoming T.outgoing T.closes self.old self.new }
+        ensures client { self.new.client ≡ self.old.client }
+        ensures none { IfSome self.old.client (λ _. self.new.returning ≡ None) }
+    {
+        each_return_can_be_left();
+        if self.client.is_some() {
+            self.returning = None;
+        }
+    }
+
+    /// Leaves the send that gives back what the client holds, if one waits and the client has more to
+    /// do.
+    fn make_way(&mut self)
+        ensures { KeepsPlace T.incoming T.outgoing T.closes self.old self.new }
+    {
+        if self.has_more() {
+            self.leave_return();
+        }
+    }
+
     /// Has the send that gives back a message go on, if one waits and it may.
     fn go_on_returning(&mut self, tools: &mut Tools)
-        requires { self.old.client ≡ None }
         ensures keeps { KeepsPlace T.incoming T.outgoing T.closes self.old self.new }
     {
         let Some(wait) = self.returning else {
@@ -265,6 +333,14 @@ impl<'a, R: Wait, T: NonBlocking> Place<'a, R, T> {
         has_given_back
     }
 
+    /// Returns what became of messages that were held here and were given back since this was last
+    /// asked.
+    pub(crate) fn take_returns(&mut self) -> Returned
+        ensures { self.new ≡ self.old }
+    {
+        self.handler.take_returns()
+    }
+
     /// Lets the session hold a message, unless too many places hold one.
     fn allow_hold(&mut self, tools: &Tools)
         ensures { self.new ≡ self.old }
@@ -280,10 +356,22 @@ impl<'a, R: Wait, T: NonBlocking> Place<'a, R, T> {
     fn count_hold(&mut self, tools: &mut Tools)
         ensures { self.new ≡ self.old }
     {
-        let holds = self.handler.has_message() || self.awaits_hold();
-        if holds != self.holds {
-            tools.count_hold(holds);
-            self.holds = holds;
+        let (holds, has_message) = (self.awaits_hold(), self.handler.has_message());
+        if (holds || has_message) != self.holds {
+            self.holds = holds || has_message;
+            tools.count_hold(self.holds);
+        }
+        if has_message != self.counted {
+            self.counted = has_message;
+            tools.count_held(has_message);
+        }
+    }
+
+    /// Returns whether a call of the client is parked.
+    pub(crate) fn has_parked(&self) -> bool {
+        match &self.client {
+            Some(client) => client.parked().is_some(),
+            None => false,
         }
     }
 
@@ -324,33 +412,40 @@ impl<'a, R: Wait, T: NonBlocking> Place<'a, R, T> {
         let Some(client) = &mut self.client else {
             return;
         };
-        if !watch.add(client.connection(), place) {
-            client.cut_off();
+        if watch.add(client.connection(), place) {
+            return;
         }
+        client.cut_off();
     }
 
     /// Learns what a watch reports.
     pub(crate) fn note(&mut self, ready: &Ready)
         ensures keeps { KeepsPlace T.incoming T.outgoing T.closes self.old self.new }
     {
-        if let Some(client) = &mut self.client {
-            learn(client, ready);
-        }
+        let Some(client) = &mut self.client else {
+            return;
+        };
+        learn(client, ready);
     }
 
     /// Takes up and answers a share of the requests that have arrived.
     pub(crate) fn take_turn(&mut self, tools: &mut Tools)
         ensures keeps { KeepsPlace T.incoming T.outgoing T.closes self.old self.new }
     {
+        self.make_way();
         self.allow_hold(tools);
         self.take_up(tools);
         self.count_hold(tools);
     }
 
-    /// Has the client take up and answer a share of the requests that have arrived.
+    /// Has the client take up and answer a share of the requests that have arrived, unless what it
+    /// holds is on its way back.
     fn take_up(&mut self, tools: &mut Tools)
         ensures keeps { KeepsPlace T.incoming T.outgoing T.closes self.old self.new }
     {
+        if self.returning.is_some() {
+            return;
+        }
         if let Some(client) = &mut self.client {
             client.take_turn(&mut self.handler, tools);
             client.drain();
@@ -370,9 +465,11 @@ impl<'a, R: Wait, T: NonBlocking> Place<'a, R, T> {
     fn resume(&mut self, tools: &mut Tools)
         ensures keeps { KeepsPlace T.incoming T.outgoing T.closes self.old self.new }
     {
-        match &mut self.client {
-            Some(client) => client.go_on(&mut self.handler, tools),
-            None => self.go_on_returning(tools),
+        if self.returning.is_some() {
+            return self.go_on_returning(tools);
+        }
+        if let Some(client) = &mut self.client {
+            client.go_on(&mut self.handler, tools);
         }
     }
 
@@ -380,9 +477,10 @@ impl<'a, R: Wait, T: NonBlocking> Place<'a, R, T> {
     pub(crate) fn drain(&mut self)
         ensures keeps { KeepsPlace T.incoming T.outgoing T.closes self.old self.new }
     {
-        if let Some(client) = &mut self.client {
-            client.drain();
-        }
+        let Some(client) = &mut self.client else {
+            return;
+        };
+        client.drain();
     }
 
     /// Ends the client because of this limit, if it may be cut off under it.
@@ -406,11 +504,11 @@ impl<'a, R: Wait, T: NonBlocking> Place<'a, R, T> {
 
     /// Returns what the parked call waits for, or the send that gives back a message, if one waits.
     pub(crate) fn key(&self) -> Option<Key> {
-        let (waiting, length) = match &self.client {
-            Some(client) => (client.waiting()?, self.parked_length(client)),
-            None => (Waiting::Send(self.returning?), self.handler.return_length()),
-        };
-        Some(key_of(&waiting, length))
+        if let Some(wait) = self.returning {
+            return Some(key_of(&Waiting::Send(wait), self.handler.return_length()));
+        }
+        let client = self.client.as_ref()?;
+        Some(key_of(&client.waiting()?, self.parked_length(client)))
     }
 
     /// Returns the number of bytes in the frame of the client's parked call. That of a back is the
@@ -490,13 +588,18 @@ impl<'a, R: Wait, T: NonBlocking> Place<'a, R, T> {
         }
     }
 
+    /// Returns whether the client has more to do.
+    fn has_more(&self) -> bool {
+        match &self.client {
+            Some(client) => client.has_more(),
+            None => false,
+        }
+    }
+
     /// Returns whether the client has more to do, but the place is not in the line of those that
     /// have.
     pub(crate) fn wants_turn(&self) -> bool {
-        match &self.client {
-            Some(client) => client.has_more() && !self.in_turns,
-            None => false,
-        }
+        self.has_more() && !self.in_turns
     }
 
     /// Takes note of whether the place is in the line of those that have more to do.
@@ -519,12 +622,34 @@ impl<'a, R: Wait, T: NonBlocking> Place<'a, R, T> {
         }
     }
 
-    /// Returns when the client's time is over. Called after each event.
+    /// Returns when the client's time is over, or that of what it holds, if that is sooner. Called after
+    /// each event.
     pub(crate) fn limit(&mut self, patience: Patience) -> Option<Moment>
-        ensures keeps { KeepsPlace T.incoming T.outgoing T.closes self.old self.new }
+        ensures { self.new ≡ self.old }
     {
+        self.hold_time
+            .note(self.handler.taken(), self.handler.seconds());
+        sooner(self.client_limit(patience), self.hold_due())
+    }
+
+    /// Returns when the client's time is over, by what it awaits after an event.
+    fn client_limit(&mut self, patience: Patience) -> Option<Moment>
+        ensures { self.new ≡ self.old }
+    {
+        if patience == Patience::UNBOUNDED {
+            return None;
+        }
         let client = self.client.as_ref()?;
         self.times.note(client, patience)
+    }
+
+    /// Returns when the time of what the client holds is over, if it may be given back then.
+    pub(crate) fn hold_due(&self) -> Option<Moment> {
+        if self.may_lapse() {
+            self.hold_time.due()
+        } else {
+            None
+        }
     }
 
     /// Returns when the client's time is over.
@@ -549,6 +674,8 @@ fn learn<T: NonBlocking>(client: &mut Client<T>, ready: &Ready)
     ensures keeps { Keeps T.incoming T.outgoing client.old client.new }
     ensures breaks { T.closes.breaks client.new.connection
         ≡ T.closes.breaks client.old.connection }
+    ensures unparked { client.old.parked ≡ None → client.new.parked ≡ None }
+    ensures said { KeepsAsSaid T.closes client.old client.new }
 {
     if ready.readable || ready.left {
         client.note_readable();

@@ -4,11 +4,11 @@ ghost use Rattle.sysv_parking.specs.Agenda.{IsAtRest, KeepsWork};
 ghost use Rattle.sysv_parking.specs.Parking.{AreInLines, MovesOnly, key_at};
 ghost use Rattle.sysv_engine.specs.Places.{IsVacantAt, KeepsAll};
 
-use crate::moment::Moment;
+use crate::moment::{Moment, sooner};
 use crate::server_state::ServerState;
 use crate::spinning::look;
 use crate::watch::{Ready, Watch};
-use crate::worker::{Worker, sooner};
+use crate::worker::Worker;
 use std::alloc::Global;
 use std::sync::Wait;
 use sysv_parking::{Found, Key, collect, heed_all, read_envelopes};
@@ -261,8 +261,23 @@ impl<'a, 'c, R: Wait> Serving<'a, 'c, R> {
         self.line_up(worker, place);
         self.close_if_over(worker, place);
         self.note_given_back(worker, place);
+        self.tell_held(worker, place);
         if worker.has_client(place) {
             self.await_client(worker, place);
+        }
+    }
+
+    /// Has the number of messages that are held, and of those that were given back, be known.
+    fn tell_held<T: NonBlocking, W: Watch<T>>(&self, worker: &mut Worker<'a, R, T, W>, place: usize)
+        ensures keeps { KeepsAll T.incoming T.outgoing T.closes worker.old.places.items
+            worker.new.places.items }
+        ensures agenda { worker.new.agenda ≡ worker.old.agenda }
+    {
+        if self.server.may_hold() {
+            let returns = worker.take_returns(place);
+            let held = worker.tools.held();
+            self.server
+                .count_held(worker.agenda.number(), held, returns);
         }
     }
 
@@ -494,8 +509,8 @@ impl<'a, 'c, R: Wait> Serving<'a, 'c, R> {
         found(before, worker.agenda.lines().key(place), has_taken)
     }
 
-    /// Closes each client whose time is over, if it may be over for some, and reads again from those
-    /// that may have more bytes.
+    /// Closes each client whose time is over, if it may be over for some, gives back what clients hold
+    /// whose time is over, and reads again from those that may have more bytes.
     fn look_at_times<T: NonBlocking, W: Watch<T>>(&self, worker: &mut Worker<'a, R, T, W>)
         ensures { KeepsAll T.incoming T.outgoing T.closes worker.old.places.items
             worker.new.places.items }
@@ -514,8 +529,9 @@ impl<'a, 'c, R: Wait> Serving<'a, 'c, R> {
         self.spread(worker);
     }
 
-    /// Reads from a client that may have more bytes although nothing reports them, and closes one
-    /// whose time is over, unless something has come for it that was not read yet.
+    /// Reads from a client that may have more bytes although nothing reports them. Closes one whose
+    /// time is over, and gives back what it holds if the time of that is over, unless something has
+    /// come for it that was not read yet.
     fn look_at_time<T: NonBlocking, W: Watch<T>>(
         &self,
         worker: &mut Worker<'a, R, T, W>,
@@ -527,9 +543,11 @@ impl<'a, 'c, R: Wait> Serving<'a, 'c, R> {
         if !worker.has_client(place) {
             return;
         }
-        if is_over(worker.due(place)) || worker.may_hold_more(place) {
+        let is_late = is_over(worker.due(place)) || is_over(worker.hold_due(place));
+        if is_late || worker.may_hold_more(place) {
             self.report(worker, &Ready::unasked(place));
         }
+        self.look_at_hold(worker, place);
         let due = worker.due(place);
         if is_over(due) {
             worker.cut_late(place);
@@ -537,6 +555,26 @@ impl<'a, 'c, R: Wait> Serving<'a, 'c, R> {
         } else {
             worker.check = sooner(worker.check, due);
         }
+    }
+
+    /// Begins to give back what a client holds, if the time of that is over.
+    fn look_at_hold<T: NonBlocking, W: Watch<T>>(
+        &self,
+        worker: &mut Worker<'a, R, T, W>,
+        place: usize,
+    )
+        ensures { KeepsAll T.incoming T.outgoing T.closes worker.old.places.items
+            worker.new.places.items }
+    {
+        let due = worker.hold_due(place);
+        if !is_over(due) {
+            worker.check = sooner(worker.check, due);
+            return;
+        }
+        let before = worker.blocks_in_use(place);
+        worker.lapse(place);
+        self.count_blocks(worker, place, before);
+        self.settle(worker, place);
     }
 
     /// Closes each client that is idle, if these are to be closed.
@@ -588,7 +626,7 @@ impl<'a, 'c, R: Wait> Serving<'a, 'c, R> {
         ensures { KeepsAll T.incoming T.outgoing T.closes worker.old.places.items
             worker.new.places.items }
     {
-        let waits = worker.key(place).is_some();
+        let waits = worker.has_parked(place);
         worker.cut(place, Limit::Drain);
         self.settle(worker, place);
         if waits && !worker.has_client(place) {

@@ -19,6 +19,7 @@ use std::sync::atomic::{AtomicBool, AtomicU64, Ordering};
 use sysv_keys::SLOTS;
 use sysv_parking::{Change, Envelope, WORDS};
 use sysv_queue::Tally;
+use sysv_seats::Returned;
 use sysv_system::{Doorbell, Watched};
 use sysv_wire::Version;
 
@@ -129,6 +130,13 @@ impl ServerState {
             turn,
         };
         Some((server, rests))
+    }
+
+    /// Returns whether sessions may hold messages.
+    pub(crate) fn may_hold(&self) -> bool
+        ensures { result ≡ self.now.holds }
+    {
+        self.holds
     }
 
     /// Returns the newest version that sessions read.
@@ -268,6 +276,15 @@ impl ServerState {
         }
     }
 
+    /// Sets the number of places of the worker that hold a message, and counts messages that were
+    /// held there and were given back.
+    pub(crate) fn count_held(&self, worker: usize, held: usize, returns: Returned) {
+        if let Some(post) = self.posts.get(worker) {
+            post.counts.set_held(held as u64);
+            post.counts.count_returns(returns);
+        }
+    }
+
     /// Counts messages that moved by calls of the worker.
     pub(crate) fn count(&self, worker: usize, moved: Moved) {
         if let Some(post) = self.posts.get(worker) {
@@ -303,6 +320,9 @@ impl ServerState {
             written: 0,
             lost: 0,
             in_use: 0,
+            held: 0,
+            sent_back: 0,
+            gone: 0,
         };
         for post in &self.posts {
             post.counts.add_all(&mut sum);

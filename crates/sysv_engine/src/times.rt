@@ -86,6 +86,38 @@ impl Times {
     }
 }
 
+/// How long the message that a session holds may be held.
+#[derive(Clone, Copy)]
+pub(crate) struct HoldTime {
+    /// The number of messages that were held, the last of which the time is of.
+    taken: u64,
+    due: Option<Moment>,
+}
+
+impl HoldTime {
+    /// Returns the time before any message is held.
+    pub(crate) fn new() -> HoldTime {
+        HoldTime {
+            taken: 0,
+            due: None,
+        }
+    }
+
+    /// Takes note of a message that is held since the last event, for this number of seconds (0: no
+    /// limit), if so many were held by now.
+    pub(crate) fn note(&mut self, taken: u64, seconds: u32) {
+        if taken != self.taken {
+            self.taken = taken;
+            self.due = end_of(seconds);
+        }
+    }
+
+    /// Returns when the time of the last message is over, if it has a limit.
+    pub(crate) fn due(&self) -> Option<Moment> {
+        self.due
+    }
+}
+
 /// Returns when a limit of this number of seconds from now ends, or `None` (never) for 0. Limits end
 /// only at ticks, so a worker looks at its clients once for all that end between two ticks.
 fn end_of(seconds: u32) -> Option<Moment> {

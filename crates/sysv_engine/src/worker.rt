@@ -6,7 +6,7 @@ ghost use Rattle.sysv_engine.specs.Places.{AdoptsOne, IsVacantAt, KeepsAll};
 
 use crate::alarm::Rest;
 use crate::counts::Moved;
-use crate::moment::Moment;
+use crate::moment::{Moment, sooner};
 use crate::place::Place;
 use crate::spinning::Spinning;
 use crate::terms::Patience;
@@ -15,7 +15,7 @@ use std::alloc::Global;
 use std::collections::VecDeque;
 use std::sync::Wait;
 use sysv_parking::{Agenda, Key};
-use sysv_seats::{Limit, NonBlocking, Tools};
+use sysv_seats::{Limit, NonBlocking, Returned, Tools};
 use sysv_session::Served;
 
 /// Of this number of messages that have arrived, one goes to another worker first.
@@ -346,7 +346,30 @@ impl<'a, R: Wait, T: NonBlocking, W: Watch<T>> Worker<'a, R, T, W> {
         }
     }
 
-    /// Returns what the parked call of the client waits for, if there is one.
+    /// Returns what became of messages that were held at the place and were given back since this was
+    /// last asked.
+    #[tactic(auto, using(crate::proofs::PlaceLists::keeps_at))]
+    pub(crate) fn take_returns(&mut self, place: usize) -> Returned
+        ensures keeps { KeepsAll T.incoming T.outgoing T.closes self.old.places.items
+            self.new.places.items }
+        ensures agenda { self.new.agenda ≡ self.old.agenda }
+    {
+        match self.places.get_mut(place) {
+            Some(there) => there.take_returns(),
+            None => Returned::NONE,
+        }
+    }
+
+    /// Returns whether a call of the client is parked.
+    pub(crate) fn has_parked(&self, place: usize) -> bool {
+        match self.places.get(place) {
+            Some(there) => there.has_parked(),
+            None => false,
+        }
+    }
+
+    /// Returns what the parked call of the client waits for, or what gives back a message, if either
+    /// waits.
     pub(crate) fn key(&self, place: usize) -> Option<Key> {
         self.places.get(place)?.key()
     }
@@ -363,6 +386,23 @@ impl<'a, R: Wait, T: NonBlocking, W: Watch<T>> Worker<'a, R, T, W> {
     /// Returns when the client's time is over.
     pub(crate) fn due(&self, place: usize) -> Option<Moment> {
         self.places.get(place)?.due()
+    }
+
+    /// Returns when the time of what the client holds is over, if it may be given back then.
+    pub(crate) fn hold_due(&self, place: usize) -> Option<Moment> {
+        self.places.get(place)?.hold_due()
+    }
+
+    /// Begins to give back what the client holds.
+    #[tactic(auto, using(crate::proofs::PlaceLists::keeps_at))]
+    pub(crate) fn lapse(&mut self, place: usize)
+        ensures keeps { KeepsAll T.incoming T.outgoing T.closes self.old.places.items
+            self.new.places.items }
+        ensures agenda { self.new.agenda ≡ self.old.agenda }
+    {
+        if let Some(there) = self.places.get_mut(place) {
+            there.lapse(&mut self.tools);
+        }
     }
 
     /// Has the client learn what the watch reports of it.
@@ -538,9 +578,6 @@ impl<'a, R: Wait, T: NonBlocking, W: Watch<T>> Worker<'a, R, T, W> {
             self.new.places.items }
         ensures agenda { self.new.agenda ≡ self.old.agenda }
     {
-        if patience == Patience::UNBOUNDED {
-            return;
-        }
         if let Some(there) = self.places.get_mut(place) {
             let due = there.limit(patience);
             self.check = sooner(self.check, due);
@@ -567,14 +604,5 @@ fn turn(count: usize, share: usize) -> Option<usize> {
         count.checked_div(share)
     } else {
         None
-    }
-}
-
-/// Returns the sooner of two moments, if any is given.
-pub(crate) fn sooner(one: Option<Moment>, other: Option<Moment>) -> Option<Moment> {
-    match (one, other) {
-        (Some(one), Some(other)) => Some(one.min(other)),
-        (Some(one), None) => Some(one),
-        (None, other) => other,
     }
 }

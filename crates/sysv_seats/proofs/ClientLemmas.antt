@@ -30,7 +30,7 @@ use Rattle.sysv_wire.specs.declared.frame.Version.{Version}
 use Rattle.sysv_seats.specs.declared.parked.Parked.{Parked}
 use Rattle.sysv_seats.specs.Breaking.{Breaks, HasCause, MayEnd}
 use Rattle.sysv_seats.specs.Held.{holds_with}
-use Rattle.sysv_seats.specs.Holding.{Holder, empty_handed}
+use Rattle.sysv_seats.specs.Holding.{Holder, Timed, begun_with, timed}
 use Rattle.sysv_seats.proofs.HeldPieces.{hold_left}
 use Rattle.sysv_seats.specs.Sits.{Arrives, HasFrame, HasStopped, IsAt, IsBehind, IsCounted, IsFree, IsOver}
 use Rattle.sysv_seats.specs.Sits.{IsReady, end_at_close, is_finished, is_early}
@@ -240,7 +240,7 @@ module _ {T : Type 0} (incoming outgoing : T → Option (List ℕ)) where
       KeepsWith incoming outgoing old before mid between → KeepsWith incoming outgoing mid between new after →
       KeepsWith incoming outgoing old before new after
   keeps_on old before mid between new after first second =
-      λ newest start origin sits. second newest start origin (first newest start origin sits)
+      λ late newest start origin sits. second late newest start origin (first late newest start origin sits)
 
   -- The fields of the client say the same.
   pub keeps_from : (old client new : Sitting T) → client ≡ old → Keeps incoming outgoing client new →
@@ -263,7 +263,7 @@ module _ {T : Type 0} (incoming outgoing : T → Option (List ℕ)) where
 
   -- ---- a client that is free
 
-  is_ready : (newest : Version) (start : Pass) (origin : T) (client : Sitting T) (now : Holder Pass)
+  is_ready : (newest : Version) (start : Pass) (origin : T) (client : Sitting T) (now : Timed Pass)
       (sent : List ℕ) → IsFree client →
       IsAt incoming outgoing newest start origin client now sent client.parked client.stopped →
       IsReady incoming outgoing newest start origin client now sent
@@ -272,7 +272,7 @@ module _ {T : Type 0} (incoming outgoing : T → Option (List ℕ)) where
       s) free.0
       free.1 at
 
-  is_at : (newest : Version) (start : Pass) (origin : T) (client : Sitting T) (now : Holder Pass) (sent : List ℕ) →
+  is_at : (newest : Version) (start : Pass) (origin : T) (client : Sitting T) (now : Timed Pass) (sent : List ℕ) →
       IsFree client →
       IsReady incoming outgoing newest start origin client now sent →
       IsAt incoming outgoing newest start origin client now sent client.parked client.stopped
@@ -280,7 +280,7 @@ module _ {T : Type 0} (incoming outgoing : T → Option (List ℕ)) where
       subst₂ (λ (p : Option Parked) (s : Option End). IsAt incoming outgoing newest start origin client now sent p s)
       (sym free.0) (sym free.1) ready
 
-  is_stopped : (newest : Version) (start : Pass) (origin : T) (client : Sitting T) (now : Holder Pass)
+  is_stopped : (newest : Version) (start : Pass) (origin : T) (client : Sitting T) (now : Timed Pass)
       (sent : List ℕ) (why : End) →
       client.parked ≡ None → HasStopped incoming outgoing newest start origin client now sent why →
       IsAt incoming outgoing newest start origin client now sent client.parked (Some why)
@@ -289,19 +289,21 @@ module _ {T : Type 0} (incoming outgoing : T → Option (List ℕ)) where
       (sym none) stopped
 
   -- The connection cannot be read.
-  read_at : (newest : Version) (start : Pass) (origin : T) (client : Sitting T) (now : Holder Pass) (sent : List ℕ) →
+  read_at : (newest : Version) (start : Pass) (origin : T) (client : Sitting T) (now : Timed Pass) (sent : List ℕ) →
       IsReady incoming outgoing newest start origin client now sent →
       HasStopped incoming outgoing newest start origin client now sent (Fault Read)
   read_at newest start origin client now sent ready = (
     prepend_known client.input (incoming client.connection),
     behind client.input (incoming client.connection),
-    stops_read newest (holds_with zero_moment ⊤) SLOTS client.dialogue (empty_handed start) now (incoming origin)
-        (prepend_known client.input (incoming client.connection)) sent ready,
+    ready.0,
+    ready.1,
+    stops_read newest (holds_with zero_moment ⊤) SLOTS client.dialogue (begun_with start) ready.0 (incoming origin)
+        (prepend_known client.input (incoming client.connection)) sent ready.2,
   )
 
   pub stops_reading : (client : Sitting T) → IsFree client →
       Keeps incoming outgoing client (stopped_for (Fault Read) client)
-  stops_reading client free = λ now newest start origin sits. record {
+  stops_reading client free = λ here late newest start origin sits. let now : Timed Pass = timed here late in record {
     sent = sits.sent;
     wrote = sits.wrote;
     at = is_stopped newest start origin (stopped_for (Fault Read) client) now sits.sent (Fault Read) free.0
@@ -310,19 +312,21 @@ module _ {T : Type 0} (incoming outgoing : T → Option (List ℕ)) where
   }
 
   -- The client has reset the connection.
-  reset_at : (newest : Version) (start : Pass) (origin : T) (client : Sitting T) (now : Holder Pass) (sent : List ℕ) →
+  reset_at : (newest : Version) (start : Pass) (origin : T) (client : Sitting T) (now : Timed Pass) (sent : List ℕ) →
       IsReady incoming outgoing newest start origin client now sent →
       HasStopped incoming outgoing newest start origin client now sent Reset
   reset_at newest start origin client now sent ready = (
     prepend_known client.input (incoming client.connection),
     behind client.input (incoming client.connection),
-    stops_reset newest (holds_with zero_moment ⊤) SLOTS client.dialogue (empty_handed start) now (incoming origin)
-        (prepend_known client.input (incoming client.connection)) sent ready,
+    ready.0,
+    ready.1,
+    stops_reset newest (holds_with zero_moment ⊤) SLOTS client.dialogue (begun_with start) ready.0 (incoming origin)
+        (prepend_known client.input (incoming client.connection)) sent ready.2,
   )
 
   pub stops_resetting : (client : Sitting T) → IsFree client →
       Keeps incoming outgoing client (stopped_for Reset client)
-  stops_resetting client free = λ now newest start origin sits. record {
+  stops_resetting client free = λ here late newest start origin sits. let now : Timed Pass = timed here late in record {
     sent = sits.sent;
     wrote = sits.wrote;
     at = is_stopped newest start origin (stopped_for Reset client) now sits.sent Reset free.0
@@ -333,18 +337,21 @@ module _ {T : Type 0} (incoming outgoing : T → Option (List ℕ)) where
   -- The connection takes no more.
   pub stops_writing : (client : Sitting T) → IsFree client → client.dialogue.unsent.bytes ≢ [] →
       Keeps incoming outgoing client (stopped_for Write client)
-  stops_writing client free some = λ now newest start origin sits. record {
-    sent = sits.sent;
-    wrote = sits.wrote;
-    at = is_stopped newest start origin (stopped_for Write client) now sits.sent Write free.0 (
-      prepend_known client.input (incoming client.connection),
-      behind client.input (incoming client.connection),
-      stops_write newest (holds_with zero_moment ⊤) SLOTS client.dialogue (empty_handed start) now (incoming origin)
-          (prepend_known client.input (incoming client.connection)) sits.sent
-          (some_bytes client.dialogue.unsent.bytes some) (is_ready newest start origin client now sits.sent free
-          sits.at),
-    );
-  }
+  stops_writing client free some = λ here late newest start origin sits.
+      let now : Timed Pass = timed here late in record {
+        sent = sits.sent;
+        wrote = sits.wrote;
+        at = let ready = is_ready newest start origin client now sits.sent free sits.at in
+            is_stopped newest start origin (stopped_for Write client) now sits.sent Write free.0 (
+              prepend_known client.input (incoming client.connection),
+              behind client.input (incoming client.connection),
+              ready.0,
+              ready.1,
+              stops_write newest (holds_with zero_moment ⊤) SLOTS client.dialogue (begun_with start) ready.0
+                  (incoming origin) (prepend_known client.input (incoming client.connection)) sits.sent
+                  (some_bytes client.dialogue.unsent.bytes some) ready.2,
+            );
+      }
 
   -- Bytes were read and appended to the input.
   arrives_more : (client : Sitting T) (connection : T) (bytes : List ℕ) → IsFree client →
@@ -352,33 +359,39 @@ module _ {T : Type 0} (incoming outgoing : T → Option (List ℕ)) where
       (incoming client.connection ≡ None → incoming connection ≡ None) →
       outgoing connection ≡ outgoing client.connection →
       Keeps incoming outgoing client (with_input (client.input ++ bytes) (on connection client))
-  arrives_more client connection bytes free took none same = λ now newest start origin sits. record {
-    sent = sits.sent;
-    wrote = subst (λ (o : Option (List ℕ)). Appends (outgoing origin) o sits.sent) (sym same) sits.wrote;
-    at = is_at newest start origin (with_input (client.input ++ bytes) (on connection client)) now sits.sent free
-        (subst (λ (o : Option (List ℕ)).
-        Stands newest (holds_with zero_moment ⊤) SLOTS client.dialogue (empty_handed start) now (incoming origin)
-        o sits.sent)
-        (same_unread client.input bytes (incoming client.connection) (incoming connection) took none)
-        (is_ready newest start origin client now sits.sent free sits.at));
-  }
+  arrives_more client connection bytes free took none same = λ here late newest start origin sits.
+      let now : Timed Pass = timed here late in record {
+        sent = sits.sent;
+        wrote = subst (λ (o : Option (List ℕ)). Appends (outgoing origin) o sits.sent) (sym same) sits.wrote;
+        at = let ready = is_ready newest start origin client now sits.sent free sits.at in
+            is_at newest start origin (with_input (client.input ++ bytes) (on connection client)) now sits.sent free (
+              ready.0,
+              ready.1,
+              subst (λ (o : Option (List ℕ)). Stands newest (holds_with zero_moment ⊤) SLOTS client.dialogue
+                  (begun_with start) ready.0 (incoming origin) o sits.sent)
+                  (same_unread client.input bytes (incoming client.connection) (incoming connection) took none) ready.2,
+            );
+      }
 
   -- Bytes were read, and memory for them was refused.
   arrives_not : (client : Sitting T) (connection : T) (bytes : List ℕ) → IsFree client →
       Consumes (incoming client.connection) (incoming connection) bytes →
       outgoing connection ≡ outgoing client.connection →
       Keeps incoming outgoing client (stopped_for NoMemory (on connection client))
-  arrives_not client connection bytes free took same = λ now newest start origin sits. record {
-    sent = sits.sent;
-    wrote = subst (λ (o : Option (List ℕ)). Appends (outgoing origin) o sits.sent) (sym same) sits.wrote;
-    at = is_stopped newest start origin (stopped_for NoMemory (on connection client)) now sits.sent NoMemory free.0 (
-      prepend_known client.input (incoming client.connection),
-      behind_read client.input bytes (incoming client.connection) (incoming connection) took,
-      stops_memory newest (holds_with zero_moment ⊤) SLOTS client.dialogue (empty_handed start) now (incoming origin)
-          (prepend_known client.input (incoming client.connection)) sits.sent
-          (is_ready newest start origin client now sits.sent free sits.at),
-    );
-  }
+  arrives_not client connection bytes free took same = λ here late newest start origin sits.
+      let now : Timed Pass = timed here late in record {
+        sent = sits.sent;
+        wrote = subst (λ (o : Option (List ℕ)). Appends (outgoing origin) o sits.sent) (sym same) sits.wrote;
+        at = let ready = is_ready newest start origin client now sits.sent free sits.at in
+            is_stopped newest start origin (stopped_for NoMemory (on connection client)) now sits.sent NoMemory free.0 (
+              prepend_known client.input (incoming client.connection),
+              behind_read client.input bytes (incoming client.connection) (incoming connection) took,
+              ready.0,
+              ready.1,
+              stops_memory newest (holds_with zero_moment ⊤) SLOTS client.dialogue (begun_with start) ready.0
+                  (incoming origin) (prepend_known client.input (incoming client.connection)) sits.sent ready.2,
+            );
+      }
 
   -- Bytes were read.
   pub arrives : (client new : Sitting T) (connection : T) (bytes : List ℕ) → IsFree client →
@@ -392,25 +405,28 @@ module _ {T : Type 0} (incoming outgoing : T → Option (List ℕ)) where
       subst (Keeps incoming outgoing client) (sym is) (arrives_not client connection bytes free took same)
 
   -- The connection takes no more replies.
-  broken_at : (newest : Version) (start : Pass) (origin : T) (client : Sitting T) (now : Holder Pass)
+  broken_at : (newest : Version) (start : Pass) (origin : T) (client : Sitting T) (now : Timed Pass)
       (sent : List ℕ) (parked : Option Parked)
       (stopped : Option End) → IsAt incoming outgoing newest start origin client now sent parked stopped →
       IsAt incoming outgoing newest start origin (broken_off client) now sent parked stopped
   broken_at newest start origin client now sent None None at = at
   broken_at newest start origin client now sent (Some parked) None at = record {
     text = at.text;
+    settled = at.settled;
     before = at.before;
+    lapsed = at.lapsed;
     later = at.later;
     asking = at.asking;
     frame = at.frame;
     size = at.size;
     waits = at.waits;
+    late = at.late;
   }
   broken_at newest start origin client now sent None (Some why) at = at
   broken_at newest start origin client now sent (Some parked) (Some why) at = absurd at
 
   breaks : (client : Sitting T) → Keeps incoming outgoing client (broken_off client)
-  breaks client = λ now newest start origin sits. record {
+  breaks client = λ here late newest start origin sits. let now : Timed Pass = timed here late in record {
     sent = sits.sent;
     wrote = sits.wrote;
     at = broken_at newest start origin client now sits.sent client.parked client.stopped sits.at;
@@ -466,68 +482,78 @@ module _ {T : Type 0} (incoming outgoing : T → Option (List ℕ)) where
   -- ---- any client
 
   -- The call is left.
-  left_at : (newest : Version) (start : Pass) (origin : T) (client : Sitting T) (input : List ℕ) (now : Holder Pass)
+  left_at : (newest : Version) (start : Pass) (origin : T) (client : Sitting T) (input : List ℕ) (now : Timed Pass)
       (sent : List ℕ)
       (parked : Parked) (stopped : Option End) →
       IsAt incoming outgoing newest start origin client now sent (Some parked) stopped →
       HasStopped incoming outgoing newest start origin (left_with input client) now sent Left
   left_at newest start origin client input now sent parked None waits =
-      let told = hold_left zero_moment parked.request.version parked.cred ⊤ parked.request.ask waits.text waits.before
-      parked.waiting now tt waits.waits in (
+      let told = hold_left zero_moment parked.request.version parked.cred ⊤ parked.request.ask waits.text
+      waits.before.holder parked.waiting now.holder tt waits.waits in (
         prepend_known waits.later (incoming client.connection),
         behind waits.later (incoming client.connection),
+        now,
+        ([], refl),
         leaves newest (holds_with zero_moment ⊤) SLOTS parked.cred parked.request waits.text [] client.dialogue
-            (empty_handed start)
-            waits.before
-            now (incoming origin) (prepend_known waits.later (incoming client.connection)) sent waits.asking told refl,
+            (begun_with start) waits.settled now (incoming origin)
+            (prepend_known waits.later (incoming client.connection)) sent waits.asking
+            (waits.before, waits.lapsed, told, waits.late) refl,
       )
   left_at newest start origin client input now sent parked (Some why) none = absurd none
 
   pub gives_up : (client : Sitting T) (input : List ℕ) (parked : Parked) → client.parked ≡ Some parked →
       Keeps incoming outgoing client (left_with input client)
-  gives_up client input parked is = λ now newest start origin sits. record {
-    sent = sits.sent;
-    wrote = sits.wrote;
-    at = left_at newest start origin client input now sits.sent parked client.stopped
-        (subst (λ (p : Option Parked). IsAt incoming outgoing newest start origin client now sits.sent p
-        client.stopped) is
-        sits.at);
-  }
+  gives_up client input parked is = λ here late newest start origin sits.
+      let now : Timed Pass = timed here late in record {
+        sent = sits.sent;
+        wrote = sits.wrote;
+        at = left_at newest start origin client input now sits.sent parked client.stopped
+            (subst (λ (p : Option Parked). IsAt incoming outgoing newest start origin client now sits.sent p
+            client.stopped) is
+            sits.at);
+      }
 
   -- The connection took or gave nothing.
   turned_at : (newest : Version) (start : Pass) (origin : T) (client : Sitting T) (connection : T)
-      (now : Holder Pass) (sent : List ℕ)
+      (now : Timed Pass) (sent : List ℕ)
       (parked : Option Parked) (stopped : Option End) → incoming connection ≡ incoming client.connection →
       IsAt incoming outgoing newest start origin client now sent parked stopped →
       IsAt incoming outgoing newest start origin (on connection client) now sent parked stopped
-  turned_at newest start origin client connection now sent None None same at =
-      subst (λ (o : Option (List ℕ)).
-      Stands newest (holds_with zero_moment ⊤) SLOTS client.dialogue (empty_handed start) now (incoming origin)
-      (prepend_known client.input o) sent) (sym same) at
+  turned_at newest start origin client connection now sent None None same at = (
+    at.0,
+    at.1,
+    subst (λ (o : Option (List ℕ)). Stands newest (holds_with zero_moment ⊤) SLOTS client.dialogue (begun_with start)
+        at.0 (incoming origin) (prepend_known client.input o) sent) (sym same) at.2,
+  )
   turned_at newest start origin client connection now sent (Some parked) None same at = record {
     text = at.text;
+    settled = at.settled;
     before = at.before;
+    lapsed = at.lapsed;
     later = at.later;
     asking = subst (λ (o : Option (List ℕ)). StandsAsking newest (holds_with zero_moment ⊤) SLOTS parked.cred
         parked.request
-        at.text client.dialogue (empty_handed start) at.before (incoming origin) (prepend_known at.later o) sent)
+        at.text client.dialogue (begun_with start) at.settled (incoming origin) (prepend_known at.later o) sent)
         (sym same) at.asking;
     frame = at.frame;
     size = at.size;
     waits = at.waits;
+    late = at.late;
   }
   turned_at newest start origin client connection now sent None (Some why) same at =
-      (at.0, subst (λ (o : Option (List ℕ)). IsBehind at.0 o) (sym same) at.1, at.2)
+      (at.0, subst (λ (o : Option (List ℕ)). IsBehind at.0 o) (sym same) at.1, at.2, at.3, at.4)
   turned_at newest start origin client connection now sent (Some parked) (Some why) same at = absurd at
 
   pub turned : (client : Sitting T) (connection : T) → incoming connection ≡ incoming client.connection →
       KeepsBytes (outgoing client.connection) (outgoing connection) →
       Keeps incoming outgoing client (on connection client)
-  turned client connection same kept = λ now newest start origin sits. record {
-    sent = sits.sent;
-    wrote = Appends-kept (outgoing origin) (outgoing client.connection) (outgoing connection) sits.sent sits.wrote kept;
-    at = turned_at newest start origin client connection now sits.sent client.parked client.stopped same sits.at;
-  }
+  turned client connection same kept = λ here late newest start origin sits.
+      let now : Timed Pass = timed here late in record {
+        sent = sits.sent;
+        wrote =
+            Appends-kept (outgoing origin) (outgoing client.connection) (outgoing connection) sits.sent sits.wrote kept;
+        at = turned_at newest start origin client connection now sits.sent client.parked client.stopped same sits.at;
+      }
 
   -- A read returned nothing.
   pub unread_still : (client : Sitting T) (connection : T) →
@@ -603,44 +629,47 @@ module _ {T : Type 0} (incoming outgoing : T → Option (List ℕ)) where
   }
 
   drained_at : (newest : Version) (start : Pass) (origin : T) (client : Sitting T) (connection : T) (n : ℕ)
-      (now : Holder Pass) (sent : List ℕ)
+      (now : Timed Pass) (sent : List ℕ)
       (parked : Option Parked) (stopped : Option End) → n ≤ length client.dialogue.unsent.bytes →
       incoming connection ≡ incoming client.connection →
       IsAt incoming outgoing newest start origin client now sent parked stopped →
       IsAt incoming outgoing newest start origin (with_sent connection n client) now
       (sent ++ take n client.dialogue.unsent.bytes) parked stopped
-  drained_at newest start origin client connection n now sent None None fits same at =
-      sends newest (holds_with zero_moment ⊤) SLOTS n client.dialogue (sent_on n client.dialogue)
-      (empty_handed start) now
-      (incoming origin)
-      (prepend_known client.input (incoming connection)) sent fits refl
-      (subst (λ (o : Option (List ℕ)).
-      Stands newest (holds_with zero_moment ⊤) SLOTS client.dialogue (empty_handed start) now (incoming origin)
-      (prepend_known client.input o) sent) (sym same) at)
+  drained_at newest start origin client connection n now sent None None fits same at = (
+    at.0,
+    at.1,
+    sends newest (holds_with zero_moment ⊤) SLOTS n client.dialogue (sent_on n client.dialogue) (begun_with start) at.0
+        (incoming origin) (prepend_known client.input (incoming connection)) sent fits refl
+        (subst (λ (o : Option (List ℕ)). Stands newest (holds_with zero_moment ⊤) SLOTS client.dialogue
+        (begun_with start) at.0 (incoming origin) (prepend_known client.input o) sent) (sym same) at.2),
+  )
   drained_at newest start origin client connection n now sent (Some parked) None fits same at = record {
     text = at.text;
+    settled = at.settled;
     before = at.before;
+    lapsed = at.lapsed;
     later = at.later;
     asking = sends_asking newest (holds_with zero_moment ⊤) SLOTS parked.cred parked.request at.text n client.dialogue
-        (sent_on n client.dialogue) (empty_handed start) at.before (incoming origin)
+        (sent_on n client.dialogue) (begun_with start) at.settled (incoming origin)
         (prepend_known at.later (incoming connection))
         sent
         fits refl
         (subst (λ (o : Option (List ℕ)). StandsAsking newest (holds_with zero_moment ⊤) SLOTS parked.cred parked.request
-        at.text client.dialogue (empty_handed start) at.before (incoming origin) (prepend_known at.later o) sent)
+        at.text client.dialogue (begun_with start) at.settled (incoming origin) (prepend_known at.later o) sent)
         (sym same)
         at.asking);
     frame = at.frame;
     size = at.size;
     waits = at.waits;
+    late = at.late;
   }
   drained_at newest start origin client connection n now sent None (Some why) fits same at = (
     at.0,
     subst (λ (o : Option (List ℕ)). IsBehind at.0 o) (sym same) at.1,
+    at.2,
+    at.3,
     sends_stopped newest (holds_with zero_moment ⊤) SLOTS why n client.dialogue (sent_on n client.dialogue)
-        (empty_handed start) now
-        (incoming origin)
-        at.0 sent fits refl at.2,
+        (begun_with start) at.2 (incoming origin) at.0 sent fits refl at.4,
   )
   drained_at newest start origin client connection n now sent (Some parked) (Some why) fits same at = absurd at
 
@@ -648,13 +677,14 @@ module _ {T : Type 0} (incoming outgoing : T → Option (List ℕ)) where
       incoming connection ≡ incoming client.connection →
       Appends (outgoing client.connection) (outgoing connection) (take n client.dialogue.unsent.bytes) →
       Keeps incoming outgoing client (with_sent connection n client)
-  drained client connection n fits same wrote = λ now newest start origin sits. record {
-    sent = sits.sent ++ take n client.dialogue.unsent.bytes;
-    wrote = Appends-trans (outgoing origin) (outgoing client.connection) (outgoing connection) sits.sent
-        (take n client.dialogue.unsent.bytes) sits.wrote wrote;
-    at = drained_at newest start origin client connection n now sits.sent client.parked client.stopped fits same
-        sits.at;
-  }
+  drained client connection n fits same wrote = λ here late newest start origin sits.
+      let now : Timed Pass = timed here late in record {
+        sent = sits.sent ++ take n client.dialogue.unsent.bytes;
+        wrote = Appends-trans (outgoing origin) (outgoing client.connection) (outgoing connection) sits.sent
+            (take n client.dialogue.unsent.bytes) sits.wrote wrote;
+        at = drained_at newest start origin client connection n now sits.sent client.parked client.stopped fits same
+            sits.at;
+      }
 
   abbrev pub with_dialogue : T → Dialogue → Sitting T → Sitting T
   with_dialogue connection dialogue client = record {
@@ -684,21 +714,24 @@ module _ {T : Type 0} (incoming outgoing : T → Option (List ℕ)) where
       client.dialogue.session.caller ≡ None →
       client.dialogue.session.tally ≡ record { written = 0; lost = 0 } → client.dialogue.session.requests ≡ 0 →
       client.dialogue.unsent ≡ record { bytes = []; marks = [] } → client.input ≡ [] → IsFree client →
-      Sits incoming outgoing newest pass client.connection client (empty_handed pass)
+      Sits incoming outgoing newest pass client.connection client (begun_with pass)
   opened client newest pass limit caller tally requests unsent none free = record {
     sent = [];
     wrote = Appends-nil (outgoing client.connection);
-    at = is_at newest pass client.connection client (empty_handed pass) [] free
-        (subst (λ (o : Option (List ℕ)). Stands newest (holds_with zero_moment ⊤) SLOTS client.dialogue
-        (empty_handed pass) (empty_handed pass) (incoming client.connection) o [])
-        (sym (ap (λ (l : List ℕ). prepend_known l (incoming client.connection)) none
-        ∙ prepend_known-nil (incoming client.connection)))
-        (opens newest (holds_with zero_moment ⊤) SLOTS client.dialogue (empty_handed pass) (incoming client.connection)
-        limit caller tally requests unsent));
+    at = is_at newest pass client.connection client (begun_with pass) [] free (
+      begun_with pass,
+      ([], refl),
+      subst (λ (o : Option (List ℕ)). Stands newest (holds_with zero_moment ⊤) SLOTS client.dialogue
+          (begun_with pass) (begun_with pass) (incoming client.connection) o [])
+          (sym (ap (λ (l : List ℕ). prepend_known l (incoming client.connection)) none
+          ∙ prepend_known-nil (incoming client.connection)))
+          (opens newest (holds_with zero_moment ⊤) SLOTS client.dialogue (begun_with pass) (incoming client.connection)
+          limit caller tally requests unsent),
+    );
   }
 
   -- A client is closed. Its call is left, if one is parked.
-  closing_at : (newest : Version) (start : Pass) (origin : T) (client : Sitting T) (now : Holder Pass) (sent : List ℕ)
+  closing_at : (newest : Version) (start : Pass) (origin : T) (client : Sitting T) (now : Timed Pass) (sent : List ℕ)
       (parked : Option Parked) (stopped : Option End) →
       IsAt incoming outgoing newest start origin client now sent parked stopped →
       HasStopped incoming outgoing newest start origin client now sent (end_at_close parked stopped)
@@ -709,7 +742,7 @@ module _ {T : Type 0} (incoming outgoing : T → Option (List ℕ)) where
   closing_at newest start origin client now sent (Some parked) (Some why) at = absurd at
 
   closed : {B : Type 0} (closes : Closing T B) (newest : Version) (start : Pass) (origin : T) (client : Sitting T)
-      (now : Holder Pass)
+      (now : Timed Pass)
       (book book' : B) → Sits incoming outgoing newest start origin client now →
       closes.leaves book (incoming client.connection) (outgoing client.connection) book' →
       IsOver incoming outgoing closes newest start origin
@@ -721,9 +754,12 @@ module _ {T : Type 0} (incoming outgoing : T → Option (List ℕ)) where
         rest = stopped.0;
         kept = incoming client.connection;
         more = outgoing client.connection;
-        serves = ends newest (holds_with zero_moment ⊤) SLOTS why client.dialogue (empty_handed start) now (incoming
-            origin) stopped.0
-            (outgoing origin) (outgoing client.connection) sits.sent stopped.2 sits.wrote;
+        serves = (
+          stopped.2,
+          ends newest (holds_with zero_moment ⊤) SLOTS why client.dialogue (begun_with start) stopped.2
+              (incoming origin) stopped.0 (outgoing origin) (outgoing client.connection) sits.sent stopped.4 sits.wrote,
+          stopped.3,
+        );
         behind = stopped.1;
         closed = done;
       }
@@ -732,7 +768,7 @@ module _ {T : Type 0} (incoming outgoing : T → Option (List ℕ)) where
       (book book' : B) → client ≡ old → why ≡ end_at_close client.parked client.stopped →
       served ≡ report why client.dialogue →
       closes.leaves book (incoming client.connection) (outgoing client.connection) book' →
-      (newest : Version) (start : Pass) (now : Holder Pass) (origin : T) →
+      (newest : Version) (start : Pass) (now : Timed Pass) (origin : T) →
       Sits incoming outgoing newest start origin old now →
       IsOver incoming outgoing closes newest start origin served now book book'
   closed_over closes old client why served book book' same reason is done newest start now origin sits =

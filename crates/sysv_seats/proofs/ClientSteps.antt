@@ -53,8 +53,9 @@ use Rattle.sysv_seats.specs.declared.waiting.Waiting.{Waiting}
 use Rattle.sysv_seats.specs.declared.waiting.Waiting.TheVariants.{Send, Receive, Get}
 use Rattle.sysv_seats.specs.Asked.{Asks}
 use Rattle.sysv_seats.specs.Held.{AnyGoesOn, HoldAsks, HoldBegun, HoldProgress, IsHoldWaitOf, back_progress}
-use Rattle.sysv_seats.specs.Held.{hold_progress, holds_with}
-use Rattle.sysv_seats.specs.Holding.{Holder, Message, back_outcome, done_outcome, empty_handed, hold_outcome, no_flags}
+use Rattle.sysv_seats.specs.Held.{LapsesTo, hold_progress, holds_with}
+use Rattle.sysv_seats.specs.Holding.{Holder, Message, Timed, back_outcome, begun_with, done_outcome, hold_outcome}
+use Rattle.sysv_seats.specs.Holding.{no_flags, timed}
 use Rattle.sysv_seats.specs.Parked.{GoesOn, IsReplied, IsWaitOf, Proceeds}
 use Rattle.sysv_seats.specs.Parked.{kind_in, get_progress, receive_progress, send_progress}
 use Rattle.sysv_seats.specs.Replies.{done_reply, given_reply, id_reply, row_reply, stat_reply}
@@ -64,7 +65,7 @@ use Rattle.sysv_seats.specs.Sits.{messages_so_far, stopped_for, conversing, with
 use Rattle.sysv_seats.proofs.HeldPieces.{hold_asks_any}
 
 -- What the calls of a client mean.
-abbrev Means : Meaning (Holder Pass)
+abbrev Means : Meaning (Timed Pass)
 Means = holds_with zero_moment ⊤
 
 -- ---- lists
@@ -392,7 +393,7 @@ pending_next old new size result text cred request counted reads is =
 
 module _ {T : Type 0} (incoming outgoing : T → Option (List ℕ)) where
   -- A client that is free can take up more.
-  ready : (newest : Version) (start : Pass) (origin : T) (client : Sitting T) (now : Holder Pass) → IsFree client →
+  ready : (newest : Version) (start : Pass) (origin : T) (client : Sitting T) (now : Timed Pass) → IsFree client →
       (sits : Sits incoming outgoing newest start origin client now) →
       IsReady incoming outgoing newest start origin client now sits.sent
   ready newest start origin client now free sits =
@@ -400,7 +401,7 @@ module _ {T : Type 0} (incoming outgoing : T → Option (List ℕ)) where
       sits.sent p s)
       free.0 free.1 sits.at
 
-  at_ready : (newest : Version) (start : Pass) (origin : T) (client : Sitting T) (now : Holder Pass)
+  at_ready : (newest : Version) (start : Pass) (origin : T) (client : Sitting T) (now : Timed Pass)
       (sent : List ℕ) → client.parked ≡ None →
       client.stopped ≡ None → IsReady incoming outgoing newest start origin client now sent →
       IsAt incoming outgoing newest start origin client now sent client.parked client.stopped
@@ -408,7 +409,7 @@ module _ {T : Type 0} (incoming outgoing : T → Option (List ℕ)) where
       subst₂ (λ (p : Option Parked) (s : Option End). IsAt incoming outgoing newest start origin client now sent p s)
       (sym parked) (sym stopped) at
 
-  at_stopped : (newest : Version) (start : Pass) (origin : T) (client : Sitting T) (now : Holder Pass)
+  at_stopped : (newest : Version) (start : Pass) (origin : T) (client : Sitting T) (now : Timed Pass)
       (sent : List ℕ) (why : End) →
       client.parked ≡ None → client.stopped ≡ Some why →
       HasStopped incoming outgoing newest start origin client now sent why →
@@ -417,7 +418,7 @@ module _ {T : Type 0} (incoming outgoing : T → Option (List ℕ)) where
       subst₂ (λ (p : Option Parked) (s : Option End). IsAt incoming outgoing newest start origin client now sent p s)
       (sym parked) (sym stopped) at
 
-  at_waiting : (newest : Version) (start : Pass) (origin : T) (client : Sitting T) (now : Holder Pass)
+  at_waiting : (newest : Version) (start : Pass) (origin : T) (client : Sitting T) (now : Timed Pass)
       (sent : List ℕ) (parked : Parked) →
       client.parked ≡ Some parked → client.stopped ≡ None →
       IsWaiting incoming outgoing newest start origin client now sent parked →
@@ -428,7 +429,8 @@ module _ {T : Type 0} (incoming outgoing : T → Option (List ℕ)) where
 
   -- ---- a request has an outcome, or waits
 
-  module _ (newest : Version) (start : Pass) (before now : Holder Pass) (origin : T) (old new : Sitting T)
+  module _ (newest : Version) (start : Pass) (before : Timed Pass) (now : Holder Pass) (origin : T)
+      (old new : Sitting T)
       (cred : Cred) (request : Request)
       (text : List ℕ) (size : ℕ) (asked : HasAsked incoming outgoing newest start origin old cred request text size
       before)
@@ -438,21 +440,27 @@ module _ {T : Type 0} (incoming outgoing : T → Option (List ℕ)) where
 
     module _ (came : Progress Waiting RequestOutcome) (outcome : RequestOutcome) (given : List ℕ)
         (is : came ≡ progress.Over outcome)
-        (begun : HoldBegun zero_moment request.version cred request.ask text before came given now)
+        (begun : HoldBegun zero_moment request.version cred request.ask text before.holder came given now)
         (may : HoldProgress request.version request.ask came given) where
-      means : Means before cred request text outcome given now
-      means =
-          hold_asks_any zero_moment request.version cred ⊤ request.ask text before outcome given now
-          (subst (λ (p : Progress Waiting RequestOutcome). HoldBegun zero_moment request.version cred request.ask text
-          before p given now) is begun)
+      means : Means asked.settled cred request text outcome given (timed now before.late)
+      means = (
+        before,
+        asked.lapsed,
+        hold_asks_any zero_moment request.version cred ⊤ request.ask text before.holder outcome given now
+            (subst (λ (p : Progress Waiting RequestOutcome). HoldBegun zero_moment request.version cred request.ask text
+            before.holder p given now) is begun),
+        refl,
+      )
 
       -- Its reply was gathered.
       pub put_reply : Puts (Ok tt) request.version outcome given old.dialogue new.dialogue →
           new.input ≡ drop size old.input →
-          new.parked ≡ None → new.stopped ≡ old.stopped → Sits incoming outgoing newest start origin new now
+          new.parked ≡ None → new.stopped ≡ old.stopped →
+          Sits incoming outgoing newest start origin new (timed now before.late)
       put_reply put input parked stopped =
+          let after : Timed Pass = timed now before.late in
           let stands =
-          puts newest Means SLOTS cred request text outcome given old.dialogue (empty_handed start) before now
+          puts newest Means SLOTS cred request text outcome given old.dialogue (begun_with start) asked.settled after
           (incoming origin)
           (prepend_known asked.later (incoming old.connection)) asked.sent asked.asking means
           (answers request.version request.ask came given outcome is may) new.dialogue put in
@@ -461,29 +469,35 @@ module _ {T : Type 0} (incoming outgoing : T → Option (List ℕ)) where
           record {
             sent = asked.sent;
             wrote = wrote;
-            at = at_ready newest start origin new now asked.sent parked (stopped ∙ asked.going)
-                (subst₂ (λ (l : List ℕ) (t : T). Stands newest Means SLOTS new.dialogue (empty_handed start) now
-                (incoming origin)
-                (prepend_known l (incoming t)) asked.sent) (sym left) (sym connection) stands);
+            at = at_ready newest start origin new after asked.sent parked (stopped ∙ asked.going) (
+              after,
+              ([], refl),
+              subst₂ (λ (l : List ℕ) (t : T). Stands newest Means SLOTS new.dialogue (begun_with start) after
+                  (incoming origin) (prepend_known l (incoming t)) asked.sent) (sym left) (sym connection) stands,
+            );
           }
 
       -- It has no reply, and the client stops.
       pub put_none : (why : End) → Puts (Err why) request.version outcome given old.dialogue new.dialogue →
-          new.parked ≡ None → new.stopped ≡ Some why → Sits incoming outgoing newest start origin new now
+          new.parked ≡ None → new.stopped ≡ Some why →
+          Sits incoming outgoing newest start origin new (timed now before.late)
       put_none why put parked stopped =
+          let after : Timed Pass = timed now before.late in
           let rest = prepend_known asked.later (incoming old.connection) in
           let stood =
-          put_ends newest Means SLOTS cred request text outcome given old.dialogue (empty_handed start) before now
-          (incoming origin)
+          put_ends newest Means SLOTS cred request text outcome given old.dialogue (begun_with start) asked.settled
+          after (incoming origin)
           rest asked.sent asked.asking means (answers request.version request.ask came given outcome is may) why
           new.dialogue put in
           record {
             sent = asked.sent;
             wrote = wrote;
-            at = at_stopped newest start origin new now asked.sent why parked stopped (
+            at = at_stopped newest start origin new after asked.sent why parked stopped (
               rest,
               subst (λ (t : T). IsBehind rest (incoming t)) (sym connection)
                   (behind asked.later (incoming old.connection)),
+              after,
+              ([], refl),
               stood,
             );
           }
@@ -491,36 +505,39 @@ module _ {T : Type 0} (incoming outgoing : T → Option (List ℕ)) where
     -- It waits, and is parked.
     pub parks : (came : Progress Waiting RequestOutcome) (waiting : Waiting) (given : List ℕ) →
         came ≡ progress.Waits waiting →
-        HoldBegun zero_moment request.version cred request.ask text before came given now →
+        HoldBegun zero_moment request.version cred request.ask text before.holder came given now →
         new.dialogue ≡ old.dialogue → new.input ≡ old.input →
         new.parked ≡ Some (record { cred = cred; request = request; waiting = waiting; length = size }) →
-        new.stopped ≡ old.stopped → Sits incoming outgoing newest start origin new now
+        new.stopped ≡ old.stopped → Sits incoming outgoing newest start origin new (timed now before.late)
     parks came waiting given is begun dialogue input parked stopped =
         let waits = subst (λ (p : Progress Waiting RequestOutcome). HoldBegun zero_moment request.version cred
-        request.ask text before p given now) is begun in
+        request.ask text before.holder p given now) is begun in
         record {
           sent = asked.sent;
           wrote = wrote;
-          at = at_waiting newest start origin new now asked.sent
+          at = at_waiting newest start origin new (timed now before.late) asked.sent
               (record { cred = cred; request = request; waiting = waiting; length = size }) parked
               (stopped ∙ asked.going) (record {
                 text = text;
+                settled = asked.settled;
                 before = before;
+                lapsed = asked.lapsed;
                 later = asked.later;
                 asking = subst₂ (λ (k : Dialogue) (t : T). StandsAsking newest Means SLOTS cred request text k
-                    (empty_handed start) before
+                    (begun_with start) asked.settled
                     (incoming origin) (prepend_known asked.later (incoming t)) asked.sent) (sym dialogue)
                     (sym connection)
                     asked.asking;
                 frame = input ∙ asked.frame;
                 size = asked.whole;
                 waits = waits.0;
+                late = refl;
               });
         }
 
   -- ---- a parked call
 
-  parked_at : (newest : Version) (start : Pass) (origin : T) (client : Sitting T) (now : Holder Pass)
+  parked_at : (newest : Version) (start : Pass) (origin : T) (client : Sitting T) (now : Timed Pass)
       (sent : List ℕ) (parked : Parked)
       (stopped : Option End) → IsAt incoming outgoing newest start origin client now sent (Some parked) stopped →
       (stopped ≡ None) × IsWaiting incoming outgoing newest start origin client now sent parked
@@ -528,7 +545,7 @@ module _ {T : Type 0} (incoming outgoing : T → Option (List ℕ)) where
   parked_at newest start origin client now sent parked (Some why) at = absurd at
 
   -- A client with a parked call waits.
-  pub is_waiting : (newest : Version) (start : Pass) (origin : T) (client : Sitting T) (now : Holder Pass)
+  pub is_waiting : (newest : Version) (start : Pass) (origin : T) (client : Sitting T) (now : Timed Pass)
       (parked : Parked) →
       client.parked ≡ Some parked → (sits : Sits incoming outgoing newest start origin client now) →
       (client.stopped ≡ None) × IsWaiting incoming outgoing newest start origin client now sits.sent parked
@@ -539,7 +556,7 @@ module _ {T : Type 0} (incoming outgoing : T → Option (List ℕ)) where
       sits.at)
 
   -- Its request was taken up.
-  pub asked_before : (newest : Version) (start : Pass) (origin : T) (client : Sitting T) (now : Holder Pass)
+  pub asked_before : (newest : Version) (start : Pass) (origin : T) (client : Sitting T) (now : Timed Pass)
       (parked : Parked)
       (sits : Sits incoming outgoing newest start origin client now) → client.stopped ≡ None →
       (waits : IsWaiting incoming outgoing newest start origin client now sits.sent parked) →
@@ -549,6 +566,8 @@ module _ {T : Type 0} (incoming outgoing : T → Option (List ℕ)) where
     sent = sits.sent;
     wrote = sits.wrote;
     later = waits.later;
+    settled = waits.settled;
+    lapsed = waits.lapsed;
     asking = waits.asking;
     frame = waits.frame;
     whole = waits.size;
@@ -557,7 +576,7 @@ module _ {T : Type 0} (incoming outgoing : T → Option (List ℕ)) where
 
   -- ---- what is taken up
 
-  module _ (newest : Version) (start : Pass) (now : Holder Pass) (origin : T) (old new : Sitting T) (size : ℕ)
+  module _ (newest : Version) (start : Pass) (now : Timed Pass) (origin : T) (old new : Sitting T) (size : ℕ)
       (result : Result TakenUp End)
       (text : List ℕ) (free : IsFree old) (reads : ReadsNext old size result text new)
       (sits : Sits incoming outgoing newest start origin old now) where
@@ -581,17 +600,20 @@ module _ {T : Type 0} (incoming outgoing : T → Option (List ℕ)) where
         let took_more = takes_up_more old.dialogue.session new.dialogue.session (Ok (Asked cred request)) old.input
         reads.rest text
         (incoming old.connection) tt takes in
-        let stands = takes_request newest Means SLOTS cred request old.dialogue new.dialogue (empty_handed start)
-        now (incoming origin)
+        let at = ready newest start origin old now free sits in
+        let stands = takes_request newest Means SLOTS cred request old.dialogue new.dialogue (begun_with start)
+        at.0 (incoming origin)
         (prepend_known old.input (incoming old.connection)) (prepend_known reads.rest (incoming old.connection))
-        sits.sent text (ready newest start origin old now free sits) took_more reads.unsent in
+        sits.sent text at.2 took_more reads.unsent in
         record {
           sent = sits.sent;
           wrote = wrote_still;
           later = reads.rest;
+          settled = at.0;
+          lapsed = at.1;
           asking =
-              subst (λ (t : T). StandsAsking newest Means SLOTS cred request text new.dialogue (empty_handed start)
-              now (incoming origin)
+              subst (λ (t : T). StandsAsking newest Means SLOTS cred request text new.dialogue (begun_with start)
+              at.0 (incoming origin)
               (prepend_known reads.rest (incoming t)) sits.sent) (sym stays) stands;
           frame = ap (λ (s : Sitting T). s.input) reads.same ∙ takes.3.0;
           whole = read_whole size old.input (request_encoding request text) reads.rest reads.read takes.3.0;
@@ -605,13 +627,15 @@ module _ {T : Type 0} (incoming outgoing : T → Option (List ℕ)) where
         let took_more = takes_up_more old.dialogue.session new.dialogue.session (Err why) old.input reads.rest text
         (incoming old.connection) settled (took (Err why) is) in
         let rest = prepend_known reads.rest (incoming old.connection) in
-        let stood = stops newest Means SLOTS why old.dialogue new.dialogue (empty_handed start) now (incoming origin)
-        (prepend_known old.input (incoming old.connection)) rest sits.sent text
-        (ready newest start origin old now free sits) took_more reads.unsent in
+        let at = ready newest start origin old now free sits in
+        let stood = stops newest Means SLOTS why old.dialogue new.dialogue (begun_with start) at.0 (incoming origin)
+        (prepend_known old.input (incoming old.connection)) rest sits.sent text at.2 took_more reads.unsent in
         let at_new : HasStopped incoming outgoing newest start origin (stopped_for why new) now sits.sent why = (
           rest,
           subst (λ (t : T). IsBehind rest (incoming t)) (sym stays)
               (behind reads.rest (incoming old.connection)),
+          at.0,
+          at.1,
           stood,
         ) in
         subst (λ (s : Sitting T). Sits incoming outgoing newest start origin s now) (sym same)
@@ -623,12 +647,12 @@ module _ {T : Type 0} (incoming outgoing : T → Option (List ℕ)) where
         })
 
     -- A hello is taken up, and its reply is gathered, or memory is refused for it.
-    greeted : (version : Version) (last : Sitting T) →
-        StandsGreeting newest version new.dialogue (empty_handed start) now (incoming origin)
+    greeted : (version : Version) (last : Sitting T) (settled : Timed Pass) → LapsesTo zero_moment settled now →
+        StandsGreeting newest version new.dialogue (begun_with start) settled (incoming origin)
         (prepend_known (drop size new.input) (incoming new.connection)) sits.sent →
         GreetsAs version (with_input (drop size new.input) new) last →
         Sits incoming outgoing newest start origin last now
-    greeted version last stands (inl same) =
+    greeted version last settled lapsed stands (inl same) =
         let answered = conversing (gathered (with_frame (hello_frame version SLOTS)) new.dialogue)
         (with_input (drop size new.input) new) in
         subst (λ (s : Sitting T). Sits incoming outgoing newest start origin s now) (sym same)
@@ -637,12 +661,15 @@ module _ {T : Type 0} (incoming outgoing : T → Option (List ℕ)) where
           wrote = wrote_still;
           at = at_ready newest start origin answered now sits.sent (ap (λ (s : Sitting T). s.parked) reads.same ∙
               free.0)
-              (ap (λ (s : Sitting T). s.stopped) reads.same ∙ free.1)
-              (greets newest Means SLOTS version new.dialogue answered.dialogue (empty_handed start) now (incoming
-              origin)
-              (prepend_known (drop size new.input) (incoming new.connection)) sits.sent stands refl);
+              (ap (λ (s : Sitting T). s.stopped) reads.same ∙ free.1) (
+                settled,
+                lapsed,
+                greets newest Means SLOTS version new.dialogue answered.dialogue (begun_with start) settled
+                    (incoming origin) (prepend_known (drop size new.input) (incoming new.connection)) sits.sent stands
+                    refl,
+              );
         })
-    greeted version last stands (inr same) =
+    greeted version last settled lapsed stands (inr same) =
         subst (λ (s : Sitting T). Sits incoming outgoing newest start origin s now) (sym same)
         (record {
           sent = sits.sent;
@@ -653,7 +680,9 @@ module _ {T : Type 0} (incoming outgoing : T → Option (List ℕ)) where
               (ap (λ (s : Sitting T). s.parked) reads.same ∙ free.0) refl (
                 prepend_known (drop size new.input) (incoming new.connection),
                 behind (drop size new.input) (incoming new.connection),
-                greet_ends newest Means SLOTS version new.dialogue (empty_handed start) now (incoming origin)
+                settled,
+                lapsed,
+                greet_ends newest Means SLOTS version new.dialogue (begun_with start) settled (incoming origin)
                     (prepend_known (drop size new.input) (incoming new.connection)) sits.sent stands,
               );
         })
@@ -667,15 +696,16 @@ module _ {T : Type 0} (incoming outgoing : T → Option (List ℕ)) where
         let took_more =
         takes_up_more old.dialogue.session new.dialogue.session (Ok (Hello version)) old.input reads.rest text
         (incoming old.connection) tt takes in
-        let stands = takes_hello newest Means SLOTS version old.dialogue new.dialogue (empty_handed start) now
+        let at = ready newest start origin old now free sits in
+        let stands = takes_hello newest Means SLOTS version old.dialogue new.dialogue (begun_with start) at.0
         (incoming origin)
         (prepend_known old.input (incoming old.connection)) (prepend_known reads.rest (incoming old.connection))
-        sits.sent text (ready newest start origin old now free sits) took_more reads.unsent in
+        sits.sent text at.2 took_more reads.unsent in
         let input : new.input ≡ old.input = ap (λ (s : Sitting T). s.input) reads.same in
         let left : drop size new.input ≡ reads.rest =
         drops size new.input _ reads.rest (read_whole size old.input _ reads.rest reads.read encoded)
         (input ∙ encoded) in
-        greeted version last
-        (subst₂ (λ (l : List ℕ) (t : T). StandsGreeting newest version new.dialogue (empty_handed start) now
+        greeted version last at.0 at.1
+        (subst₂ (λ (l : List ℕ) (t : T). StandsGreeting newest version new.dialogue (begun_with start) at.0
         (incoming origin)
         (prepend_known l (incoming t)) sits.sent) (sym left) (sym stays) stands) greets_as

@@ -1,7 +1,9 @@
 -- Each message that a hold gave is spent or held.
 use Rattle.std.proofs.Common.{◌≡◌, ◌∙◌, ◌+◌, ℕ, ℤ, List, [], ◌∷◌, Option, None, Some, Result, Ok, Err, inl, inr}
 use Rattle.std.proofs.Common.{ap, ap₂, refl, subst, sym, arith}
+use Rattle.std.proofs.Common.{length, length-append}
 use Rattle.std.specs.Prelude.{⊤}
+use Rattle.std.specs.List.{FoldsTo}
 use Rattle.sysv_model.specs.declared.attributes.Row.{Row as Line}
 use Rattle.sysv_model.specs.declared.attributes.Stat.{Stat as Attributes}
 use Rattle.sysv_model.specs.declared.cred.Cred.{Cred}
@@ -16,10 +18,15 @@ use Rattle.sysv_wire.specs.declared.frame.Version.TheVariants.{Three}
 use Rattle.sysv_wire.specs.declared.reply.ReplyContent.TheVariants as content
 use Rattle.sysv_wire.specs.declared.request.Ask.{Ask}
 use Rattle.sysv_wire.specs.declared.request.Ask.TheVariants.{Hello, Get, Snd, Rcv, Stat, Set, Rm, Row, Hold, Done, Back}
-use Rattle.sysv_seats.specs.Asked.{Asks}
+use Rattle.sysv_service.specs.Told.{TellsRow}
+use Rattle.sysv_wire.specs.declared.reply.Reply.{Reply as Answer}
+use Rattle.sysv_wire.specs.Frames.{op_number}
+use Rattle.sysv_seats.specs.Asked.{Asks, ComesFrom, ReadsReleased}
 use Rattle.sysv_seats.specs.Fates.{EachMessageIsSpentOrHeld, given_by, held_count, returned_by, spent_by}
 use Rattle.sysv_seats.specs.Held.{HoldAsks}
-use Rattle.sysv_seats.specs.Holding.{Holder, Message, back_outcome, done_outcome, held_by, hold_outcome, kept_by}
+use Rattle.sysv_seats.specs.Holding as holding
+use Rattle.sysv_seats.specs.Holding.{Holder, Message, Timed, back_outcome, done_outcome, held_by, hold_outcome, kept_by}
+use Rattle.sysv_seats.specs.Holding.{late_by}
 use Rattle.sysv_seats.specs.Sits.{zero_moment}
 use Rattle.sysv_seats.specs.Replies.{done_reply, given_reply, id_reply, row_reply, stat_reply}
 use Rattle.sysv_seats.proofs.HeldPieces.{none_held}
@@ -87,12 +94,12 @@ module _ (may : ℕ → Type 0) (may_leave : Type 0) (version : Version) (cred :
   neither Back text before outcome given after unspent asked = subst IsNeither (sym asked.0.1) (refl, refl)
 
   -- What a hold takes is held.
-  holds_one : (id : ℤ) (answer : Result Given Errno) (given : List ℕ) →
+  holds_one : (id : ℤ) (seconds : ℕ) (answer : Result Given Errno) (given : List ℕ) →
       given_by (hold_outcome version (given_reply version answer))
       ≡ spent_by (hold_outcome version (given_reply version answer))
-      + held_count (held_by cred id (given_reply version answer) given)
-  holds_one id (Ok delivery) given = refl
-  holds_one id (Err why) given = refl
+      + held_count (held_by cred id seconds (given_reply version answer) given)
+  holds_one id seconds (Ok delivery) given = refl
+  holds_one id seconds (Err why) given = refl
 
   spends_one : (message : Option Message) → held_count message + given_by (done_outcome version message)
       ≡ spent_by (done_outcome version message)
@@ -123,7 +130,8 @@ module _ (may : ℕ → Type 0) (may_leave : Type 0) (version : Version) (cred :
   back old outcome new message came is told held neither counts =
       let kept : new.message ≡ kept_by (Some message) came =
       held ∙ ap (λ (h : Option Message). kept_by h came) is in
-      let returned : returned_by Back outcome old.message ≡ returned_by Back (back_outcome version came) (Some message) =
+      let returned : returned_by Back outcome old.message
+      ≡ returned_by Back (back_outcome version came) (Some message) =
       ap₂ (returned_by Back) told is in
       omega (
         arith,
@@ -150,11 +158,11 @@ module _ (may : ℕ → Type 0) (may_leave : Type 0) (version : Version) (cred :
       omega (arith, counts)
   one (Hold id size mtype flags seconds) text old outcome given new
       (inr (inr (can, came, granted, asks, inl over, is, held))) =
-      let none = none_held flags seconds old.message can in
+      let none = none_held flags old.message can in
       let whole : came ≡ given_reply version over.0 = over.4 in
       let counts = subst (λ (o : RequestOutcome). given_by (hold_outcome version o)
-      ≡ spent_by (hold_outcome version o) + held_count (held_by cred id o given)) (sym whole)
-      (holds_one id over.0 given) in
+      ≡ spent_by (hold_outcome version o) + held_count (held_by cred id seconds o given)) (sym whole)
+      (holds_one id seconds over.0 given) in
       omega (
         arith,
         counts,
@@ -165,10 +173,10 @@ module _ (may : ℕ → Type 0) (may_leave : Type 0) (version : Version) (cred :
       )
   one (Hold id size mtype flags seconds) text old outcome given new
       (inr (inr (can, came, granted, asks, inr left, is, held))) =
-      let none = none_held flags seconds old.message can in
+      let none = none_held flags old.message can in
       let gone : outcome ≡ Left = is ∙ ap (hold_outcome version) left.2 in
       let nothing : new.message ≡ None =
-      held ∙ ap (λ (o : RequestOutcome). held_by cred id o given) left.2 in
+      held ∙ ap (λ (o : RequestOutcome). held_by cred id seconds o given) left.2 in
       omega (arith, ap held_count none, ap held_count nothing, ap given_by gone, ap spent_by gone)
   one Done text old outcome given new asked =
       let none : new.message ≡ None = ap (λ (h : Holder Pass). h.message) asked.0 in
@@ -201,12 +209,61 @@ module _ (may : ℕ → Type 0) (may_leave : Type 0) (version : Version) (cred :
       (neither ask text old.at outcome given new.at (λ is. cc is) asked.0) asked.1 in
       omega (arith, counts)
 
-pub each_message : EachMessageIsSpentOrHeld
-each_message cred old [] new is = omega (arith, ap (λ (h : Holder Pass). held_count h.message) is)
-each_message cred old (call ∷ calls) new leads =
+-- ---- the time of what is held
+
+-- A message whose time was over has a reply to its send, or is still held.
+replied_one : (message : Message) (late : List Answer) (answer : Result ⊤ Errno) →
+    1 + length late ≡ length (late_by late (done_reply Three op.Snd content.Snd answer))
+    + held_count (kept_by (Some message) (done_reply Three op.Snd content.Snd answer))
+replied_one message late (Ok zero) =
+    let answer : Answer = record { version = Three; op = op_number op.Snd; result = content.Snd } in
+    omega (arith, length-append late (answer ∷ []))
+replied_one message late (Err why) =
+    let answer : Answer = record { version = Three; op = op_number op.Snd; result = content.Refused why } in
+    omega (arith, length-append late (answer ∷ []))
+
+lapse_one : (message : Message) (late : List Answer) (before : Pass) (outcome : RequestOutcome) (after : Pass) →
+    holding.SendsAgain ComesFrom ReadsReleased TellsRow zero_moment ⊤ message before outcome after →
+    1 + length late ≡ length (late_by late outcome) + held_count (kept_by (Some message) outcome)
+lapse_one message late before outcome after (released, mid, read, inl over) =
+    subst (λ (o : RequestOutcome). 1 + length late ≡ length (late_by late o) + held_count (kept_by (Some message) o))
+    (sym over.4) (replied_one message late over.0)
+lapse_one message late before outcome after (released, mid, read, inr left) =
+    subst (λ (o : RequestOutcome). 1 + length late ≡ length (late_by late o) + held_count (kept_by (Some message) o))
+    (sym left.1) (omega arith)
+
+-- The number of messages that are held or were sent again.
+abbrev counted : Timed Pass → ℕ
+counted state = held_count state.holder.message + length state.late
+
+lapses_keep : (before : Timed Pass) (outcome : RequestOutcome) (after : Timed Pass) →
+    holding.Lapses ComesFrom ReadsReleased TellsRow zero_moment before outcome after → counted before ≡ counted after
+lapses_keep before outcome after (message, is, limited, sends, kept, late) =
     omega (
       arith,
-      one zero_moment ⊤ call.request.version cred call.request.ask call.text old call.outcome call.given leads.0
-          leads.1,
-      each_message cred leads.0 calls new leads.2,
+      lapse_one message before.late before.holder.at outcome after.holder.at sends,
+      ap held_count is,
+      ap held_count (kept ∙ ap (λ (h : Option Message). kept_by h outcome) is),
+      ap (length {A = Answer}) late,
+    )
+
+lapsed_keep : (before : Timed Pass) (outcomes : List RequestOutcome) (after : Timed Pass) →
+    FoldsTo (holding.Lapses ComesFrom ReadsReleased TellsRow zero_moment) before outcomes after →
+    counted before ≡ counted after
+lapsed_keep before [] after is = ap counted is
+lapsed_keep before (outcome ∷ outcomes) after (mid, one, more) =
+    lapses_keep before outcome mid one ∙ lapsed_keep mid outcomes after more
+
+pub each_message : EachMessageIsSpentOrHeld
+each_message cred old [] settled new is lapsed =
+    let kept = lapsed_keep settled lapsed.0 new lapsed.1 in omega (arith, ap counted is, kept)
+each_message cred old (call ∷ calls) settled new leads lapsed =
+    let asks = leads.1 in
+    omega (
+      arith,
+      lapsed_keep old asks.1.0 asks.0 asks.1.1,
+      one zero_moment ⊤ call.request.version cred call.request.ask call.text asks.0.holder call.outcome call.given
+          leads.0.holder asks.2,
+      ap (length {A = Answer}) asks.3,
+      each_message cred leads.0 calls settled new leads.2 lapsed,
     )

@@ -2,7 +2,7 @@
 use Rattle.std.proofs.Common.{◌≡◌, ◌∙◌, ℕ, ℤ, Bool, true, false, List, [], Option, None, Some, inl, inr, refl, sym}
 use Rattle.std.proofs.Common.{Ok, Err}
 use Rattle.std.proofs.Common.{subst, subst₂, length, arith, ap}
-use Rattle.std.specs.Prelude.{⊤, ◌≤◌, ◌&&◌, ◌==◌, not, cond, Result}
+use Rattle.std.specs.Prelude.{⊤, ◌≤◌, ◌&&◌, not, cond, Result}
 use Rattle.sysv_model.specs.declared.cred.Cred.{Cred}
 use Rattle.sysv_model.specs.declared.errno.Errno.{Errno}
 use Rattle.sysv_model.specs.declared.errno.Errno.TheVariants.{EAGAIN, EINVAL}
@@ -52,17 +52,14 @@ IsNoHold ask = (id : ℤ) (size : ℕ) (mtype : ℤ) (flags : Flags)
 
 -- ---- what may be held
 
-two_of : (a b : Bool) → (a && (b && false)) ≡ true → ⊥
-two_of true true is = cc is
-two_of true false is = cc is
-two_of false b is = cc is
+no_two : (a : Bool) → (a && false) ≡ true → ⊥
+no_two true is = cc is
+no_two false is = cc is
 
 -- A session that may hold a message holds none.
-pub none_held : (flags : Flags) (seconds : ℕ) (message : Option Message) → can_hold flags seconds message ≡ true →
-    message ≡ None
-none_held flags seconds None can = refl
-none_held flags seconds (Some message) can =
-    absurd (two_of (seconds == 0) (not (has_flag MSG_NOERROR flags)) can)
+pub none_held : (flags : Flags) (message : Option Message) → can_hold flags message ≡ true → message ≡ None
+none_held flags None can = refl
+none_held flags (Some message) can = absurd (no_two (not (has_flag MSG_NOERROR flags)) can)
 
 module _ (may : ℕ → Type 0) (version : Version) (cred : Cred) where
   -- ---- the end
@@ -75,21 +72,24 @@ module _ (may : ℕ → Type 0) (version : Version) (cred : Cred) where
   hold_asks_any may_leave (Hold id size mtype flags seconds) text before outcome given after (inr (inl denied)) =
       inr (inl denied)
   hold_asks_any may_leave (Hold id size mtype flags seconds) text before outcome given after
-      (inr (inr (can, came, granted, asks, inl over, is, held))) = inr (inr (can, came, granted, asks, inl over, is, held))
+      (inr (inr (can, came, granted, asks, inl over, is, held))) =
+      inr (inr (can, came, granted, asks, inl over, is, held))
   hold_asks_any may_leave (Hold id size mtype flags seconds) text before outcome given after
       (inr (inr (can, came, granted, asks, inr leaves, is, held))) = absurd leaves.0.0
   hold_asks_any may_leave Done text before outcome given after asked = asked
   hold_asks_any may_leave Back text before outcome given after (inl refused) = inl refused
-  hold_asks_any may_leave Back text before outcome given after (inr (message, is, came, sends, told, held, none)) = inr (
-    message,
-    is,
-    came,
-    (asks_any may Three message.cred may_leave (Snd message.id message.mtype no_flags) message.text before.at came []
-        after.at (sends, refl)).0,
-    told,
-    held,
-    none,
-  )
+  hold_asks_any may_leave Back text before outcome given after (inr (message, is, came, sends, told, held, none)) =
+      inr (
+        message,
+        is,
+        came,
+        (asks_any may Three message.cred may_leave (Snd message.id message.mtype no_flags) message.text before.at came
+            []
+            after.at (sends, refl)).0,
+        told,
+        held,
+        none,
+      )
   hold_asks_any may_leave ask text before outcome given after asked =
       (asks_any may version cred may_leave ask text before.at outcome given after.at asked.0, asked.1)
 
@@ -105,7 +105,7 @@ module _ (may : ℕ → Type 0) (version : Version) (cred : Cred) where
         asks,
         left may version cred may_leave (Rcv id size mtype flags) text granted waiting after.at leaves parked,
         refl,
-        same ∙ none_held flags seconds before.message can,
+        same ∙ none_held flags before.message can,
       ))
   hold_left may_leave Done text before waiting after leaves parked = absurd parked.0
   hold_left may_leave Back text before waiting after leaves (message, is, parked, same) = inr (
@@ -154,7 +154,7 @@ module _ (may : ℕ → Type 0) (version : Version) (cred : Cred) where
 
   -- A hold was refused, and no call was made.
   pub hold_refused : (id : ℤ) (size : ℕ) (mtype : ℤ) (flags : Flags) (seconds : ℕ) (text : List ℕ)
-      (before : Holder Pass) (can : Bool) (given : List ℕ) → can ≡ can_hold flags seconds before.message →
+      (before : Holder Pass) (can : Bool) (given : List ℕ) → can ≡ can_hold flags before.message →
       given ≡ [] →
       HoldBegun may version cred (Hold id size mtype flags seconds) text before
       (progress.Over (the_reply version op.Hold (content.Refused (cond can EAGAIN EINVAL)))) given before
@@ -164,7 +164,7 @@ module _ (may : ℕ → Type 0) (version : Version) (cred : Cred) where
   -- A hold was refused, since its caller may not send to the queue.
   pub hold_denied : (id : ℤ) (size : ℕ) (mtype : ℤ) (flags : Flags) (seconds : ℕ) (text : List ℕ)
       (before : Holder Pass) (why : Errno) (given : List ℕ) (after : Holder Pass) →
-      can_hold flags seconds before.message ≡ true → AsksForWriting cred id before.at (Err why) after.at →
+      can_hold flags before.message ≡ true → AsksForWriting cred id before.at (Err why) after.at →
       after.message ≡ before.message → given ≡ [] →
       HoldBegun may version cred (Hold id size mtype flags seconds) text before
       (progress.Over (the_reply version op.Hold (content.Refused why))) given after
@@ -174,14 +174,15 @@ module _ (may : ℕ → Type 0) (version : Version) (cred : Cred) where
   -- A hold has come as far as its receive.
   pub hold_begun : (id : ℤ) (size : ℕ) (mtype : ℤ) (flags : Flags) (seconds : ℕ) (text : List ℕ) (before : Holder Pass)
       (granted : Pass) (came : Progress Waiting RequestOutcome) (given : List ℕ) (after : Holder Pass) →
-      can_hold flags seconds before.message ≡ true → AsksForWriting cred id before.at (Ok tt) granted →
+      can_hold flags before.message ≡ true → AsksForWriting cred id before.at (Ok tt) granted →
       HasBegun may version cred (Rcv id size mtype flags) text granted came given after.at →
-      after.message ≡ held_at cred id came given →
+      after.message ≡ held_at cred id seconds came given →
       HoldBegun may version cred (Hold id size mtype flags seconds) text before (hold_progress version came) given after
-  hold_begun id size mtype flags seconds text before granted (progress.Waits waiting) given after can asks begun held = (
-    (can, granted, asks, begun.0, held ∙ sym (none_held flags seconds before.message can)),
-    begun.1,
-  )
+  hold_begun id size mtype flags seconds text before granted (progress.Waits waiting) given after can asks begun
+      held = (
+        (can, granted, asks, begun.0, held ∙ sym (none_held flags before.message can)),
+        begun.1,
+      )
   hold_begun id size mtype flags seconds text before granted (progress.Over outcome) given after can asks begun held =
       inr (inr (can, outcome, granted, asks, begun, refl, held))
 
@@ -206,7 +207,7 @@ module _ (may : ℕ → Type 0) (version : Version) (cred : Cred) where
       (after : Holder Pass) →
       ((granted : Pass) → IsParked may cred (Rcv id size mtype flags) text granted waiting before.at →
       HasBegun may version cred (Rcv id size mtype flags) text granted came given after.at) →
-      after.message ≡ held_at cred id came given →
+      after.message ≡ held_at cred id seconds came given →
       HoldParked may cred (Hold id size mtype flags seconds) text start waiting before →
       HoldBegun may version cred (Hold id size mtype flags seconds) text start (hold_progress version came) given after
   hold_on id size mtype flags seconds text start waiting before came given after on held
@@ -282,7 +283,8 @@ module _ (may : ℕ → Type 0) (version : Version) (cred : Cred) where
       HoldBegun may version cred Back text before result given after
   back_came text message who id mtype flags body before came after result given is same_cred same_id same_type none
       same_body begun held told empty =
-      let one = subst (λ (c : Cred). HasBegun may Three c (Snd id mtype flags) body before.at came [] after.at) same_cred
+      let one =
+      subst (λ (c : Cred). HasBegun may Three c (Snd id mtype flags) body before.at came [] after.at) same_cred
       begun in
       let two = subst (λ (i : ℤ). HasBegun may Three message.cred (Snd i mtype flags) body before.at came [] after.at)
       same_id one in
@@ -292,7 +294,8 @@ module _ (may : ℕ → Type 0) (version : Version) (cred : Cred) where
       came [] after.at) (none_set flags none) three in
       let five = subst (λ (b : List ℕ). HasBegun may Three message.cred (Snd message.id message.mtype no_flags) b
       before.at came [] after.at) same_body four in
-      subst₂ (λ (r : Progress Waiting RequestOutcome) (g : List ℕ). HoldBegun may version cred Back text before r g after)
+      subst₂ (λ (r : Progress Waiting RequestOutcome) (g : List ℕ).
+      HoldBegun may version cred Back text before r g after)
       (sym told) (sym empty) (back_begun may version cred text message before came after is five held)
 
   -- It looked at its count once.
@@ -318,7 +321,8 @@ module _ (may : ℕ → Type 0) (version : Version) (cred : Cred) where
       empty parked =
       let one = subst (λ (w : Waiting). GoesOn may Three w body before.at came [] after.at) (sym by_send) goes in
       let two = subst (λ (b : List ℕ). GoesOn may Three waiting b before.at came [] after.at) same_body one in
-      subst₂ (λ (r : Progress Waiting RequestOutcome) (g : List ℕ). HoldBegun may version cred Back text start r g after)
+      subst₂ (λ (r : Progress Waiting RequestOutcome) (g : List ℕ).
+      HoldBegun may version cred Back text start r g after)
       (sym told) (sym empty) (back_on may version cred text message start waiting before came after is two held parked)
 
 -- ---- what is received is short
@@ -370,7 +374,8 @@ pub looks_beside : (may : ℕ → Type 0) (version : Version) (cred : Cred) (ask
     (before : Holder Pass) (came : Progress Waiting RequestOutcome) (given : List ℕ) (after : Holder Pass) →
     IsNoHold ask → (ask ≡ Back → ⊥) → GoesOnBeside may version waiting text before came given after →
     AnyGoesOn may version cred ask waiting text before came given after
-looks_beside may version cred (Hold id size mtype flags seconds) waiting text before came given after not no_back looks =
+looks_beside may version cred (Hold id size mtype flags seconds) waiting text before came given after not no_back
+    looks =
     absurd (not id size mtype flags seconds refl)
 looks_beside may version cred Back waiting text before came given after not no_back looks = absurd (no_back refl)
 looks_beside may version cred ask waiting text before came given after not no_back looks = looks

@@ -4,6 +4,7 @@ pub mod SendFrame
 pub mod HeldPieces
 pub mod ClientLemmas
 pub mod ClientSteps
+pub mod Said
 pub mod Returns
 pub mod Fated
 pub mod Known

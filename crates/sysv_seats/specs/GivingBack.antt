@@ -1,7 +1,7 @@
 -- How the message that a session held at its end is given back (this project's profile): by a send of the
 -- same body with the same type to the same queue, without flags and with the session's credentials. It may
 -- wait like any send.
-use Rattle.std.specs.Prelude.{◌≡◌, ◌+◌, ℕ, Bool, true, false, Option, None, Some, length}
+use Rattle.std.specs.Prelude.{◌≡◌, ◌+◌, ◌-◌, ◌^◌, min, ℕ, Bool, true, false, Option, None, Some, length}
 use Rattle.sysv_session.specs.declared.handler.RequestOutcome.{RequestOutcome}
 use Rattle.sysv_session.specs.declared.handler.RequestOutcome.TheVariants.{Reply, Got, Left}
 use Rattle.sysv_model.specs.declared.errno.Errno.TheVariants.{EINVAL, EIDRM}
@@ -11,6 +11,7 @@ use Rattle.sysv_seats.specs.declared.returning.Fate.{Fate}
 use Rattle.sysv_seats.specs.declared.returning.Fate.TheVariants as fate
 use Rattle.sysv_seats.specs.declared.returning.Return.{Return}
 use Rattle.sysv_seats.specs.declared.returning.Return.TheVariants as come
+use Rattle.sysv_seats.specs.declared.returning.Returned.{Returned}
 use Rattle.sysv_session.specs.Answers.{IsReplied, is_message}
 use Rattle.sysv_service.specs.declared.progress.Progress.{Progress}
 use Rattle.sysv_service.specs.declared.progress.Progress.TheVariants as progress
@@ -77,6 +78,12 @@ abbrev pub fate_of : RequestOutcome → Fate
 fate_of (Reply reply) = fate_by reply.result
 fate_of (Got delivery) = fate.Refused
 fate_of Left = fate.Refused
+
+-- The numbers with one message more.
+abbrev pub one_returned : Fate → Returned → Returned
+one_returned fate.Sent returns = record returns { sent = min (returns.sent + 1) (2 ^ 64 - 1) }
+one_returned fate.Discarded returns = record returns { gone = min (returns.gone + 1) (2 ^ 64 - 1) }
+one_returned fate.Refused returns = record returns { gone = min (returns.gone + 1) (2 ^ 64 - 1) }
 
 -- The return of what was held with the pass `start` has come so far: it waits, or it is over, and nothing is
 -- held.

@@ -24,7 +24,7 @@ use Rattle.sysv_seats.specs.declared.waiting.Waiting.{Waiting}
 use Rattle.sysv_seats.specs.declared.waiting.Waiting.TheVariants.{Send, Receive}
 use Rattle.sysv_seats.specs.Asked.{ComesFrom, ReadsReleased}
 use Rattle.sysv_seats.specs.Holding as holding
-use Rattle.sysv_seats.specs.Holding.{Holder, Message, back_outcome, can_hold, empty_handed, held_by, hold_outcome}
+use Rattle.sysv_seats.specs.Holding.{Holder, Message, Timed, back_outcome, begun_with, can_hold, held_by, hold_outcome}
 use Rattle.sysv_seats.specs.Holding.{no_flags}
 use Rattle.sysv_seats.specs.Parked.{GoesOn, IsParked, IsWaitOf}
 
@@ -42,16 +42,27 @@ abbrev pub Spends : Version → Holder Pass → RequestOutcome → List ℕ → 
 Spends = holding.Spends ComesFrom ReadsReleased TellsRow
 
 -- What the calls of a session mean that may hold a message.
-abbrev pub holds_with : (ℕ → Type 0) → Type 0 → Meaning (Holder Pass)
+abbrev pub holds_with : (ℕ → Type 0) → Type 0 → Meaning (Timed Pass)
 holds_with may may_leave old cred request text outcome given new =
-    HoldAsks may may_leave request.version cred request.ask text old outcome given new
+    holding.TimedAsks ComesFrom ReadsReleased TellsRow may may_leave request.version cred request.ask text old outcome
+    given new
+
+-- The time of what is held was over, and it was sent again.
+abbrev pub Lapses : (ℕ → Type 0) → Timed Pass → RequestOutcome → Timed Pass → Type 0
+Lapses = holding.Lapses ComesFrom ReadsReleased TellsRow
+
+-- That happened any number of times.
+abbrev pub LapsesTo : (ℕ → Type 0) → Timed Pass → Timed Pass → Type 0
+LapsesTo = holding.LapsesTo ComesFrom ReadsReleased TellsRow
 
 -- What a session that read versions up to the newest one did to its pass, and what it held at its end.
--- Its replies were gathered, and it held nothing at its start.
-abbrev pub ServesHolding : Version → (ℕ → Type 0) → Type 0 → Served → (old : Pass) → (new : Holder Pass) →
+-- Its replies were gathered, and it held nothing at its start. After its last request too, the time of what
+-- it held may have been over.
+abbrev pub ServesHolding : Version → (ℕ → Type 0) → Type 0 → Served → (old : Pass) → (new : Timed Pass) →
     (left rest taken more : Option (List ℕ)) → Type 0
-ServesHolding newest may may_leave served old new left rest taken more =
-    ServesTogether newest (holds_with may may_leave) SLOTS served (empty_handed old) new left rest taken more
+ServesHolding newest may may_leave served old new left rest taken more = (settled : Timed Pass)
+    × ServesTogether newest (holds_with may may_leave) SLOTS served (begun_with old) settled left rest taken more
+    × LapsesTo may settled new
 
 -- ---- requests in pieces
 
@@ -66,10 +77,10 @@ abbrev pub AsksForWriting : Cred → ℤ → Pass → Result ⊤ Errno → Pass 
 AsksForWriting = holding.AsksForWriting ComesFrom ReadsReleased TellsRow
 
 -- The session may hold a message of the queue, and the receive of its hold is parked.
-abbrev pub ReceiveParked : (ℕ → Type 0) → Cred → ℤ → ℕ → ℤ → Flags → (seconds : ℕ) → List ℕ → Holder Pass → Waiting →
-    Holder Pass → Type 0
-ReceiveParked may cred id size mtype flags seconds text before waiting after =
-    (can_hold flags seconds before.message ≡ true) × (granted : Pass) × AsksForWriting cred id before.at (Ok tt) granted
+abbrev pub ReceiveParked : (ℕ → Type 0) → Cred → ℤ → ℕ → ℤ → Flags → List ℕ → Holder Pass → Waiting → Holder Pass →
+    Type 0
+ReceiveParked may cred id size mtype flags text before waiting after =
+    (can_hold flags before.message ≡ true) × (granted : Pass) × AsksForWriting cred id before.at (Ok tt) granted
     × IsParked may cred (Rcv id size mtype flags) text granted waiting after.at × (after.message ≡ before.message)
 
 -- The send of what is held is parked.
@@ -82,7 +93,7 @@ BackParked may before waiting after = (message : Message) × (before.message ≡
 -- held. What is held stays.
 abbrev pub HoldParked : (ℕ → Type 0) → Cred → Ask → List ℕ → Holder Pass → Waiting → Holder Pass → Type 0
 HoldParked may cred (Hold id size mtype flags seconds) text before waiting after =
-    ReceiveParked may cred id size mtype flags seconds text before waiting after
+    ReceiveParked may cred id size mtype flags text before waiting after
 HoldParked may cred Back text before waiting after = BackParked may before waiting after
 HoldParked may cred ask text before waiting after =
     IsParked may cred ask text before.at waiting after.at × (after.message ≡ before.message)
@@ -117,18 +128,18 @@ held_after held (progress.Waits waiting) = held
 held_after held (progress.Over outcome) = None
 
 -- What is held once the receive of a hold has come so far. While it waits, nothing is held.
-abbrev pub held_at : Cred → ℤ → Progress Waiting RequestOutcome → List ℕ → Option Message
-held_at cred id (progress.Waits waiting) given = None
-held_at cred id (progress.Over outcome) given = held_by cred id outcome given
+abbrev pub held_at : Cred → ℤ → (seconds : ℕ) → Progress Waiting RequestOutcome → List ℕ → Option Message
+held_at cred id seconds (progress.Waits waiting) given = None
+held_at cred id seconds (progress.Over outcome) given = held_by cred id seconds outcome given
 
 -- A parked hold was left at its wait, since memory for its message was refused or a message is held; or its receive
 -- looked at its count once, and what it took is held.
-abbrev pub HoldGoesOn : (ℕ → Type 0) → Version → Cred → ℤ → Waiting → List ℕ → Holder Pass →
+abbrev pub HoldGoesOn : (ℕ → Type 0) → Version → Cred → ℤ → (seconds : ℕ) → Waiting → List ℕ → Holder Pass →
     Progress Waiting RequestOutcome → List ℕ → Holder Pass → Type 0
-HoldGoesOn may version cred id waiting text before result given after =
+HoldGoesOn may version cred id seconds waiting text before result given after =
     ((result ≡ progress.Waits waiting) × (after ≡ before) × (given ≡ []))
     ⊎ ((came : Progress Waiting RequestOutcome) × GoesOn may version waiting text before.at came given after.at
-    × (result ≡ hold_progress version came) × (after.message ≡ held_at cred id came given))
+    × (result ≡ hold_progress version came) × (after.message ≡ held_at cred id seconds came given))
 
 -- The parked call of any other request looked at its count once. What is held stays.
 abbrev pub GoesOnBeside : (ℕ → Type 0) → Version → Waiting → List ℕ → Holder Pass → Progress Waiting RequestOutcome →
@@ -149,7 +160,7 @@ BackGoesOn may version waiting before result given after =
 abbrev pub AnyGoesOn : (ℕ → Type 0) → Version → Cred → Ask → Waiting → List ℕ → Holder Pass →
     Progress Waiting RequestOutcome → List ℕ → Holder Pass → Type 0
 AnyGoesOn may version cred (Hold id size mtype flags seconds) waiting text before result given after =
-    HoldGoesOn may version cred id waiting text before result given after
+    HoldGoesOn may version cred id seconds waiting text before result given after
 AnyGoesOn may version cred Back waiting text before result given after =
     BackGoesOn may version waiting before result given after
 AnyGoesOn may version cred ask waiting text before result given after =

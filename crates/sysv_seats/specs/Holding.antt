@@ -1,8 +1,11 @@
 -- Messages that sessions hold (this project's profile). A hold is a receive whose message the session
 -- remembers, a done spends it, and a back gives it back: by a `msgsnd` of the same body, with the same
 -- type, to the same queue, without flags and with the session's credentials. A session holds one message
--- at most. If it ends before the message is spent or given back, such a `msgsnd` follows it.
-use Rattle.std.specs.Prelude.{◌≡◌, ◌⊎◌, ◌&&◌, ◌==◌, ⊤, ℕ, ℤ, Bool, true, not, List, [], Option, None, Some, Result}
+-- at most. If it ends before the message is spent or given back, such a `msgsnd` follows it. So it does
+-- between two requests if the hold has a limit of time that is over.
+use Rattle.std.specs.Prelude.{◌≡◌, ◌≤◌, ◌⊎◌, ◌&&◌, ⊤, ℕ, ℤ, Bool, true, not, List, [], ◌∷◌, ◌++◌, Option, None, Some}
+use Rattle.std.specs.Prelude.{Result}
+use Rattle.std.specs.List.{FoldsTo}
 use Rattle.std.specs.Prelude.{Ok, Err}
 use Rattle.std.specs.Prelude.{cond, is_some}
 use Rattle.sysv_model.specs.declared.attributes.Row.{Row as Line}
@@ -21,10 +24,11 @@ use Rattle.sysv_session.specs.declared.handler.RequestOutcome.TheVariants.{Reply
 use Rattle.sysv_wire.specs.declared.frame.Op.TheVariants as op
 use Rattle.sysv_wire.specs.declared.frame.Version.{Version}
 use Rattle.sysv_wire.specs.declared.frame.Version.TheVariants.{Three}
+use Rattle.sysv_wire.specs.declared.reply.Reply.{Reply as Answer}
 use Rattle.sysv_wire.specs.declared.reply.ReplyContent.{ReplyContent}
 use Rattle.sysv_wire.specs.declared.reply.ReplyContent.TheVariants as content
 use Rattle.sysv_wire.specs.declared.request.Ask.{Ask}
-use Rattle.sysv_wire.specs.declared.request.Ask.TheVariants.{Rcv, Hold, Done, Back}
+use Rattle.sysv_wire.specs.declared.request.Ask.TheVariants.{Hold, Done, Back}
 use Rattle.sysv_seats.specs.Replies.{reply}
 use Rattle.sysv_seats.specs.Requests.{Going, Asks, Ends, Receives, Sends}
 use Rattle.sysv_steps.specs.Call.{MsgctlStat}
@@ -32,11 +36,12 @@ use Rattle.sysv_steps.specs.State.{Ending}
 use Rattle.sysv_steps.specs.Stepping.{no_moment}
 
 -- A message that a session holds, and how it is given back: by a send with these credentials to this
--- queue.
+-- queue. It may be held for this number of seconds, 0 for no limit. That the seconds pass is not stated.
 pub record Message : Type 0 where
   pub cred : Cred
   pub id : ℤ
   pub mtype : ℤ
+  pub seconds : ℕ
   pub text : List ℕ
 
 -- What makes the calls of a session, and the message that the session holds.
@@ -44,18 +49,42 @@ pub record Holder (K : Type 0) : Type 0 where
   pub at : K
   pub message : Option Message
 
+-- The seconds of the message that is held, or 0.
+abbrev pub seconds_of : Option Message → ℕ
+seconds_of None = 0
+seconds_of (Some message) = message.seconds
+
 -- Nothing is held.
 abbrev pub empty_handed : {K : Type 0} → K → Holder K
 empty_handed at = record { at = at; message = None }
 
--- A session may hold one more message: it holds none, its message has to be whole, so that it can come
--- back, and there is no limit of time.
-abbrev pub can_hold : Flags → (seconds : ℕ) → Option Message → Bool
-can_hold flags seconds message = (seconds == 0) && (not (has_flag MSG_NOERROR flags) && not (is_some message))
+-- The same, and the replies to the sends that gave back messages since the session began, since their time was
+-- over, in order.
+pub record Timed (K : Type 0) : Type 0 where
+  pub holder : Holder K
+  pub late : List Answer
+
+abbrev pub timed : {K : Type 0} → Holder K → List Answer → Timed K
+timed holder late = record { holder = holder; late = late }
+
+-- A session begins. It holds nothing, and nothing was given back.
+abbrev pub begun_with : {K : Type 0} → K → Timed K
+begun_with at = timed (empty_handed at) []
+
+-- These replies and that of one more send, if it has one.
+abbrev pub late_by : List Answer → RequestOutcome → List Answer
+late_by late (Reply answer) = late ++ answer ∷ []
+late_by late (Got delivery) = late
+late_by late Left = late
+
+-- A session may hold one more message: it holds none, and its message has to be whole, so that it can come
+-- back.
+abbrev pub can_hold : Flags → Option Message → Bool
+can_hold flags message = not (has_flag MSG_NOERROR flags) && not (is_some message)
 
 -- Why a hold is refused that makes no call. If the session may hold a message, there is no memory for it.
-abbrev pub why_refused : Flags → (seconds : ℕ) → Option Message → Errno
-why_refused flags seconds message = cond (can_hold flags seconds message) EAGAIN EINVAL
+abbrev pub why_refused : Flags → Option Message → Errno
+why_refused flags message = cond (can_hold flags message) EAGAIN EINVAL
 
 -- The outcome of a hold, by that of its receive. Its reply has the message, which the session holds, so
 -- that it is neither written nor lost.
@@ -65,10 +94,11 @@ hold_outcome version (Got delivery) = reply version op.Hold (content.Hold delive
 hold_outcome version Left = Left
 
 -- The message that is held after a receive from this queue with this outcome.
-abbrev pub held_by : Cred → ℤ → RequestOutcome → List ℕ → Option Message
-held_by cred id (Reply answer) given = None
-held_by cred id (Got delivery) given = Some (record { cred = cred; id = id; mtype = delivery.mtype; text = given })
-held_by cred id Left given = None
+abbrev pub held_by : Cred → ℤ → (seconds : ℕ) → RequestOutcome → List ℕ → Option Message
+held_by cred id seconds (Reply answer) given = None
+held_by cred id seconds (Got delivery) given =
+    Some (record { cred = cred; id = id; mtype = delivery.mtype; seconds = seconds; text = given })
+held_by cred id seconds Left given = None
 
 -- The reply to a done: 0 if a message was held.
 abbrev pub done_outcome : Version → Option Message → RequestOutcome
@@ -107,9 +137,9 @@ no_flags = record { 0 = 0 }
 module _ {K : Type 0} (Comes : Going K) (ReadsReleased : ℕ → K → K → Type 0)
     (TellsRow : ℕ → K → Result (Option Line) Errno → K → Type 0) where
   -- A hold was refused, and no call was made.
-  abbrev pub HoldIsRefused : Version → Flags → (seconds : ℕ) → Holder K → RequestOutcome → List ℕ → Holder K → Type 0
-  HoldIsRefused version flags seconds before outcome given after = (after ≡ before) × (given ≡ [])
-      × (outcome ≡ reply version op.Hold (content.Refused (why_refused flags seconds before.message)))
+  abbrev pub HoldIsRefused : Version → Flags → Holder K → RequestOutcome → List ℕ → Holder K → Type 0
+  HoldIsRefused version flags before outcome given after = (after ≡ before) × (given ≡ [])
+      × (outcome ≡ reply version op.Hold (content.Refused (why_refused flags before.message)))
 
   -- The attributes of the queue were requested, and the caller may send to it, or not for this reason. Who
   -- may not send to a queue cannot give a message back to it.
@@ -119,10 +149,9 @@ module _ {K : Type 0} (Comes : Going K) (ReadsReleased : ℕ → K → K → Typ
       × TellsStat ending answer × Grants cred answer granted
 
   -- The caller may not send to the queue, and the hold was refused for this reason.
-  abbrev pub HoldIsDenied : Version → Cred → ℤ → Flags → (seconds : ℕ) → Holder K → RequestOutcome → List ℕ → Holder K →
-      Type 0
-  HoldIsDenied version cred id flags seconds before outcome given after =
-      (can_hold flags seconds before.message ≡ true) × (why : Errno)
+  abbrev pub HoldIsDenied : Version → Cred → ℤ → Flags → Holder K → RequestOutcome → List ℕ → Holder K → Type 0
+  HoldIsDenied version cred id flags before outcome given after =
+      (can_hold flags before.message ≡ true) × (why : Errno)
       × AsksForWriting cred id before.at (Err why) after.at × (outcome ≡ reply version op.Hold (content.Refused why))
       × (after.message ≡ before.message) × (given ≡ [])
 
@@ -130,17 +159,17 @@ module _ {K : Type 0} (Comes : Going K) (ReadsReleased : ℕ → K → K → Typ
   abbrev pub HoldReceives : (ℕ → Type 0) → Type 0 → Version → Cred → ℤ → ℕ → ℤ → Flags → (seconds : ℕ) → Holder K →
       RequestOutcome → List ℕ → Holder K → Type 0
   HoldReceives may may_leave version cred id size mtype flags seconds before outcome given after =
-      (can_hold flags seconds before.message ≡ true) × (came : RequestOutcome) × (granted : K)
+      (can_hold flags before.message ≡ true) × (came : RequestOutcome) × (granted : K)
       × AsksForWriting cred id before.at (Ok tt) granted
       × Receives Comes ReadsReleased TellsRow may may_leave version cred id size mtype flags granted came given after.at
-      × (outcome ≡ hold_outcome version came) × (after.message ≡ held_by cred id came given)
+      × (outcome ≡ hold_outcome version came) × (after.message ≡ held_by cred id seconds came given)
 
   -- A hold was refused, before or after the attributes of its queue were requested; or its receive ended or was left.
   abbrev pub Holds : (ℕ → Type 0) → Type 0 → Version → Cred → ℤ → ℕ → ℤ → Flags → (seconds : ℕ) → Holder K →
       RequestOutcome → List ℕ → Holder K → Type 0
   Holds may may_leave version cred id size mtype flags seconds before outcome given after =
-      HoldIsRefused version flags seconds before outcome given after
-      ⊎ HoldIsDenied version cred id flags seconds before outcome given after
+      HoldIsRefused version flags before outcome given after
+      ⊎ HoldIsDenied version cred id flags before outcome given after
       ⊎ HoldReceives may may_leave version cred id size mtype flags seconds before outcome given after
 
   -- What was held is spent. No call was made. If nothing was held, the reply is EINVAL.
@@ -187,6 +216,26 @@ module _ {K : Type 0} (Comes : Going K) (ReadsReleased : ℕ → K → K → Typ
       Backs may may_leave version before outcome given after
   HoldAsks may may_leave version cred ask text before outcome given after =
       AsksBeside may may_leave version cred ask text before outcome given after
+
+  -- ---- the time of what is held
+
+  -- The time of what is held was over, and it was sent again. With the reply to that nothing is held; or the send
+  -- was left at a wait.
+  abbrev pub Lapses : (ℕ → Type 0) → Timed K → RequestOutcome → Timed K → Type 0
+  Lapses may before outcome after = (message : Message) × (before.holder.message ≡ Some message)
+      × (1 ≤ message.seconds) × SendsAgain may ⊤ message before.holder.at outcome after.holder.at
+      × (after.holder.message ≡ kept_by before.holder.message outcome) × (after.late ≡ late_by before.late outcome)
+
+  -- That happened any number of times, with these outcomes.
+  abbrev pub LapsesTo : (ℕ → Type 0) → Timed K → Timed K → Type 0
+  LapsesTo may before after = (outcomes : List RequestOutcome) × FoldsTo (Lapses may) before outcomes after
+
+  -- Request by request. The time of what is held may have been over before it.
+  abbrev pub TimedAsks : (ℕ → Type 0) → Type 0 → Version → Cred → Ask → List ℕ → Timed K → RequestOutcome → List ℕ →
+      Timed K → Type 0
+  TimedAsks may may_leave version cred ask text before outcome given after =
+      (mid : Timed K) × LapsesTo may before mid
+      × HoldAsks may may_leave version cred ask text mid.holder outcome given after.holder × (after.late ≡ mid.late)
 
   -- ---- the end of a session
 

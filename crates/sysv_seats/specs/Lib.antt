@@ -7,6 +7,7 @@ pub mod Parked
 pub mod Notification
 pub mod InPieces
 pub mod Limits
+pub mod Shares
 pub mod Breaking
 pub mod Untold
 pub mod Memory
@@ -16,5 +17,6 @@ pub mod PacedStreams
 pub mod Holding
 pub mod Held
 pub mod Sits
+pub mod Said
 pub mod GivingBack
 pub mod Fates

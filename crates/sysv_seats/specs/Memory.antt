@@ -23,4 +23,4 @@ Keeps book rest (Some written) book' = KeepsMore book written book'
 
 -- How connections in memory end.
 abbrev pub closing_in_memory : Closing PacedStream Replies
-closing_in_memory = record { breaks = breaks_of; leaves = Keeps }
+closing_in_memory = record { breaks = breaks_of; said = λ stream. stream.said; leaves = Keeps }

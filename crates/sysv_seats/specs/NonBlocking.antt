@@ -1,5 +1,5 @@
 -- Reads and writes that never wait (this project's profile).
-use Rattle.std.specs.Prelude.{◌≡◌, ◌≤◌, ℕ, ⊤, List, Option, length, take}
+use Rattle.std.specs.Prelude.{◌≡◌, ◌≤◌, ℕ, ⊤, List, Option, Some, length, take}
 use Rattle.std.specs.Io.KnownBytes.{Appends, Consumes, IsAtEnd, Keeps}
 use Rattle.sysv_seats.specs.declared.non_blocking.Drained.{Drained}
 use Rattle.sysv_seats.specs.declared.non_blocking.Drained.TheVariants as drained
@@ -25,6 +25,13 @@ FillConsumes before after (filled.Bytes count) buffer =
     (1 ≤ count) × IsPrefixLength count buffer × Consumes before after (take count buffer)
 FillConsumes before after filled.NothingNow buffer = Keeps before after
 FillConsumes before after (filled.Over why) buffer = Keeps before after × LeavesNoneAtEnd why after
+
+-- Why nothing more can be read, if a read has said so: what the reads have said after one that returned
+-- this, and what they had said before it.
+abbrev pub said_after : Filled → (before : Option Over) → Option Over
+said_after (filled.Bytes count) before = before
+said_after filled.NothingNow before = before
+said_after (filled.Over why) before = Some why
 
 -- A write that returned this added as many bytes to those that were written before, from the front
 -- of the bytes that it was given, and at least one of them. Any other write added none.

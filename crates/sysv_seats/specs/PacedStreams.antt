@@ -13,14 +13,15 @@ use Rattle.sysv_seats.specs.declared.non_blocking.Over.TheVariants as over
 use Rattle.sysv_seats.specs.Breaking.{Breaks}
 
 -- What the contracts see of a stream in memory: the bytes still to be read, those that were
--- written, the number of bytes that can still be written, the steps of its next reads and writes, and
--- whether its client may leave or be cut off.
+-- written, the number of bytes that can still be written, the steps of its next reads and writes, why
+-- nothing more can be read, if a read has said so, and whether its client may leave or be cut off.
 pub record PacedStream : Type 0 where
   pub unread : List ℕ
   pub written : List ℕ
   pub room : ℕ
   pub reads : List Step
   pub writes : List Step
+  pub said : Option Over
   pub cut : Bool
 
 -- The step of the next read or write. After the last step there is no limit.
@@ -68,10 +69,11 @@ abbrev pub Reads : PacedStream → ℕ → Filled → List ℕ → PacedStream �
 Reads before count result buffer after =
     (result ≡ filled_with count) × (take count buffer ≡ take count before.unread) × (after ≡ after_read before count)
 
--- A read. Once reading is over, its step stays the next one.
+-- A read. Once reading is over, its step stays the next one, and the read has said so.
 abbrev pub FillsAs : Option Over → PacedStream → Filled → List ℕ → PacedStream → Type 0
 FillsAs None before result buffer after = Reads before (readable before (length buffer)) result buffer after
-FillsAs (Some why) before result buffer after = (result ≡ filled.Over why) × (after ≡ before)
+FillsAs (Some why) before result buffer after =
+    (result ≡ filled.Over why) × (after ≡ record before { said = Some why })
 
 -- ---- writing
 

@@ -26,12 +26,13 @@ use Rattle.sysv_wire.specs.declared.frame.Version.{Version}
 use Rattle.sysv_wire.specs.declared.request.Ask.{Ask}
 use Rattle.sysv_wire.specs.declared.request.Ask.TheVariants.{Get as AskGet, Snd, Rcv, Hold, Back}
 use Rattle.sysv_wire.specs.declared.request.Request.{Request}
+use Rattle.sysv_wire.specs.declared.reply.Reply.{Reply as Answer}
 use Rattle.sysv_wire.specs.Requests.{request_encoding}
 use Rattle.sysv_seats.specs.declared.parked.Parked.{Parked}
 use Rattle.sysv_seats.specs.declared.waiting.Waiting.{Waiting}
 use Rattle.sysv_seats.specs.declared.waiting.Waiting.TheVariants.{Send, Receive, Get}
-use Rattle.sysv_seats.specs.Held.{HoldParked, ServesHolding, holds_with}
-use Rattle.sysv_seats.specs.Holding.{Holder, empty_handed}
+use Rattle.sysv_seats.specs.Held.{HoldParked, LapsesTo, ServesHolding, holds_with}
+use Rattle.sysv_seats.specs.Holding.{Holder, Timed, begun_with, timed}
 use Rattle.sysv_seats.specs.Untold.{Closing}
 
 -- What the parked call waits for, if a call is parked.
@@ -85,41 +86,47 @@ module _ {T : Type 0} (incoming outgoing : T → Option (List ℕ)) where
   unread client = prepend_known client.input (incoming client.connection)
 
   -- More can be taken up. The session reads versions up to the newest one. It began with the pass `start`,
-  -- on the connection `origin`, and held nothing then.
-  abbrev pub IsReady : Version → Pass → T → Sitting T → Holder Pass → List ℕ → Type 0
-  IsReady newest start origin client now sent =
-      Stands newest (holds_with zero_moment ⊤) SLOTS client.dialogue (empty_handed start) now (incoming origin)
+  -- on the connection `origin`, and held nothing then. `settled` is what it left after the last request that
+  -- has an outcome; since then the time of what it holds may have been over.
+  abbrev pub IsReady : Version → Pass → T → Sitting T → Timed Pass → List ℕ → Type 0
+  IsReady newest start origin client now sent = (settled : Timed Pass) × LapsesTo zero_moment settled now
+      × Stands newest (holds_with zero_moment ⊤) SLOTS client.dialogue (begun_with start) settled (incoming origin)
       (unread client) sent
 
-  -- The request of this call was taken up, and its frame is still at the front of the input. The call
-  -- waits.
-  pub record IsWaiting (newest : Version) (start : Pass) (origin : T) (client : Sitting T) (now : Holder Pass)
+  -- The request of this call was taken up, and its frame is still at the front of the input. The call was
+  -- begun with the pass of `before`, and waits.
+  pub record IsWaiting (newest : Version) (start : Pass) (origin : T) (client : Sitting T) (now : Timed Pass)
       (sent : List ℕ) (parked : Parked) : Type 0 where
     pub text : List ℕ
-    pub before : Holder Pass
+    pub settled : Timed Pass
+    pub before : Timed Pass
+    pub lapsed : LapsesTo zero_moment settled before
     pub later : List ℕ
     pub asking : StandsAsking newest (holds_with zero_moment ⊤) SLOTS parked.cred parked.request text client.dialogue
-        (empty_handed start) before (incoming origin) (prepend_known later (incoming client.connection)) sent
+        (begun_with start) settled (incoming origin) (prepend_known later (incoming client.connection)) sent
     pub frame : client.input ≡ request_encoding parked.request text ++ later
     pub size : parked.length ≡ length (request_encoding parked.request text)
-    pub waits : HoldParked zero_moment parked.cred parked.request.ask text before parked.waiting now
+    pub waits : HoldParked zero_moment parked.cred parked.request.ask text before.holder parked.waiting now.holder
+    pub late : now.late ≡ before.late
 
   -- It takes up no more, for this reason.
-  abbrev pub HasStopped : Version → Pass → T → Sitting T → Holder Pass → List ℕ → End → Type 0
+  abbrev pub HasStopped : Version → Pass → T → Sitting T → Timed Pass → List ℕ → End → Type 0
   HasStopped newest start origin client now sent why =
       (rest : Option (List ℕ)) × IsBehind rest (incoming client.connection)
-      × Stopped newest (holds_with zero_moment ⊤) SLOTS why client.dialogue (empty_handed start) now (incoming origin)
+      × (settled : Timed Pass) × LapsesTo zero_moment settled now
+      × Stopped newest (holds_with zero_moment ⊤) SLOTS why client.dialogue (begun_with start) settled (incoming origin)
       rest sent
 
-  abbrev pub IsAt : Version → Pass → T → Sitting T → Holder Pass → List ℕ → Option Parked → Option End → Type 0
+  abbrev pub IsAt : Version → Pass → T → Sitting T → Timed Pass → List ℕ → Option Parked → Option End → Type 0
   IsAt newest start origin client now sent None None = IsReady newest start origin client now sent
   IsAt newest start origin client now sent (Some parked) None = IsWaiting newest start origin client now sent parked
   IsAt newest start origin client now sent None (Some why) = HasStopped newest start origin client now sent why
   IsAt newest start origin client now sent (Some parked) (Some why) = ⊥
 
   -- The client's session began with the pass `start`, on the connection `origin`. Its connection has
-  -- taken these bytes of its replies since then. `now` is the pass now, and what the session holds.
-  pub record Sits (newest : Version) (start : Pass) (origin : T) (client : Sitting T) (now : Holder Pass) :
+  -- taken these bytes of its replies since then. `now` is the pass now, what the session holds, and what was
+  -- given back since its time was over.
+  pub record Sits (newest : Version) (start : Pass) (origin : T) (client : Sitting T) (now : Timed Pass) :
       Type 0 where
     pub sent : List ℕ
     pub wrote : Appends (outgoing origin) (outgoing client.connection) sent
@@ -128,7 +135,7 @@ module _ {T : Type 0} (incoming outgoing : T → Option (List ℕ)) where
   -- The client's session, which began with the pass `start` on the connection `origin`, is over. It
   -- reported this, and its connection was closed into the book. It may still hold a message.
   pub record IsOver {B : Type 0} (closes : Closing T B) (newest : Version) (start : Pass) (origin : T)
-      (served : Served) (now : Holder Pass) (book book' : B) : Type 0 where
+      (served : Served) (now : Timed Pass) (book book' : B) : Type 0 where
     pub rest : Option (List ℕ)
     pub kept : Option (List ℕ)
     pub more : Option (List ℕ)
@@ -138,8 +145,8 @@ module _ {T : Type 0} (incoming outgoing : T → Option (List ℕ)) where
 
   -- Wherever the client was before, it is still one of the same session.
   abbrev pub KeepsWith : (old : Sitting T) → Holder Pass → (new : Sitting T) → Holder Pass → Type 0
-  KeepsWith old before new after = (newest : Version) (start : Pass) (origin : T) →
-      Sits newest start origin old before → Sits newest start origin new after
+  KeepsWith old before new after = (late : List Answer) (newest : Version) (start : Pass) (origin : T) →
+      Sits newest start origin old (timed before late) → Sits newest start origin new (timed after late)
 
   -- The same, and no call was made.
   abbrev pub Keeps : (old new : Sitting T) → Type 0
@@ -148,12 +155,14 @@ module _ {T : Type 0} (incoming outgoing : T → Option (List ℕ)) where
   -- This request was taken up, and its frame, of this length, is at the front of the input. The pass
   -- and what was held were `before` then. The client has not stopped.
   pub record HasAsked (newest : Version) (start : Pass) (origin : T) (client : Sitting T) (cred : Cred)
-      (request : Request) (text : List ℕ) (size : ℕ) (before : Holder Pass) : Type 0 where
+      (request : Request) (text : List ℕ) (size : ℕ) (before : Timed Pass) : Type 0 where
     pub sent : List ℕ
     pub wrote : Appends (outgoing origin) (outgoing client.connection) sent
     pub later : List ℕ
+    pub settled : Timed Pass
+    pub lapsed : LapsesTo zero_moment settled before
     pub asking : StandsAsking newest (holds_with zero_moment ⊤) SLOTS cred request text client.dialogue
-        (empty_handed start) before (incoming origin) (prepend_known later (incoming client.connection)) sent
+        (begun_with start) settled (incoming origin) (prepend_known later (incoming client.connection)) sent
     pub frame : client.input ≡ request_encoding request text ++ later
     pub whole : size ≡ length (request_encoding request text)
     pub going : client.stopped ≡ None

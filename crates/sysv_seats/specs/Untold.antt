@@ -2,13 +2,15 @@
 -- (this project's profile).
 use Rattle.std.specs.Prelude.{ℕ, ⊤, List, Option, None}
 use Rattle.sysv_seats.specs.declared.limits.Limits.{Limits}
+use Rattle.sysv_seats.specs.declared.non_blocking.Over.{Over}
 use Rattle.sysv_seats.specs.declared.socket_stream.SocketStream.{SocketStream}
 use Rattle.sysv_seats.specs.Breaking.{Breaks, any_under}
 
--- How connections end: what may break off a session on one, and how its close changes a book, by
--- what was still to be read and what was written.
+-- How connections end: what may break off a session on one; why nothing more can be read from it, if a
+-- read has said so; and how its close changes a book, by what was still to be read and what was written.
 pub record Closing (T B : Type 0) : Type 1 where
   pub breaks : T → Breaks
+  pub said : T → Option Over
   pub leaves : B → Option (List ℕ) → Option (List ℕ) → B → Type 0
 
 -- A connection that does not tell its bytes.
@@ -19,10 +21,11 @@ untold connection = None
 abbrev pub limits_of : SocketStream → Limits
 limits_of socket = socket.limits
 
--- Sockets: everything may happen to one, except for a cut under another limit than its own, and its
--- close leaves nothing.
+-- Sockets: everything may happen to one, except for a cut under another limit than its own. A socket keeps
+-- what its reads have said, and its close leaves nothing.
 abbrev pub closing_sockets : Closing SocketStream ⊤
 closing_sockets = record {
   breaks = λ socket. any_under (limits_of socket);
+  said = λ socket. socket.over;
   leaves = λ book rest more book'. ⊤;
 }

@@ -1,5 +1,5 @@
 //! A client of a server.
-ghost use Rattle.std.specs.Prelude.{◌≡◌, ◌≢◌, ◌≤◌, ◌==◌, ℕ, List, [], ◌++◌, None, Ok, Some, true, false, not, length};
+ghost use Rattle.std.specs.Prelude.{◌≡◌, ◌≢◌, ◌≤◌, ◌==◌, ◌⊎◌, ℕ, List, [], ◌++◌, None, Ok, Some, true, false, is_some, not, length};
 ghost use Rattle.std.specs.Io.KnownBytes.{IsAtEnd};
 ghost use Rattle.sysv_service.specs.Ran.{Pass};
 ghost use Rattle.sysv_session.specs.Answers.{IsAsked};
@@ -10,9 +10,11 @@ ghost use Rattle.sysv_seats.specs.Limits.{has_limit};
 ghost use Rattle.sysv_seats.specs.HandlesKept.{KeepsHandles};
 ghost use Rattle.sysv_seats.specs.Notification.{Keeps as KeepsNotification, notifications_of, told_of};
 ghost use Rattle.sysv_wire.specs.declared.frame.Version.{Version as Known};
+ghost use Rattle.sysv_wire.specs.declared.reply.Reply.{Reply as Answer};
 ghost use Rattle.sysv_seats.specs.Parked.{IsReplied};
-ghost use Rattle.sysv_seats.specs.Holding.{Holder, empty_handed};
+ghost use Rattle.sysv_seats.specs.Holding.{Holder, Timed, begun_with, timed};
 ghost use Rattle.sysv_seats.specs.Held.{HoldBegun, HoldProgress, holder_of};
+ghost use Rattle.sysv_seats.specs.Said.{EndsAsSaid, IsAsSaid, KeepsAsSaid};
 ghost use Rattle.sysv_seats.specs.Sits.{Arrives, GreetsAs, HasAsked, IsFree, IsOver, IsPending, Keeps, KeepsWith, ReadsNext, Sits, broken_off_for, end_at_close, is_back_parked, is_early as early, is_finished, is_hold_parked, parked_bytes, parked_wait, stopped_for, zero_moment};
 
 use crate::keeper::Keeper;
@@ -102,7 +104,8 @@ impl<T: NonBlocking> Client<T> {
     pub fn open(alloc: Global, connection: T, newest: Version) -> Client<T>
         ensures connection { result.connection ≡ connection }
         ensures sits { (pass : Pass) →
-            Sits T.incoming T.outgoing newest pass connection result (empty_handed pass) }
+            Sits T.incoming T.outgoing newest pass connection result (begun_with pass) }
+        ensures said { T.closes.said connection ≡ None → IsAsSaid T.closes result }
     {
         Client {
             connection,
@@ -255,6 +258,8 @@ impl<T: NonBlocking> Client<T> {
         ensures keeps { Keeps T.incoming T.outgoing self.old self.new }
         ensures breaks { T.closes.breaks self.new.connection
             ≡ T.closes.breaks self.old.connection }
+        ensures unparked { self.old.parked ≡ None → self.new.parked ≡ None }
+        ensures said { KeepsAsSaid T.closes self.old self.new }
     {
         self.has_left = true;
         self.heed_leave();
@@ -270,6 +275,8 @@ impl<T: NonBlocking> Client<T> {
             → self.new ≡ self.old }
         ensures breaks { T.closes.breaks self.new.connection
             ≡ T.closes.breaks self.old.connection }
+        ensures unparked { self.old.parked ≡ None → self.new.parked ≡ None }
+        ensures said { KeepsAsSaid T.closes self.old self.new }
     {
         if self.may_be_cut(limit) {
             self.cut_off();
@@ -287,6 +294,8 @@ impl<T: NonBlocking> Client<T> {
         ensures broken { self.new.broken ≡ true }
         ensures breaks { T.closes.breaks self.new.connection
             ≡ T.closes.breaks self.old.connection }
+        ensures unparked { self.old.parked ≡ None → self.new.parked ≡ None }
+        ensures said { KeepsAsSaid T.closes self.old self.new }
     {
         self.give_up();
         self.break_off(End::Fault(Fault::Read));
@@ -298,6 +307,8 @@ impl<T: NonBlocking> Client<T> {
         ensures broken { self.old.broken ≡ true → self.new ≡ self.old }
         ensures breaks { T.closes.breaks self.new.connection
             ≡ T.closes.breaks self.old.connection }
+        ensures unparked { self.old.parked ≡ None → self.new.parked ≡ None }
+        ensures said { KeepsAsSaid T.closes self.old self.new }
     {
         if self.is_broken || self.conversation.is_empty() {
             return;
@@ -320,6 +331,7 @@ impl<T: NonBlocking> Client<T> {
         ensures handles { KeepsHandles handler.old.handler handler.new.handler }
         ensures breaks { T.closes.breaks self.new.connection
             ≡ T.closes.breaks self.old.connection }
+        ensures said { KeepsAsSaid T.closes self.old self.new }
     {
         if self.is_held() {
             return;
@@ -336,6 +348,7 @@ impl<T: NonBlocking> Client<T> {
         ensures handles { KeepsHandles handler.old.handler handler.new.handler }
         ensures breaks { T.closes.breaks self.new.connection
             ≡ T.closes.breaks self.old.connection }
+        ensures said { KeepsAsSaid T.closes self.old self.new }
     {
         let Some(parked) = self.parked else {
             return;
@@ -360,13 +373,17 @@ impl<T: NonBlocking> Client<T> {
 
     /// Closes the client, and returns what its session did. Replies that the connection has not
     /// taken are lost. If nothing else was left to do, the session ends for a reason that there is.
+    /// If a read has said that the connection was reset or that it failed, the session ends for that
+    /// reason, or with replies that were not taken.
     pub fn close(self, book: &mut T::Book) -> Served
-        ensures over { (newest : Known) (start : Pass) (now : Holder Pass) (origin : T) →
+        ensures over { (newest : Known) (start : Pass) (now : Timed Pass) (origin : T) →
             Sits T.incoming T.outgoing newest start origin self now →
             IsOver T.incoming T.outgoing T.closes newest start origin result now book.old
             book.new }
         ensures cause { is_finished self ≡ true
             → MayEnd (T.closes.breaks self.connection) result.«end» }
+        ensures said { IsAsSaid T.closes self
+            → EndsAsSaid (T.closes.said self.connection) result.«end» }
     {
         let Client {
             connection,
@@ -394,6 +411,7 @@ impl<T: NonBlocking> Client<T> {
         ensures none { self.new.parked ≡ None }
         ensures same { (self.new.connection ≡ self.old.connection)
             × (self.new.dialogue ≡ self.old.dialogue) × (self.new.broken ≡ self.old.broken) }
+        ensures said { KeepsAsSaid T.closes self.old self.new }
     {
         let Some(parked) = self.parked else {
             return;
@@ -408,6 +426,8 @@ impl<T: NonBlocking> Client<T> {
         ensures keeps { Keeps T.incoming T.outgoing self.old self.new }
         ensures breaks { T.closes.breaks self.new.connection
             ≡ T.closes.breaks self.old.connection }
+        ensures unparked { self.old.parked ≡ None → self.new.parked ≡ None }
+        ensures said { KeepsAsSaid T.closes self.old self.new }
     {
         if self.has_left && self.connection.may_leave() {
             self.give_up();
@@ -431,6 +451,8 @@ impl<T: NonBlocking> Client<T> {
         ensures broken { self.new.broken ≡ true }
         ensures breaks { T.closes.breaks self.new.connection
             ≡ T.closes.breaks self.old.connection }
+        ensures unparked { self.old.parked ≡ None → self.new.parked ≡ None }
+        ensures said { KeepsAsSaid T.closes self.old self.new }
     {
         self.give_up();
         self.break_off(End::Write);
@@ -456,6 +478,7 @@ impl<T: NonBlocking> Client<T> {
         ensures handles { KeepsHandles handler.old.handler handler.new.handler }
         ensures breaks { T.closes.breaks self.new.connection
             ≡ T.closes.breaks self.old.connection }
+        ensures said { KeepsAsSaid T.closes self.old self.new }
     {
         if self.has_input {
             self.take_share(handler, tools);
@@ -472,6 +495,7 @@ impl<T: NonBlocking> Client<T> {
         ensures handles { KeepsHandles handler.old.handler handler.new.handler }
         ensures breaks { T.closes.breaks self.new.connection
             ≡ T.closes.breaks self.old.connection }
+        ensures said { KeepsAsSaid T.closes self.old self.new }
     {
         match self.connection.fill(&mut tools.arrived) {
             Filled::Bytes(count) => {
@@ -511,6 +535,7 @@ impl<T: NonBlocking> Client<T> {
         ensures handles { KeepsHandles handler.old.handler handler.new.handler }
         ensures breaks { T.closes.breaks self.new.connection
             ≡ T.closes.breaks self.old.connection }
+        ensures said { KeepsAsSaid T.closes self.old self.new }
     {
         for _ in 0..SHARE {
             self.has_input = true;
@@ -542,6 +567,7 @@ impl<T: NonBlocking> Client<T> {
         ensures handles { KeepsHandles handler.old.handler handler.new.handler }
         ensures breaks { T.closes.breaks self.new.connection
             ≡ T.closes.breaks self.old.connection }
+        ensures said { KeepsAsSaid T.closes self.old self.new }
     {
         let (size, taken) = self.read_next(&mut tools.text);
         self.requests = self.requests.wrapping_add(u64::from(taken.is_ok()));
@@ -600,13 +626,15 @@ impl<T: NonBlocking> Client<T> {
         requires asked { op_of request.ask ≢ Op.Hello }
         requires pending { IsPending self.old }
         requires frame { size ≤ length self.old.input }
-        ensures keeps { (newest : Known) (start : Pass) (origin : T) →
+        ensures keeps { (late : List Answer) (newest : Known) (start : Pass) (origin : T) →
             HasAsked T.incoming T.outgoing newest start origin self.old cred request tools.old.text
-            size (holder_of handler.old) →
-            Sits T.incoming T.outgoing newest start origin self.new (holder_of handler.new) }
+            size (timed (holder_of handler.old) late) →
+            Sits T.incoming T.outgoing newest start origin self.new
+            (timed (holder_of handler.new) late) }
         ensures handles { KeepsHandles handler.old.handler handler.new.handler }
         ensures breaks { T.closes.breaks self.new.connection
             ≡ T.closes.breaks self.old.connection }
+        ensures said { self.old.stopped ≡ None → KeepsAsSaid T.closes self.old self.new }
     {
         tools.given.clear();
         let made = handler.made_by(request.ask);
@@ -630,17 +658,19 @@ impl<T: NonBlocking> Client<T> {
         requires frame { size ≤ length self.old.input }
         requires answer { HoldProgress request.version request.ask progress tools.old.given }
         requires replied { IsReplied progress }
-        ensures keeps { (newest : Known) (start : Pass) (before now : Holder Pass) (origin : T)
-            (text : List ℕ) →
+        ensures keeps { (newest : Known) (start : Pass) (before : Timed Pass) (now : Holder Pass)
+            (origin : T) (text : List ℕ) →
             HasAsked T.incoming T.outgoing newest start origin self.old cred request text size
             before →
-            HoldBegun zero_moment request.version cred request.ask text before progress
+            HoldBegun zero_moment request.version cred request.ask text before.holder progress
             tools.old.given now →
-            Sits T.incoming T.outgoing newest start origin self.new now }
+            Sits T.incoming T.outgoing newest start origin self.new (timed now before.late) }
         ensures notifications { KeepsNotification (notifications_of (told_of made.now progress))
             tools.old tools.new }
         ensures breaks { T.closes.breaks self.new.connection
             ≡ T.closes.breaks self.old.connection }
+        ensures said { (self.old.stopped ≡ None) ⊎ (is_some self.old.parked ≡ true)
+            → KeepsAsSaid T.closes self.old self.new }
     {
         match progress {
             Progress::Over(outcome) => {

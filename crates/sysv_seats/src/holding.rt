@@ -17,6 +17,7 @@ pub struct HeldMessage {
     cred: Cred,
     id: i32,
     mtype: i64,
+    seconds: u32,
     body: Vec<u8>,
 }
 
@@ -27,26 +28,43 @@ impl Model for HeldMessage {
 
     ghost Value = { Message };
 
-    ghost view = { λ m.
-        record { cred = m.cred; id = m.id; mtype = m.mtype; text = m.body.items } };
+    ghost view = { λ m. record {
+      cred = m.cred;
+      id = m.id;
+      mtype = m.mtype;
+      seconds = m.seconds;
+      text = m.body.items;
+    } };
 
     ghost invariant = { λ m. vec_len m.body ≤ MESSAGE_BYTES };
 }
 
 impl HeldMessage {
-    /// Returns the message of this type that was received from this queue with these credentials,
-    /// with a body that is copied into `memory`.
+    /// Returns the message of this type that was received from this queue with these credentials, and
+    /// may be held for this number of seconds (0: no limit). Its body is copied into `memory`.
     ///
     /// # Conditions
     ///
     /// - `memory` is empty, and has room for the body.
     /// - The body has at most 8,192 bytes.
-    pub(crate) fn new(cred: Cred, id: i32, mtype: i64, given: &Body, memory: Vec<u8>) -> HeldMessage
+    pub(crate) fn new(
+        cred: Cred,
+        id: i32,
+        mtype: i64,
+        seconds: u32,
+        given: &Body,
+        memory: Vec<u8>,
+    ) -> HeldMessage
         requires empty { memory.items ≡ [] }
         requires room { length given.now ≤ vec_capacity memory }
         requires short { length given.now ≤ MESSAGE_BYTES }
-        ensures { result
-            ≡ record { cred = cred; id = id; mtype = mtype; text = given.now } }
+        ensures { result ≡ record {
+          cred = cred;
+          id = id;
+          mtype = mtype;
+          seconds = seconds;
+          text = given.now;
+        } }
     {
         let mut body = memory;
         append_text(&mut body, given);
@@ -55,6 +73,7 @@ impl HeldMessage {
             cred,
             id,
             mtype,
+            seconds,
             body,
         }
     }
@@ -78,6 +97,13 @@ impl HeldMessage {
         ensures { result ≡ self.now.mtype }
     {
         self.mtype
+    }
+
+    /// Returns for how many seconds the message may be held, 0 for no limit.
+    pub(crate) fn seconds(&self) -> u32
+        ensures { result ≡ self.now.seconds }
+    {
+        self.seconds
     }
 
     /// Returns the send that gives the message back.

@@ -7,7 +7,7 @@ ghost use Rattle.sysv_wire.specs.Requests.{op_of};
 ghost use Rattle.sysv_session.specs.Answers.{MayAnswer};
 ghost use Rattle.sysv_seats.specs.HandlesKept.{KeepsHandles};
 ghost use Rattle.sysv_session.specs.Answers.{is_message};
-ghost use Rattle.sysv_seats.specs.Holding.{Holder, can_hold as may_hold};
+ghost use Rattle.sysv_seats.specs.Holding.{Holder, can_hold as may_hold, seconds_of};
 ghost use Rattle.sysv_seats.specs.Holding.{back_content as the_back_content, back_outcome as the_back_outcome};
 ghost use Rattle.sysv_seats.specs.Held.{AnyGoesOn, HoldBegun, HoldParked, HoldProgress, IsHoldWaitOf, Spends};
 ghost use Rattle.sysv_seats.specs.Held.{back_progress, held_after, held_at, hold_progress, holder_of};
@@ -17,7 +17,7 @@ ghost use Rattle.sysv_seats.specs.Replies.{reply as the_reply};
 
 use crate::handler::{ServiceHandler, reply};
 use crate::holding::HeldMessage;
-use crate::returning::send_wait;
+use crate::returning::{Returned, fate_after, send_wait};
 use crate::waiting::Waiting;
 use bitflags::Flags as _;
 use std::alloc::Global;
@@ -39,6 +39,10 @@ pub struct Keeper<'a, C: Clock, R: Wait> {
     pub(crate) message: Option<HeldMessage>,
     /// Memory for messages, if the session may hold one more.
     pub(crate) memory: Option<Global>,
+    /// The number of messages that were held, modulo 2^64.
+    pub(crate) taken: u64,
+    /// The numbers of messages that were given back since they were last asked for.
+    pub(crate) returns: Returned,
 }
 
 impl<'a, C: Clock, R: Wait> Keeper<'a, C, R> {
@@ -51,6 +55,8 @@ impl<'a, C: Clock, R: Wait> Keeper<'a, C, R> {
             handler,
             message: None,
             memory: None,
+            taken: 0,
+            returns: Returned::NONE,
         }
     }
 
@@ -63,6 +69,8 @@ impl<'a, C: Clock, R: Wait> Keeper<'a, C, R> {
             handler,
             message: _,
             memory: _,
+            taken: _,
+            returns: _,
         } = self;
         handler.into_pass()
     }
@@ -72,6 +80,24 @@ impl<'a, C: Clock, R: Wait> Keeper<'a, C, R> {
         ensures { result ≡ is_some self.now.message }
     {
         self.message.is_some()
+    }
+
+    /// Returns the number of messages that were held so far, modulo 2^64.
+    pub fn taken(&self) -> u64
+        ensures { result ≡ self.now.taken }
+    {
+        self.taken
+    }
+
+    /// Returns for how many seconds the message that is held may be held, or 0 if there is no limit or
+    /// nothing is held.
+    pub fn seconds(&self) -> u32
+        ensures { result ≡ seconds_of self.now.message }
+    {
+        match &self.message {
+            Some(message) => message.seconds(),
+            None => 0,
+        }
     }
 
     /// Returns the number of blocks in use, as `ServiceHandler::blocks_in_use` does.
@@ -155,7 +181,7 @@ impl<'a, C: Clock, R: Wait> Keeper<'a, C, R> {
         // Without memory nothing is taken.
         ensures none { self.old.memory ≡ None → holder_of self.new ≡ holder_of self.old }
     {
-        if !self.can_hold(flags, seconds) {
+        if !self.can_hold(flags) {
             return Progress::Over(refusal(version, Op::Hold, Errno::EINVAL));
         }
         let Some(memory) = self.room() else {
@@ -167,7 +193,7 @@ impl<'a, C: Clock, R: Wait> Keeper<'a, C, R> {
                 let came = self
                     .handler
                     .begin_receive(version, cred, id, size, mtype, flags, given);
-                self.keep(version, cred, id, came, given, memory)
+                self.keep(version, cred, id, seconds, came, given, memory)
             }
         }
     }
@@ -285,7 +311,7 @@ impl<'a, C: Clock, R: Wait> Keeper<'a, C, R> {
         };
         let receive = receive_of(version, id, size, mtype, flags);
         let came = self.handler.go_on(&receive, text, given, waiting);
-        self.keep(version, cred, id, came, given, memory)
+        self.keep(version, cred, id, seconds, came, given, memory)
     }
 
     /// Continues a back that waits: the send of the message that is held.
@@ -334,6 +360,7 @@ impl<'a, C: Clock, R: Wait> Keeper<'a, C, R> {
             Progress::Waits(waiting) => Progress::Waits(waiting),
             Progress::Over(outcome) => {
                 self.message = None;
+                self.returns.count(fate_after(&outcome));
                 Progress::Over(back_outcome(version, outcome))
             }
         }
@@ -346,6 +373,7 @@ impl<'a, C: Clock, R: Wait> Keeper<'a, C, R> {
         version: Version,
         cred: Cred,
         id: i32,
+        seconds: u32,
         came: Progress<Waiting, RequestOutcome>,
         given: &Body,
         memory: Vec<u8>,
@@ -355,7 +383,7 @@ impl<'a, C: Clock, R: Wait> Keeper<'a, C, R> {
         requires short { length given.now ≤ MESSAGE_BYTES }
         requires none { self.old.message ≡ None }
         ensures progress { result ≡ hold_progress version came }
-        ensures message { self.new.message ≡ held_at cred id came given.now }
+        ensures message { self.new.message ≡ held_at cred id seconds came given.now }
         ensures handler { self.new.handler ≡ self.old.handler }
     {
         match came {
@@ -363,7 +391,8 @@ impl<'a, C: Clock, R: Wait> Keeper<'a, C, R> {
             Progress::Over(RequestOutcome::Got(delivery)) => {
                 let mtype = delivery.mtype();
                 spend(delivery);
-                self.message = Some(HeldMessage::new(cred, id, mtype, given, memory));
+                self.taken = self.taken.wrapping_add(1);
+                self.message = Some(HeldMessage::new(cred, id, mtype, seconds, given, memory));
                 Progress::Over(reply(version, Op::Hold, ReplyContent::Hold { mtype }))
             }
             Progress::Over(RequestOutcome::Reply(told)) => {
@@ -397,10 +426,10 @@ impl<'a, C: Clock, R: Wait> Keeper<'a, C, R> {
     }
 
     /// Returns whether the session may hold a message that it receives with these flags.
-    fn can_hold(&self, flags: Flags, seconds: u32) -> bool
-        ensures { result ≡ may_hold flags seconds self.now.message }
+    fn can_hold(&self, flags: Flags) -> bool
+        ensures { result ≡ may_hold flags self.now.message }
     {
-        seconds == 0 && !flags.contains(Flags::MSG_NOERROR) && self.message.is_none()
+        !flags.contains(Flags::MSG_NOERROR) && self.message.is_none()
     }
 
     /// Returns memory for a message, or `None` if one is held or memory is refused.

@@ -35,7 +35,7 @@ pub use memory_stream::{MemoryStream, Step};
 pub use non_blocking::{Drained, Filled, NonBlocking, Over};
 pub use notification::Notification;
 pub use parked::Parked;
-pub use returning::{Fate, Return};
+pub use returning::{Fate, Return, Returned};
 pub use send_frame::snd_text;
 pub use socket_stream::SocketStream;
 pub use tools::Tools;

@@ -1,5 +1,5 @@
 //! Connections in memory that never wait, and whose reads and writes go by a list of steps.
-ghost use Rattle.std.specs.Prelude.{◌≡◌, [], IfSome, false, length, true};
+ghost use Rattle.std.specs.Prelude.{◌≡◌, [], IfSome, None, false, length, true};
 ghost use Rattle.sysv_seats.specs.Breaking.{MayBreak};
 ghost use Rattle.sysv_seats.specs.Limits.{has_limit};
 ghost use Rattle.sysv_seats.specs.PacedStreams.{DrainsAt, FillsAs, breaks_of, later_steps, limit_of, next_step, over_of};
@@ -32,6 +32,8 @@ pub struct MemoryStream<'a> {
     room: usize,
     reads: &'a [Step],
     writes: &'a [Step],
+    /// Why nothing more can be read, if a read has said so.
+    said: Option<Over>,
     /// Whether the client may leave or be cut off.
     cut: bool,
 }
@@ -48,6 +50,7 @@ impl<'a> Model for MemoryStream<'a> {
       room = stream.room;
       reads = stream.reads.now;
       writes = stream.writes.now;
+      said = stream.said;
       cut = stream.cut;
     } };
 
@@ -74,6 +77,7 @@ impl<'a> MemoryStream<'a> {
           room = room;
           reads = reads.now;
           writes = writes.now;
+          said = None;
           cut = false;
         }) }
     {
@@ -84,6 +88,7 @@ impl<'a> MemoryStream<'a> {
             room,
             reads,
             writes,
+            said: None,
             cut: false,
         })
     }
@@ -98,6 +103,7 @@ impl<'a> MemoryStream<'a> {
             room,
             reads,
             writes,
+            said,
             cut: _,
         } = self;
         MemoryStream {
@@ -106,6 +112,7 @@ impl<'a> MemoryStream<'a> {
             room,
             reads,
             writes,
+            said,
             cut: true,
         }
     }
@@ -134,7 +141,7 @@ impl<'a> NonBlocking for MemoryStream<'a> {
     ghost use Rattle.std.specs.Prelude.{◌≡◌, None, Some};
     ghost use Rattle.sysv_seats.specs.Memory.{closing_in_memory};
     ghost use Rattle.sysv_seats.specs.PacedStreams.{DrainsAt, FailsAt, FillsAs, breaks_of, next_step, over_of};
-    ghost use Rattle.sysv_seats.specs.NonBlocking.{DrainAppends, FillConsumes};
+    ghost use Rattle.sysv_seats.specs.NonBlocking.{DrainAppends, FillConsumes, said_after};
 
     type Book = Replies;
 
@@ -154,6 +161,7 @@ impl<'a> NonBlocking for MemoryStream<'a> {
         ensures bytes { FillConsumes (Some self.old.unread) (Some self.new.unread) result buf.new }
         ensures untold { Some self.old.unread ≡ None → Some self.new.unread ≡ None }
         ensures over { (why : Over) → result ≡ Filled.Over why → over_of self.new ≡ Some why }
+        ensures said { self.new.said ≡ said_after result self.old.said }
         ensures again { (why : Over) → over_of self.old ≡ Some why
             → (result ≡ Filled.Over why) × (over_of self.new ≡ Some why) }
         ensures written { self.new.written ≡ self.old.written }
@@ -164,6 +172,7 @@ impl<'a> NonBlocking for MemoryStream<'a> {
         ensures failed { result ≡ Filled.Over Over.Failed → (breaks_of self.new).reading ≡ true }
     {
         if let Some(why) = self.over() {
+            self.said = Some(why);
             return Filled::Over(why);
         }
         let most = limit(next(self.reads));
@@ -187,6 +196,7 @@ impl<'a> NonBlocking for MemoryStream<'a> {
             → (result ≡ Drained.Failed) × FailsAt (next_step self.new.writes) }
         ensures unread { self.new.unread ≡ self.old.unread }
         ensures over { over_of self.new ≡ over_of self.old }
+        ensures said { self.new.said ≡ self.old.said }
         ensures breaks { breaks_of self.new ≡ breaks_of self.old }
         ensures writing { result ≡ Drained.Failed → (breaks_of self.new).writing ≡ true }
     {

@@ -2,7 +2,7 @@
 ghost use Rattle.std.specs.Prelude.{◌≡◌, ◌⊎◌, ℕ, List, Option, None, Some, IfSome, true};
 ghost use Rattle.sysv_seats.specs.Breaking.{MayBreak};
 ghost use Rattle.sysv_seats.specs.Limits.{has_limit};
-ghost use Rattle.sysv_seats.specs.NonBlocking.{DrainAppends, FillConsumes};
+ghost use Rattle.sysv_seats.specs.NonBlocking.{DrainAppends, FillConsumes, said_after};
 
 use crate::limits::Limit;
 
@@ -30,8 +30,9 @@ pub trait NonBlocking {
     ghost refuses: { Self → Type 0 };
 
     /// How connections end. `breaks` is what may break off a session on one, which no read or
-    /// write changes. `leaves` is what becomes of a book when a connection is closed that has these
-    /// bytes still to be read, and to which these bytes were written.
+    /// write changes. `said` is why nothing more can be read, if a read has said so. `leaves` is
+    /// what becomes of a book when a connection is closed that has these bytes still to be read,
+    /// and to which these bytes were written.
     ghost closes: { Closing Self Self.Book };
 
     /// Reads into the front of `buf` what can be read now. Once reading is over, every read says
@@ -40,6 +41,7 @@ pub trait NonBlocking {
         ensures bytes { FillConsumes (incoming self.old) (incoming self.new) result buf.new }
         ensures untold { incoming self.old ≡ None → incoming self.new ≡ None }
         ensures over { (why : Over) → result ≡ Filled.Over why → over self.new ≡ Some why }
+        ensures said { closes.said self.new ≡ said_after result (closes.said self.old) }
         ensures again { (why : Over) → over self.old ≡ Some why
             → (result ≡ Filled.Over why) × (over self.new ≡ Some why) }
         ensures written { outgoing self.new ≡ outgoing self.old }
@@ -58,6 +60,7 @@ pub trait NonBlocking {
         ensures again { refuses self.old → (result ≡ Drained.Failed) × refuses self.new }
         ensures unread { incoming self.new ≡ incoming self.old }
         ensures over { over self.new ≡ over self.old }
+        ensures said { closes.said self.new ≡ closes.said self.old }
         ensures breaks { closes.breaks self.new ≡ closes.breaks self.old }
         ensures writing { result ≡ Drained.Failed → (closes.breaks self.new).writing ≡ true };
 

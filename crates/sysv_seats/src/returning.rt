@@ -1,7 +1,7 @@
 //! Messages that are given back, and what became of them.
 ghost use Rattle.std.specs.Prelude.{◌≡◌, false, true};
 ghost use Rattle.sysv_session.specs.Answers.{is_message};
-ghost use Rattle.sysv_seats.specs.GivingBack.{GoesBack, GoesBackOn, IsOfSend, fate_of, held_length, return_by, waits_to_send};
+ghost use Rattle.sysv_seats.specs.GivingBack.{GoesBack, GoesBackOn, IsOfSend, fate_of, held_length, one_returned, return_by, waits_to_send};
 ghost use Rattle.sysv_seats.specs.HandlesKept.{KeepsHandles};
 ghost use Rattle.sysv_seats.specs.Held.{held_after, holder_of};
 
@@ -36,6 +36,30 @@ pub enum Return {
     Waits(SendWait),
     /// The send is over.
     Over(Fate),
+}
+
+/// The numbers of messages that were held and were given back.
+#[derive(Clone, Copy, PartialEq, Eq, Debug)]
+pub struct Returned {
+    /// Those that their queue accepted.
+    pub sent: u64,
+    /// Those that it did not: it was removed, or refused them.
+    pub gone: u64,
+}
+
+impl Returned {
+    /// No messages.
+    pub const NONE: Returned = Returned { sent: 0, gone: 0 };
+
+    /// Counts one more message. A number stays at its maximum once it has reached it.
+    pub(crate) fn count(&mut self, fate: Fate)
+        ensures { self.new ≡ one_returned fate self.old }
+    {
+        match fate {
+            Fate::Sent => self.sent = self.sent.saturating_add(1),
+            Fate::Discarded | Fate::Refused => self.gone = self.gone.saturating_add(1),
+        }
+    }
 }
 
 impl<'a, R: Wait> Keeper<'a, Zero, R> {
@@ -78,6 +102,18 @@ impl<'a, R: Wait> Keeper<'a, Zero, R> {
         self.settle_return(&request, progress, tools)
     }
 
+    /// Returns the numbers of messages that were given back since this was last asked.
+    pub fn take_returns(&mut self) -> Returned
+        ensures told { result ≡ self.old.returns }
+        ensures none { self.new.returns ≡ Returned.NONE }
+        ensures same { (self.new.handler ≡ self.old.handler)
+            × (self.new.message ≡ self.old.message) }
+    {
+        let returns = self.returns;
+        self.returns = Returned::NONE;
+        returns
+    }
+
     /// Returns the number of bytes in the frame of a send of the message that is held, or 0.
     pub fn return_length(&self) -> usize
         ensures { result ≡ held_length self.now.message }
@@ -103,8 +139,11 @@ impl<'a, R: Wait> Keeper<'a, Zero, R> {
         match progress {
             Progress::Over(outcome) => {
                 tools.tell(Told::by_end(&request.ask, &outcome));
+                let fate = fate_after(&outcome);
+                drop_outcome(outcome);
                 self.message = None;
-                Return::Over(fate_after(outcome))
+                self.returns.count(fate);
+                Return::Over(fate)
             }
             Progress::Waits(waiting) => {
                 tools.tell(Told::by_wait(&waiting));
@@ -125,18 +164,26 @@ pub(crate) fn send_wait(waiting: Waiting) -> SendWait
     }
 }
 
-/// Returns what became of a message whose send has this outcome, which is no message.
-fn fate_after(outcome: RequestOutcome) -> Fate
-    requires { is_message outcome ≡ false }
-    ensures { result ≡ fate_of outcome }
+/// Returns what became of a message whose send has this outcome.
+pub(crate) fn fate_after(outcome: &RequestOutcome) -> Fate
+    ensures { result ≡ fate_of outcome.now }
 {
     match outcome {
-        RequestOutcome::Got(_delivery) => unreachable!(),
-        RequestOutcome::Left => Fate::Refused,
+        RequestOutcome::Got(_) | RequestOutcome::Left => Fate::Refused,
         RequestOutcome::Reply(reply) => match reply.result {
             ReplyContent::Refused(Errno::EINVAL | Errno::EIDRM) => Fate::Discarded,
             ReplyContent::Refused(_) => Fate::Refused,
             _ => Fate::Sent,
         },
+    }
+}
+
+/// Drops the outcome of a send, which is no message.
+fn drop_outcome(outcome: RequestOutcome)
+    requires { is_message outcome ≡ false }
+{
+    match outcome {
+        RequestOutcome::Got(_delivery) => unreachable!(),
+        RequestOutcome::Left | RequestOutcome::Reply(_) => {}
     }
 }

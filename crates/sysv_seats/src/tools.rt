@@ -1,8 +1,9 @@
 //! What the clients of one worker use one after another.
-ghost use Rattle.std.specs.Prelude.{◌≡◌, ◌<◌, ◌∷◌, [], if◌then◌else◌, IfOk, true, vec_capacity};
+ghost use Rattle.std.specs.Prelude.{◌≡◌, ◌∷◌, [], if◌then◌else◌, IfOk, nat_lt, vec_capacity};
 ghost use Rattle.std.specs.List.{list_any};
 ghost use Rattle.std.specs.Option.{option_to_list};
 ghost use Rattle.sysv_seats.specs.declared.tools.TheConstants.{MOST_NOTIFICATIONS};
+ghost use Rattle.sysv_seats.specs.Shares.{IsShare, with_one};
 ghost use Rattle.sysv_seats.specs.Notification.{Keeps, TakesLast, is_taken, notifications_in, notifications_of};
 
 use crate::notification::{Notification, Told};
@@ -33,6 +34,8 @@ pub struct Tools {
     /// The number of places that hold a message or whose client waits for one, and the maximum.
     holding: usize,
     most_holding: usize,
+    /// The number of places that hold a message.
+    held: usize,
 }
 
 impl Tools {
@@ -61,33 +64,45 @@ impl Tools {
             notifications,
             holding: 0,
             most_holding: 0,
+            held: 0,
         })
     }
 
     /// Has at most seven eighths of this many places hold messages, but at least one. So messages
     /// that are given back leave places for clients that make room for them.
     pub fn share_places(&mut self, places: usize)
-        ensures { self.new ≡ record self.old { most_holding = self.new.most_holding } }
+        ensures most { IsShare places self.new.most_holding }
+        ensures same { self.new ≡ record self.old { most_holding = self.new.most_holding } }
     {
         self.most_holding = (places - places / 8).max(1);
     }
 
     /// Returns whether one more place may hold a message.
     pub fn may_hold_more(&self) -> bool
-        ensures { result ≡ true → self.now.holding < self.now.most_holding }
+        ensures { result ≡ nat_lt self.now.holding self.now.most_holding }
     {
         self.holding < self.most_holding
     }
 
     /// Counts one more place that holds a message or whose client waits for one, or one less.
     pub fn count_hold(&mut self, begins: bool)
-        ensures { self.new ≡ record self.old { holding = self.new.holding } }
+        ensures { self.new ≡ record self.old { holding = with_one begins self.old.holding } }
     {
-        self.holding = if begins {
-            self.holding.saturating_add(1)
-        } else {
-            self.holding.saturating_sub(1)
-        };
+        self.holding = counted(self.holding, begins);
+    }
+
+    /// Counts one more place that holds a message, or one less.
+    pub fn count_held(&mut self, begins: bool)
+        ensures { self.new ≡ record self.old { held = with_one begins self.old.held } }
+    {
+        self.held = counted(self.held, begins);
+    }
+
+    /// Returns the number of places that hold a message.
+    pub fn held(&self) -> usize
+        ensures { result ≡ self.now.held }
+    {
+        self.held
     }
 
     /// Removes the last of the things that calls may have changed since the tools were opened, and
@@ -141,5 +156,16 @@ impl Tools {
         if self.notifications.len() < self.notifications.capacity() {
             self.notifications.push_reserved(notification);
         }
+    }
+}
+
+/// Returns a number of places with one more, or one less.
+fn counted(count: usize, begins: bool) -> usize
+    ensures { result ≡ with_one begins count }
+{
+    if begins {
+        count.saturating_add(1)
+    } else {
+        count.saturating_sub(1)
     }
 }

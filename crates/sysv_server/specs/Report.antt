@@ -30,6 +30,9 @@ numbers_of counted admission =
     ∷ counted.lost
     ∷ admission.blocks
     ∷ free_blocks admission.blocks counted.in_use
+    ∷ counted.held
+    ∷ counted.sent_back
+    ∷ counted.gone
     ∷ []
 
 -- These are the numbers of a server with this maximum of sessions at once, by these totals of its workers.

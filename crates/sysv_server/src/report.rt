@@ -32,7 +32,7 @@ enum Kind {
 type Metric = (&'static str, &'static str, Kind, &'static str);
 
 /// The numbers of a server, in the order of `numbers`.
-const OF_SERVER: [Metric; 14] = [
+const OF_SERVER: [Metric; 17] = [
     (
         "start_time_seconds",
         "sysvmsg_start_time_seconds",
@@ -116,6 +116,24 @@ const OF_SERVER: [Metric; 14] = [
         "sysvmsg_pool_free_blocks",
         Kind::Gauge,
         "The free blocks of the pool.",
+    ),
+    (
+        "held",
+        "sysvmsg_messages_held",
+        Kind::Gauge,
+        "Messages that clients hold or that are on their way back.",
+    ),
+    (
+        "back_total",
+        "sysvmsg_messages_back_total",
+        Kind::Counter,
+        "Messages that were held and went back to their queue.",
+    ),
+    (
+        "gone_total",
+        "sysvmsg_messages_gone_total",
+        Kind::Counter,
+        "Messages that were held and could not go back, as their queue was removed or refused them.",
     ),
 ];
 
@@ -410,6 +428,9 @@ fn numbers(counted: &Counted, admission: &Admission) -> [u64; OF_SERVER.len()]
         written,
         lost,
         in_use,
+        held,
+        sent_back,
+        gone,
     } = *counted;
     let Admission {
         blocks,
@@ -432,6 +453,9 @@ fn numbers(counted: &Counted, admission: &Admission) -> [u64; OF_SERVER.len()]
         lost,
         u64::from(blocks),
         free_of(blocks, in_use),
+        held,
+        sent_back,
+        gone,
     ]
 }
 

@@ -8,7 +8,8 @@ use std::alloc::Global;
 use std::process::Abort;
 use std::sync::Wait;
 use sysv_seats::{
-    Client, Fate, Keeper, MemoryStream, Notification, Return, ServiceHandler, Tools, ZERO, Zero,
+    Client, Fate, Keeper, MemoryStream, Notification, Return, Returned, ServiceHandler, Tools,
+    ZERO, Zero,
 };
 use sysv_session::End;
 use sysv_wire::Version;
@@ -22,7 +23,14 @@ const SPENDING: &[u8] = &[
     0, 2, 3, 9, 0, 0, 0, 2, 3, 9,
 ];
 
-/// The number of its bytes up to the end of the hold.
+/// The requests of `SPENDING` up to the hold, which has a limit of 30 seconds.
+const TIMED: &[u8] = &[
+    0, 0, 0, 14, 3, 0, 0, 0, 3, 0xe8, 0, 0, 3, 0xe8, 0, 0, 0, 101, 0, 0, 0, 10, 3, 1, 0, 0, 0, 7,
+    0, 0, 3, 0x80, 0, 0, 0, 20, 3, 2, 0, 0, 0, 0, 0, 0, 0, 0, 0, 0, 0, 5, 0, 0, 0, 0, 104, 105, 0,
+    0, 0, 26, 3, 8, 0, 0, 0, 0, 0, 0, 0, 100, 0, 0, 0, 0, 0, 0, 0, 0, 0, 0, 0, 0, 0, 0, 0, 30,
+];
+
+/// The number of bytes of `SPENDING` up to the end of the hold.
 const HOLDING: usize = 86;
 
 /// The replies to `SPENDING`: the second done fails with EINVAL.
@@ -227,6 +235,33 @@ fn a_hold_without_memory_takes_nothing(rt: HostRuntime) {
     ended(&rt, service, pass, 1);
 }
 
+#[test]
+fn a_message_is_held_for_its_seconds(rt: HostRuntime) {
+    let alloc = rt.alloc();
+    let (service, pass) = opened(&rt, alloc, 128, 0);
+    let mut handler = Keeper::new(ServiceHandler::new(&rt, &service, &ZERO, pass));
+    let mut tools = tools(&rt, alloc);
+    handler.set_memory(Some(alloc));
+    assert_is(&rt, (handler.taken(), handler.seconds()), (0, 0));
+    serve(
+        &rt,
+        alloc,
+        &mut handler,
+        &mut tools,
+        TIMED,
+        4,
+        &SPENT[..HELD],
+    );
+    assert_is(&rt, (handler.taken(), handler.seconds()), (1, 30));
+    let came = given_back(&mut handler, &mut tools);
+    assert_that(&rt, matches!(came, Return::Over(Fate::Sent)));
+    assert_is(&rt, (handler.taken(), handler.seconds()), (1, 0));
+    assert_is(&rt, handler.take_returns(), Returned { sent: 1, gone: 0 });
+    assert_is(&rt, handler.take_returns(), Returned::NONE);
+    let pass = handler.into_pass();
+    ended(&rt, service, pass, 1);
+}
+
 // The message waits for room, and is discarded once its queue is removed.
 #[test]
 fn a_return_waits_like_any_send(rt: HostRuntime) {
@@ -266,4 +301,9 @@ fn at_most_seven_eighths_of_the_places_hold_messages(rt: HostRuntime) {
     tools.count_hold(false);
     assert_that(&rt, tools.may_hold_more());
     tools.share_places(1);
+    assert_that(&rt, !tools.may_hold_more());
+    tools.count_held(true);
+    tools.count_held(true);
+    tools.count_held(false);
+    assert_is(&rt, tools.held(), 1);
 }

@@ -5,6 +5,7 @@ pub returns-clause-run : goal.returns-clause-run
 returns-clause-run c =
     each_lifetime c.each_session_makes_calls.ensures c.each_return_makes_a_call.ensures
     c.every_hiring_obeys.ensures.obeys c.every_hiring_obeys.ensures.stops c.every_order_parks_rightly.ensures
+    c.each_point_parks_rightly.ensures
 
 pub returns-clause-whole : goal.returns-clause-whole
 returns-clause-whole c =

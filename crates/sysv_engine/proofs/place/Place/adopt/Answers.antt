@@ -2,7 +2,7 @@
 use Rattle.std.proofs.Common.{◌∙◌, ap, subst}
 use Rattle.sysv_service.specs.Ran.{Pass}
 use Rattle.sysv_wire.specs.declared.frame.Version.{Version}
-use Rattle.sysv_seats.specs.Holding.{empty_handed}
+use Rattle.sysv_seats.specs.Holding.{begun_with}
 use Rattle.sysv_seats.specs.Sits.{Sits}
 use Rattle.sysv_engine.specs.Places.{Seated, taken_by}
 use Rattle.sysv_engine.proofs.PlaceLemmas.{takes}
@@ -15,5 +15,6 @@ returns g c =
     (c.seat.ensures ∙ ap (taken_by c.open-client.result) c.self.view_is)
     c.open-client.ensures.connection
     (subst (λ (v : Version). (pass : Pass) → Sits g.T.NonBlocking.incoming g.T.NonBlocking.outgoing v pass
-    c.args.connection c.open-client.result (empty_handed pass))
+    c.args.connection c.open-client.result (begun_with pass))
     (ap (λ (p : Seated g.row.T-Book.Denot g.row.T.Denot). p.newest) c.self.view_is) c.open-client.ensures.sits)
+    c.open-client.ensures.said

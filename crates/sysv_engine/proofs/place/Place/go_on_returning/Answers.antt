@@ -1,5 +1,5 @@
 -- The return that waited goes on, and the place takes note of how far that has come.
-use Rattle.std.proofs.Common.{◌≡◌, ◌∙◌, Some, ap, refl}
+use Rattle.std.proofs.Common.{◌≡◌, Some, refl}
 use Rattle.sysv_engine.specs.Places.{Seated}
 use Rattle.sysv_engine.proofs.PlaceLemmas.{gives_back_on, keeps_from}
 use Rattle.sysv_engine.proofs.place.Place.go_on_returning.Goals as goal
@@ -39,7 +39,6 @@ returns g c =
     record {
       keeps = keeps_from t.incoming t.outgoing t.closes seen c.args.self.now c.note_return.new.self c.self.view_is
           (gives_back_on t.incoming t.outgoing t.closes seen mid c.note_return.new.self c.give_back_on-came.result
-          c.in-Some.wait
-          (ap (λ (p : S). p.client) c.self.view_is ∙ c.requires) waits (gates, refl, refl, refl, refl, refl) refl
+          c.in-Some.wait waits (gates, refl, refl, refl, refl, refl) refl
           c.give_back_on-came.ensures.goes c.note_return.ensures);
     }

@@ -1,11 +1,48 @@
--- A place without a client has the return go on.
-use Rattle.sysv_engine.proofs.PlaceLemmas.{keeps_from}
+-- The parked call goes on, or the send that gives back a message.
+use Rattle.std.proofs.Common.{◌≡◌, None, Some, refl}
+use Rattle.sysv_engine.specs.Places.{Seated}
+use Rattle.sysv_engine.proofs.PlaceLemmas.{goes_on, keeps_from, none_waits}
 use Rattle.sysv_engine.proofs.place.Place.resume.Goals as goal
 
-pub returns-in-None : goal.returns-in-None
-returns-in-None g c =
+pub returns-then-is_some : goal.returns-then-is_some
+returns-then-is_some g c = record { keeps = c.go_on_returning.ensures.keeps }
+
+pub returns-in-Some : goal.returns-in-Some
+returns-in-Some g c =
     let t = g.T.NonBlocking in
+    let S : Type 0 = Seated g.row.T-Book.Denot g.row.T.Denot in
+    let was = c.self.inside in
+    let now = c.go_on.new.handler in
+    let seen : S = record {
+      gates = was.handler.handler.service.now;
+      pass = was.handler.handler.pass;
+      newest = was.newest;
+      sums = was.sums;
+      refused = was.refused;
+      fates = was.fates;
+      book = was.book;
+      client = was.client;
+      message = was.handler.message;
+      returning = was.returning;
+    } in
+    let new : S = record {
+      gates = now.handler.service.now;
+      pass = now.handler.pass;
+      newest = was.newest;
+      sums = was.sums;
+      refused = was.refused;
+      fates = was.fates;
+      book = was.book;
+      client = Some c.go_on.new.self;
+      message = now.message;
+      returning = was.returning;
+    } in
+    let gates : new.gates ≡ seen.gates = cc in
+    let idle : was.returning ≡ None =
+    none_waits t.incoming t.outgoing t.closes was.returning c.is_some.result c.is_some.ensures c.if-is_some.false in
     record {
-      keeps = keeps_from t.incoming t.outgoing t.closes _ c.args.self.now c.go_on_returning.new.self c.self.view_is
-          c.go_on_returning.ensures.keeps;
+      keeps = keeps_from t.incoming t.outgoing t.closes seen c.args.self.now new c.self.view_is
+          (goes_on t.incoming t.outgoing t.closes seen new c.in-Some.client c.go_on.new.self c.in-Some.is refl
+          (gates, refl, refl, refl, refl, refl) idle refl c.go_on.ensures.keeps c.go_on.ensures.breaks
+          c.go_on.ensures.said);
     }

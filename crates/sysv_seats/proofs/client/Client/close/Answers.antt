@@ -4,8 +4,10 @@ use Rattle.sysv_session.specs.declared.served.End.{End}
 use Rattle.sysv_session.specs.declared.served.Served.{Served}
 use Rattle.sysv_session.specs.Conversation.{report, reported}
 use Rattle.sysv_seats.specs.Breaking.{MayEnd}
+use Rattle.sysv_seats.specs.Said.{EndsAsSaid, IsAsSaid}
 use Rattle.sysv_seats.specs.Sits.{Sitting, end_at_close, is_finished}
 use Rattle.sysv_seats.proofs.ClientLemmas.{closed_over, closing_cause, counted_of, has_room}
+use Rattle.sysv_seats.proofs.Said.{said_last}
 use Rattle.sysv_seats.proofs.client.Client.close.Goals as goal
 
 pub end-requires : goal.end-requires
@@ -38,3 +40,14 @@ returns-clause-cause g c = λ may.
     (subst (λ (s : S). MayEnd (t.closes.breaks s.connection)
     (reported (end_at_close c.self.inside.parked c.self.inside.stopped) c.self.inside.conversation.unsent.bytes))
     c.self.view_is cause)
+
+pub returns-clause-said : goal.returns-clause-said
+returns-clause-said g c = λ has.
+    let t = g.T.NonBlocking in
+    let S : Type 0 = Sitting g.row.T.Denot in
+    let here = subst (λ (s : S). IsAsSaid t.closes s) (sym c.self.view_is) has in
+    let told = c.end.ensures ∙ ap (λ (w : End). report w c.self.inside.conversation) c.closing_end.ensures in
+    subst (λ (e : End). EndsAsSaid (t.closes.said c.args.self.connection) e) (sym (ap (λ (s : Served). s.«end») told))
+    (subst (λ (s : S). EndsAsSaid (t.closes.said s.connection)
+    (reported (end_at_close c.self.inside.parked c.self.inside.stopped) c.self.inside.conversation.unsent.bytes))
+    c.self.view_is (said_last t.closes _ here))

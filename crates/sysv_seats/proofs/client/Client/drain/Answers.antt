@@ -1,5 +1,7 @@
 -- The connection takes a part of the replies, or none.
+use Rattle.std.proofs.Common.{refl}
 use Rattle.sysv_seats.proofs.ClientLemmas.{keeps_from, keeps_then, kept_sent, took, turned}
+use Rattle.sysv_seats.proofs.Said.{said_from, said_same}
 use Rattle.sysv_seats.proofs.client.Client.drain.Goals as goal
 
 pub invariant_of-self : goal.invariant_of-self
@@ -24,3 +26,18 @@ returns-in-Failed-clause-keeps g c = keeps_from g.T.NonBlocking.incoming g.T.Non
     (turned g.T.NonBlocking.incoming g.T.NonBlocking.outgoing _ c.drain.new.self c.drain.ensures.unread
     c.in-Failed.ensures.bytes)
     c.fail.ensures.keeps)
+
+pub returns-in-Took-clause-said : goal.returns-in-Took-clause-said
+returns-in-Took-clause-said g c =
+    said_from g.T.NonBlocking.closes _ _ _ c.self.view_is
+    (said_same g.T.NonBlocking.closes _ _ c.drain.ensures.said refl refl)
+
+pub returns-in-NothingNow-clause-said : goal.returns-in-NothingNow-clause-said
+returns-in-NothingNow-clause-said g c =
+    said_from g.T.NonBlocking.closes _ _ _ c.self.view_is
+    (said_same g.T.NonBlocking.closes _ _ c.drain.ensures.said refl refl)
+
+pub returns-in-Failed-clause-said : goal.returns-in-Failed-clause-said
+returns-in-Failed-clause-said g c =
+    said_from g.T.NonBlocking.closes _ _ _ c.self.view_is
+    (λ has. c.fail.ensures.said (said_same g.T.NonBlocking.closes _ _ c.drain.ensures.said refl refl has))

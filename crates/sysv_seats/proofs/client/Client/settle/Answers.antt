@@ -1,13 +1,15 @@
 -- The outcome is put, and the client stops if that fails; or the call is parked.
-use Rattle.std.proofs.Common.{◌≡◌, ◌≤◌, ℕ, List, length, Result, ap, refl, sym, subst, subst₂, arith, true}
+use Rattle.std.proofs.Common.{◌≡◌, ◌≤◌, ◌∙◌, ℕ, List, length, Result, ap, refl, sym, subst, subst₂, arith, true}
 use Rattle.std.proofs.lemmas.List.{drop-drop}
 use Rattle.std.specs.Prelude.{⊤}
 use Rattle.sysv_session.specs.declared.served.End.{End}
 use Rattle.sysv_session.specs.Conversation.{Puts}
 use Rattle.sysv_seats.specs.declared.tools.Tools.{Tools}
+use Rattle.sysv_seats.specs.Holding.{timed}
 use Rattle.sysv_seats.specs.Sits.{HasAsked, IsPending, Sits, Sitting, is_hold_wait_of}
 use Rattle.sysv_seats.proofs.ClientLemmas.{put_cause}
 use Rattle.sysv_seats.proofs.ClientSteps.{answers, over_has, parks, put_none, put_reply, short_given, waits_by}
+use Rattle.sysv_seats.proofs.Said.{put_no_reset, said_parks, said_stops}
 use Rattle.sysv_seats.proofs.client.Client.settle.Goals as goal
 
 -- The body that was given is the same.
@@ -48,7 +50,7 @@ returns-in-Err-clause-keeps g c = λ newest start before now origin text asked b
     c.self.inside.conversation c.put.new.self) c.in-Err.is
     (given_still c.args.tools.now c.tell.new.self c.tell.ensures.0) c.put.ensures in
     subst (λ (s : Sitting g.row.T.Denot). Sits g.T.NonBlocking.incoming g.T.NonBlocking.outgoing newest start origin
-    s now)
+    s (timed now before.late))
     (sym c.stop.ensures)
     (put_none g.T.NonBlocking.incoming g.T.NonBlocking.outgoing newest start before now origin _ _ c.args.cred
     c.args.request
@@ -76,3 +78,26 @@ returns-in-Waits-clause-keeps g c = λ newest start before now origin text asked
     text c.args.size there refl c.args.progress c.in-Waits.waiting c.args.tools.now.given c.in-Waits.is begun refl
     refl
     refl refl
+
+pub returns-in-Err-clause-said : goal.returns-in-Err-clause-said
+returns-in-Err-clause-said g c = λ going.
+    let put = subst (λ (r : Result ⊤ End). Puts r c.args.request.version c.in-Over.outcome c.tell.new.self.given
+    c.self.inside.conversation c.put.new.self) c.in-Err.is c.put.ensures in
+    let other = put_no_reset c.args.request.version c.in-Over.outcome _ _ _ c.in-Err.why
+    (over_has c.args.progress c.in-Over.outcome c.in-Over.is c.requires.replied) put in
+    said_stops g.T.NonBlocking.closes c.args.self.now c.stop.new.self c.in-Err.why other going
+    (ap (λ (s : Sitting g.row.T.Denot). s.connection) c.stop.ensures
+    ∙ ap (λ (s : Sitting g.row.T.Denot). s.connection) c.self.view_is)
+    (ap (λ (s : Sitting g.row.T.Denot). s.stopped) c.stop.ensures)
+
+pub returns-in_default-clause-said : goal.returns-in_default-clause-said
+returns-in_default-clause-said g c = λ going.
+    said_parks g.T.NonBlocking.closes c.args.self.now _ going
+    (ap (λ (s : Sitting g.row.T.Denot). s.connection) c.self.view_is)
+    (ap (λ (s : Sitting g.row.T.Denot). s.stopped) c.self.view_is)
+
+pub returns-in-Waits-clause-said : goal.returns-in-Waits-clause-said
+returns-in-Waits-clause-said g c = λ going.
+    said_parks g.T.NonBlocking.closes c.args.self.now _ going
+    (ap (λ (s : Sitting g.row.T.Denot). s.connection) c.self-in-Waits.view_is)
+    (ap (λ (s : Sitting g.row.T.Denot). s.stopped) c.self-in-Waits.view_is)

@@ -1,6 +1,7 @@
 -- After one more request the client is still one of the same session.
-use Rattle.std.proofs.Common.{◌∙◌, ap}
+use Rattle.std.proofs.Common.{◌∙◌, ap, subst, sym}
 use Rattle.sysv_seats.specs.Held.{holder_of}
+use Rattle.sysv_seats.specs.Said.{IsAsSaid}
 use Rattle.sysv_seats.specs.Sits.{Sitting}
 use Rattle.sysv_seats.proofs.ClientLemmas.{keeps_on, keeps_with_from}
 use Rattle.sysv_seats.proofs.client.Client.take_share.Goals as goal
@@ -20,4 +21,5 @@ loop-preserved g c =
       breaks = c.take_up.ensures.breaks
           ∙ (ap (λ (client : Sitting g.row.T.Denot). t.closes.breaks client.connection) c.self.view_is
           ∙ c.loop.invariant.breaks);
+      said = λ has. c.take_up.ensures.said (subst (IsAsSaid t.closes) (sym c.self.view_is) (c.loop.invariant.said has));
     }

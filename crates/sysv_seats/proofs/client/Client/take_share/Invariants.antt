@@ -2,6 +2,7 @@
 use Rattle.std.proofs.Common.{◌≡◌}
 use Rattle.sysv_seats.specs.HandlesKept.{KeepsHandles}
 use Rattle.sysv_seats.specs.Held.{holder_of}
+use Rattle.sysv_seats.specs.Said.{KeepsAsSaid}
 use Rattle.sysv_seats.specs.Sits.{KeepsWith}
 use Rattle.sysv_seats.proofs.client.Client.take_share.Given as goal
 
@@ -11,4 +12,5 @@ invariant-loop g l = record {
       (holder_of l.fn.handler) l.self (holder_of l.handler);
   handles : KeepsHandles l.fn.handler.handler l.handler.handler;
   breaks : g.T.NonBlocking.closes.breaks l.self.connection ≡ g.T.NonBlocking.closes.breaks l.fn.self.connection;
+  said : KeepsAsSaid g.T.NonBlocking.closes l.fn.self l.self;
 }

@@ -1,12 +1,12 @@
 -- A hold has come as far as its receive, once its caller may send to the queue.
-use Rattle.std.proofs.Common.{◌≡◌, [], rules, sym, subst, true, Result, Ok, Err}
+use Rattle.std.proofs.Common.{◌≡◌, [], rules, subst, true, Result}
 use Rattle.std.proofs.lemmas.Int.{to_z-of_z}
 use Rattle.std.specs.Prelude.{⊤}
 use Rattle.sysv_model.specs.declared.errno.Errno.{Errno}
 use Rattle.sysv_wire.specs.declared.request.Ask.TheVariants.{Rcv}
 use Rattle.sysv_seats.specs.Held.{AsksForWriting, holder_of}
 use Rattle.sysv_seats.specs.Holding.{can_hold}
-use Rattle.sysv_seats.proofs.HeldPieces.{begun_short, hold_answers, hold_begun, hold_denied}
+use Rattle.sysv_seats.proofs.HeldPieces.{begun_short, hold_answers, hold_begun}
 use Rattle.sysv_seats.proofs.keeper.Keeper.begin_hold.Goals as goal
 
 pub keep-requires-clause-short : goal.keep-requires-clause-short
@@ -26,7 +26,7 @@ returns-in-Ok-clause-begun g c = λ text.
     let came = simp to_z-of_z at c.begin_receive-came.ensures.begun in
     let begun = rw c.ask_for_writing.ensures.handles.1 at came in
     let held = simp to_z-of_z at c.keep.ensures.message in
-    let can : can_hold c.args.flags c.args.seconds c.args.self.now.message ≡ true = search rules in
+    let can : can_hold c.args.flags c.args.self.now.message ≡ true = search rules in
     let asked = simp to_z-of_z at c.ask_for_writing.ensures.asks in
     let asks = subst (λ (r : Result ⊤ Errno). AsksForWriting c.args.cred c.args.id c.args.self.now.handler.pass r
     c.ask_for_writing.new.self.pass) c.in-Ok.is asked in
