@@ -175,14 +175,8 @@ impl Words<'_> {
         }
     }
 
-    /// Says that a message does not fit, or that a receiver may hold none.
+    /// Says that a message does not fit.
     fn no_room<W: fmt::Write>(&self, f: &mut fmt::Formatter<W>) -> fmt::Result {
-        if let Some(Task::Receive(_)) = self.task() {
-            return write!(
-                f,
-                "the server can hold no more messages: it lacks a place (--at-once) or memory"
-            );
-        }
         match self.detail {
             Detail::Full(Room::Queue(stat)) => {
                 let Stat {
