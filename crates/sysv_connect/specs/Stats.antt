@@ -1,5 +1,5 @@
 -- What the client of `stats` does (this project's programs).
-use Rattle.std.specs.Prelude.{◌≡◌, ◌≢◌, ◌⊎◌, ℕ, Bool, true, false, List, codes, [], ◌∷◌, ◌++◌, Option}
+use Rattle.std.specs.Prelude.{◌≡◌, ◌≤◌, ◌⊎◌, ℕ, Bool, true, false, List, codes, [], ◌∷◌, ◌++◌, length, Option}
 use Rattle.std.specs.Io.KnownBytes.{Appends, Consumes, IsAtEnd}
 use Rattle.std.specs.declared.process.ExitCode.{ExitCode}
 use Rattle.sysv_connect.specs.Ends.{Fails, Succeeds}
@@ -16,7 +16,7 @@ pub record PrintsState (json : Bool) (left rest taken more shown after : Option 
   pub asks : Appends taken more (asked_with json)
   pub read : Consumes left rest bytes
   pub whole : IsAtEnd rest
-  pub some : bytes ≢ []
+  pub some : 1 ≤ length bytes
   pub printed : Appends shown after bytes
 
 -- It asked the server no more than that. It printed nothing, or a prefix of all bytes that the server
