@@ -12,6 +12,14 @@ NOT_MADE = "not made"  # the call did nothing, so it can be made again
 UNKNOWN = "unknown"  # the call took effect or did nothing
 
 
+#: What an error means for one call, if its sentence says less.
+SENTENCES: Dict[Tuple[str, Optional[str]], str] = {
+    ("EACCES", "hold"): "the queue's mode does not permit to receive and to send",
+    ("EAGAIN", "hold"): "the server can hold no more messages: it lacks a place (--at-once) or memory",
+    ("EINVAL", "snd"): "there is no such queue, the type is below 1, or the body has more than 8192 bytes",
+}  # fmt: skip
+
+
 class Error(OSError):
     """A call that failed. `name` is the name of the error, and `errno` the system's number for it.
 
@@ -38,6 +46,7 @@ class Error(OSError):
     def of(self: E, call: Optional[str], path: Optional[str], key: Optional[int], queue: Optional[int]) -> E:
         """This error, of that call."""
         self.call, self.filename, self.key, self.queue = call, path, key, queue
+        self.why = self.strerror = SENTENCES.get((self.name, call), self.why)
         return self
 
     def __str__(self) -> str:
@@ -134,10 +143,10 @@ class Removed(QueueError):
 
 
 class Overflow(QueueError):
-    """EOVERFLOW: a number does not fit."""
+    """EOVERFLOW: a counter of the server has reached its bound."""
 
     name = "EOVERFLOW"
-    sentence = "a number does not fit"
+    sentence = "a counter of the server has reached its bound"
 
 
 #: The errors by their numbers in replies.

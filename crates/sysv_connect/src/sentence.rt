@@ -175,8 +175,14 @@ impl Words<'_> {
         }
     }
 
-    /// Says that a message does not fit.
+    /// Says that a message does not fit, or that a receiver may hold none.
     fn no_room<W: fmt::Write>(&self, f: &mut fmt::Formatter<W>) -> fmt::Result {
+        if let Some(Task::Receive(_)) = self.task() {
+            return write!(
+                f,
+                "the server can hold no more messages: it lacks a place (--at-once) or memory"
+            );
+        }
         match self.detail {
             Detail::Full(Room::Queue(stat)) => {
                 let Stat {
