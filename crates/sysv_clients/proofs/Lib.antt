@@ -11,5 +11,7 @@ mod LineLemmas
 mod ObjectLemmas
 mod StatedLemmas
 mod HoldLemmas
+mod SaveLemmas
+mod SavedLemmas
 mod JsonLemmas
 mod CopyLemmas

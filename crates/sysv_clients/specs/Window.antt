@@ -1,6 +1,6 @@
 -- A session of sends in progress (this project's word is a window): some sends have their replies,
 -- and some are on their way.
-use Rattle.std.specs.Prelude.{◌≡◌, ◌≤◌, ◌+◌, ◌-◌, ◌^◌, ⊤, ℕ, ℤ, List, [], ◌++◌, length, Option, None}
+use Rattle.std.specs.Prelude.{◌≡◌, ◌≤◌, ◌+◌, ◌-◌, ◌^◌, ⊤, ℕ, ℤ, pos, List, [], ◌++◌, length, Option, None}
 use Rattle.std.specs.Prelude.{Result, Ok, Err}
 use Rattle.std.specs.Io.KnownBytes.{Appends, Consumes}
 use Rattle.sysv_clients.specs.declared.fault.ClientFault.{ClientFault}
@@ -113,3 +113,7 @@ EndsLines wording (Err (Cut cut)) lines fed unfed = ⊥
 abbrev pub lost : Window → ACut
 lost window =
     record { before = window.done; fault = fault.NoReply; after = 0; unknown = window.waiting }
+
+-- A window without sends, to no queue yet.
+abbrev pub empty : Window
+empty = record { id = pos 0; done = 0; waiting = 0 }
