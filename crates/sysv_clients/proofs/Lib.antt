@@ -4,6 +4,7 @@ pub mod WordLemmas
 pub mod Parses
 pub mod CallLemmas
 pub mod StreamLemmas
+pub mod WindowLemmas
 pub mod SendLemmas
 pub mod ClearLemmas
 mod RefusalLemmas
@@ -13,5 +14,6 @@ mod StatedLemmas
 mod HoldLemmas
 mod SaveLemmas
 mod SavedLemmas
+mod LoadLemmas
 mod JsonLemmas
 mod CopyLemmas

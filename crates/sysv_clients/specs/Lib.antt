@@ -27,3 +27,4 @@ pub mod Copies
 pub mod Saved
 pub mod Saving
 pub mod Loading
+pub mod Loaded

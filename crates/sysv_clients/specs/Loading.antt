@@ -11,6 +11,7 @@ use Rattle.std.specs.declared.io.ErrorKind.{ErrorKind}
 use Rattle.sysv_clients.specs.declared.fault.ClientFault.{ClientFault}
 use Rattle.sysv_clients.specs.declared.fault.ClientFault.TheVariants as fault
 use Rattle.sysv_clients.specs.declared.loading.Loading.{Loading}
+use Rattle.sysv_clients.specs.declared.loading.Place.{Place}
 use Rattle.sysv_clients.specs.declared.loading.Unfit.{Unfit}
 use Rattle.sysv_clients.specs.declared.loading.Unfit.TheVariants as unfit
 use Rattle.sysv_clients.specs.declared.loading.Unloaded.{Unloaded}
@@ -19,14 +20,19 @@ use Rattle.sysv_clients.specs.declared.saved.Entry.{Entry}
 use Rattle.sysv_clients.specs.declared.saved.Entry.TheVariants.{Format, Queue, Message}
 use Rattle.sysv_clients.specs.declared.saved.SavedQueue.{SavedQueue}
 use Rattle.sysv_clients.specs.declared.sending.Cut.{Cut as ACut}
+use Rattle.sysv_clients.specs.declared.sending.Sending.{Sending}
 use Rattle.sysv_clients.specs.declared.sending.TheConstants.{WINDOW}
+use Rattle.sysv_clients.specs.declared.sending.Unsent.{Unsent}
+use Rattle.sysv_clients.specs.declared.sending.Unsent.TheVariants as unsent
+use Rattle.sysv_clients.specs.declared.sending.Wording.TheVariants.{Objects}
 use Rattle.sysv_clients.specs.declared.stated.TheConstants.{OBJECT_BYTES}
 use Rattle.sysv_clients.specs.Asks.{flags_to_make, flags_to_wait, no_flags, request_of}
 use Rattle.sysv_clients.specs.Calls.{Call, Each, IsCallDone, id_in, read_by, written_by}
 use Rattle.sysv_clients.specs.Dialogue.{Exchanges}
 use Rattle.sysv_clients.specs.Lines.{HasNone, IsNext, IsTooLong}
 use Rattle.sysv_clients.specs.Saved.{IsFormatLine, IsQueueLine, StatesEntry, StatesNothing}
-use Rattle.sysv_clients.specs.Sending.{EndsReplies, HasReply, IsCutBy, Sent}
+use Rattle.sysv_clients.specs.Sending.{EndsReplies, HasReply, IsCutBy, Sent, sent_by}
+use Rattle.sysv_clients.specs.Window.{AreSnds}
 use Rattle.sysv_model.specs.declared.cred.Cred.{Cred}
 use Rattle.sysv_model.specs.declared.attributes.SetTo.{SetTo}
 use Rattle.sysv_model.specs.declared.flags.Flags.{Flags}
@@ -54,18 +60,26 @@ abbrev pub set_ask : SavedQueue → ℤ → Ask
 set_ask queue id =
     Set id (record { uid = queue.uid; gid = queue.gid; mode = queue.mode; qbytes = queue.qbytes })
 
+-- The sends to the queues.
+abbrev pub sending_to_load : Loading → Sending
+sending_to_load loading =
+    record { cred = loading.cred; key = pos 0; wording = Objects; nowait = loading.nowait }
+
+-- How a load ends that reads or sends its lines.
+abbrev pub unloaded_by : Unsent → Unloaded
+unloaded_by (unsent.Fault why) = Fault why
+unloaded_by (unsent.Cut cut) = Cut cut
+unloaded_by (unsent.Long before) = Line before unfit.Long
+unloaded_by (unsent.NoObject before) = Line before unfit.Nothing
+unloaded_by (unsent.Memory before) = Line before unfit.Memory
+unloaded_by unsent.Many = Many
+unloaded_by (unsent.Input why) = Input why
+
 -- The number of sends that may be on their way.
 abbrev pub window_to_load : Loading → ℕ
 window_to_load loading = if loading.nowait then 1 else WINDOW
 
--- Where a load is: how many lines it has read, the queue of the last queue's line, none if there is no such line since
--- that of a format, and the identifier of that queue once it was made or found.
-pub record Place : Type 0 where
-  pub lines : ℕ
-  pub queue : Option SavedQueue
-  pub found : Option ℤ
-
--- Before the first line.
+-- Where a load is before the first line.
 abbrev pub outset : Place
 outset = record { lines = 0; queue = None; found = None }
 
@@ -88,14 +102,18 @@ MayLoad loading queue = (queue.key ≢ pos 0) × (is_own loading queue ≡ true)
 abbrev pub send_of : Loading → ℤ → (mtype : ℤ) → (body : List ℕ) → Sent
 send_of loading found mtype body = record { ask = Snd found mtype (flags_to_wait loading.nowait); text = body }
 
+-- The line of a queue was noted, and any other one was passed over.
+abbrev pub Notes : (line : List ℕ) → (before after : Place) → Type 0
+Notes line before after =
+    ((queue : SavedQueue) × IsQueueLine line queue × (after.queue ≡ Some queue) × (after.found ≡ None))
+    ⊎ (((queue : SavedQueue) → ¬ IsQueueLine line queue) × (after.queue ≡ before.queue)
+    × (after.found ≡ before.found))
+
 -- The line is one before the first that is loaded. That of a queue is noted, and any other is passed over.
 abbrev pub IsPassed : Loading → Place → Step → Place → Type 0
 IsPassed loading before step after =
     (1 ≤ before.lines) × (before.lines + 1 < loading.from) × (step.asks ≡ [])
-    × (after.lines ≡ before.lines + 1)
-    × (((queue : SavedQueue) × IsQueueLine step.line queue × (after.queue ≡ Some queue) × (after.found ≡ None))
-    ⊎ (((queue : SavedQueue) → ¬ IsQueueLine step.line queue) × (after.queue ≡ before.queue)
-    × (after.found ≡ before.found)))
+    × (after.lines ≡ before.lines + 1) × Notes step.line before after
 
 -- The requests of a line that is loaded, by what it states. The identifier is the one that its msgget returned, or
 -- the one that the queue has.
@@ -111,9 +129,13 @@ Asks loading before (Message mtype) body asks after =
     × (((before.found ≡ Some id) × (asks ≡ send_of loading id mtype body ∷ []))
     ⊎ ((before.found ≡ None) × (asks ≡ plain (find_ask queue) ∷ send_of loading id mtype body ∷ [])))
 
+-- The next line is loaded: it is the first one, or not before the one to load from.
+abbrev pub IsDue : Loading → ℕ → Type 0
+IsDue loading lines = (lines ≡ 0) ⊎ (loading.from ≤ lines + 1)
+
 -- The line is loaded. The first one states the format.
 pub record IsLoaded (loading : Loading) (before : Place) (step : Step) (after : Place) : Type 0 where
-  pub due : (before.lines ≡ 0) ⊎ (loading.from ≤ before.lines + 1)
+  pub due : IsDue loading before.lines
   pub first : before.lines ≡ 0 → step.entry ≡ Format
   pub states : StatesEntry step.line step.entry step.body
   pub asks : Asks loading before step.entry step.body step.asks after
@@ -133,11 +155,6 @@ AreTaken loading before (step ∷ more) fed rest after =
 -- The requests of these lines, in order.
 abbrev pub asks_in : List Step → List Sent
 asks_in steps = flat_map (λ step. step.asks) steps
-
--- The requests of these calls, with their bodies.
-abbrev pub asked_by : List Call → List Sent
-asked_by [] = []
-asked_by (call ∷ more) = record { ask = call.ask; text = call.text } ∷ asked_by more
 
 -- The first call is the hello.
 abbrev pub BeginsWithHello : Loading → List Call → Type 0
@@ -159,7 +176,7 @@ NamesNext call (next ∷ more) =
 -- Each msgget is followed by a request for the identifier that it returned, with these requests at the end.
 abbrev pub NamesFound : List Call → List Sent → Type 0
 NamesFound [] later = ⊤
-NamesFound (call ∷ more) later = NamesNext call (asked_by more ++ later) × NamesFound more later
+NamesFound (call ∷ more) later = NamesNext call (sent_by more ++ later) × NamesFound more later
 
 -- Why the next line is not loaded.
 abbrev pub IsUnfit : Loading → Place → Unfit → (fed unfed : Option (List ℕ)) → Type 0
@@ -181,9 +198,10 @@ IsUnfit loading place unfit.NoQueue fed unfed =
 IsUnfit loading place unfit.Memory fed unfed = (line : List ℕ) × IsNext OBJECT_BYTES line fed unfed
 
 -- The session made no request after these, and each has a reply.
-pub record AreAllDone (calls : List Call) (waiting : List Sent) (left rest taken more : Option (List ℕ)) :
+pub record AreAllDone (calls : List Call) (partial waiting : List Sent) (left rest taken more : Option (List ℕ)) :
     Type 0 where
   pub done : Each IsCallDone calls
+  pub whole : partial ≡ []
   pub none : waiting ≡ []
   pub read : rest ≡ left
   pub wrote : more ≡ taken
@@ -193,46 +211,77 @@ abbrev pub line_calls : List Call → List Call
 line_calls [] = []
 line_calls (hello ∷ more) = more
 
+-- The number of lines of which it is unknown whether they are loaded, after a msgget or a msgctl with this fault.
+abbrev pub unknown_by : ClientFault → ℕ
+unknown_by (fault.Refused error) = 0
+unknown_by fault.NoReply = 1
+unknown_by fault.NoMemory = 0
+
+-- A line of this queue wants this msgget or msgctl, after these requests for it.
+abbrev pub WantsOfQueue : Loading → SavedQueue → (partial : List Sent) → Ask → Type 0
+WantsOfQueue loading queue partial ask =
+    ((partial ≡ []) × (ask ≡ make_ask loading queue))
+    ⊎ ((id : ℤ) × (partial ≡ plain (make_ask loading queue) ∷ []) × (ask ≡ set_ask queue id))
+
+-- The line wants this msgget or msgctl, after these requests for it.
+abbrev pub Wants : Loading → Place → (line : List ℕ) → (partial : List Sent) → Ask → Type 0
+Wants loading place line partial ask =
+    (queue : SavedQueue) × MayLoad loading queue
+    × ((IsQueueLine line queue × WantsOfQueue loading queue partial ask)
+    ⊎ ((mtype : ℤ) × (body : List ℕ) × StatesEntry line (Message mtype) body × (place.queue ≡ Some queue)
+    × (place.found ≡ None) × (partial ≡ []) × (ask ≡ find_ask queue)))
+
 -- A msgget or a msgctl for the next line ends the load; all lines before are loaded.
-pub record EndsAtQueue (place : Place) (cut : ACut) (calls : List Call) (waiting : List Sent)
-    (left rest taken more : Option (List ℕ)) : Type 0 where
+pub record EndsAtQueue (loading : Loading) (place : Place) (cut : ACut) (calls : List Call)
+    (partial waiting : List Sent) (left rest taken more fed unfed : Option (List ℕ)) : Type 0 where
+  pub line : List ℕ
   pub ask : Ask
+  pub next : IsNext OBJECT_BYTES line fed unfed
+  pub due : IsDue loading place.lines
+  pub wants : Wants loading place line partial ask
+  pub named : NamesFound (line_calls calls) (plain ask ∷ [])
   pub done : Each IsCallDone calls
   pub none : waiting ≡ []
   pub before : cut.before ≡ place.lines
   pub after : cut.after ≡ 0
-  pub unknown : cut.unknown ≤ 1
+  pub unknown : cut.unknown ≡ unknown_by cut.fault
   pub ends : Exchanges (request_encoding (request_of ask) []) ask (Err cut.fault) left rest taken more []
 
 -- A send was refused or has no reply. All lines before its line are loaded.
-pub record EndsAtSend (steps : List Step) (cut : ACut) (calls : List Call) (waiting : List Sent)
+pub record EndsAtSend (steps : List Step) (cut : ACut) (calls : List Call) (partial waiting : List Sent)
     (left rest taken more : Option (List ℕ)) : Type 0 where
-  pub before_queue : List Call  -- the calls up to the first send of this window
-  pub sends : List Call
-  pub split : calls ≡ before_queue ++ sends
+  pub earlier_calls : List Call  -- all of them were done
+  pub sends : List Call  -- the last calls
+  pub split : calls ≡ earlier_calls ++ sends
+  pub done : Each IsCallDone earlier_calls
+  pub snds : AreSnds (sent_by sends ++ waiting)
   pub earlier : ℕ  -- the number of lines before that of the first of these sends
-  pub by : IsCutBy cut.fault (record cut { before = cut.before - earlier }) sends
-  pub counted : earlier ≤ cut.before
+  pub own : ℕ  -- the number of these sends before the one that ends the load
+  pub by : IsCutBy cut.fault (record cut { before = own }) sends
+  pub counted : cut.before ≡ earlier + own
   pub every : length steps ≡ earlier + length sends + length waiting
+  pub whole : partial ≡ []
   pub unknown : cut.unknown ≡ length waiting
   pub ends : EndsReplies waiting left rest taken more
 
--- How a load ends after these lines, at this place, with these calls and these sends on their way.
-abbrev pub EndsLoad : Loading → Result ⊤ Unloaded → Place → List Step → List Call → List Sent →
+-- How a load ends after these lines, at this place, with these calls, with these requests for a line that is not
+-- loaded whole, and with these sends on their way.
+abbrev pub EndsLoad : Loading → Result ⊤ Unloaded → Place → List Step → List Call → (partial waiting : List Sent) →
     (left rest taken more fed unfed : Option (List ℕ)) → Type 0
-EndsLoad loading (Ok done) place steps calls waiting left rest taken more fed unfed =
-    AreAllDone calls waiting left rest taken more × (1 ≤ length steps) × HasNone fed unfed
-EndsLoad loading (Err (Line before why)) place steps calls waiting left rest taken more fed unfed =
-    AreAllDone calls waiting left rest taken more × (before ≡ length steps) × IsUnfit loading place why fed unfed
-EndsLoad loading (Err Many) place steps calls waiting left rest taken more fed unfed =
-    AreAllDone calls waiting left rest taken more × (unfed ≡ fed) × (length steps ≡ 2 ^ 64 - 1)
-EndsLoad loading (Err (Input why)) place steps calls waiting left rest taken more fed unfed =
-    AreAllDone calls waiting left rest taken more
-EndsLoad loading (Err (Cut cut)) place steps calls waiting left rest taken more fed unfed =
-    EndsAtQueue place cut calls waiting left rest taken more
-    ⊎ EndsAtSend steps cut calls waiting left rest taken more
-EndsLoad loading (Err (Fault why)) place steps calls waiting left rest taken more fed unfed =
-    (steps ≡ []) × (calls ≡ []) × (waiting ≡ []) × (unfed ≡ fed)
+EndsLoad loading (Ok done) place steps calls partial waiting left rest taken more fed unfed =
+    AreAllDone calls partial waiting left rest taken more × (1 ≤ length steps) × HasNone fed unfed
+EndsLoad loading (Err (Line before why)) place steps calls partial waiting left rest taken more fed unfed =
+    AreAllDone calls partial waiting left rest taken more × (before ≡ length steps)
+    × IsUnfit loading place why fed unfed
+EndsLoad loading (Err Many) place steps calls partial waiting left rest taken more fed unfed =
+    AreAllDone calls partial waiting left rest taken more × (unfed ≡ fed) × (length steps ≡ 2 ^ 64 - 1)
+EndsLoad loading (Err (Input why)) place steps calls partial waiting left rest taken more fed unfed =
+    AreAllDone calls partial waiting left rest taken more
+EndsLoad loading (Err (Cut cut)) place steps calls partial waiting left rest taken more fed unfed =
+    EndsAtQueue loading place cut calls partial waiting left rest taken more fed unfed
+    ⊎ EndsAtSend steps cut calls partial waiting left rest taken more
+EndsLoad loading (Err (Fault why)) place steps calls partial waiting left rest taken more fed unfed =
+    (steps ≡ []) × (calls ≡ []) × (partial ≡ []) × (waiting ≡ []) × (unfed ≡ fed)
     × (((why ≡ fault.NoMemory) × (rest ≡ left) × (more ≡ taken))
     ⊎ Exchanges (request_encoding (request_of (Hello loading.cred)) []) (Hello loading.cred) (Err why) left rest
     taken more [])
@@ -251,14 +300,15 @@ pub record LoadsAll (loading : Loading) (ended : Result ⊤ Unloaded) (left rest
   pub unloaded : Option (List ℕ)  -- what the input had left after the lines
   pub lines : AreTaken loading outset steps fed unloaded place
   pub hello : (calls ≡ []) ⊎ BeginsWithHello loading calls
-  pub made : (partial : List Sent) × (asked_by (line_calls calls) ++ waiting ≡ asks_in steps ++ partial)
-      × (length partial ≤ 1)
+  pub partial : List Sent  -- the requests for a line that is not loaded whole
+  pub made : sent_by (line_calls calls) ++ waiting ≡ asks_in steps ++ partial
+  pub counted : length steps ≡ place.lines
   pub named : NamesFound (line_calls calls) waiting
   pub answered : Each HasReply calls
   pub few : length waiting ≤ window_to_load loading
   pub reads : Consumes left unread (read_by calls)
   pub writes : Appends taken written (written_by calls)
-  pub ends : EndsLoad loading ended place steps calls waiting unread rest written more unloaded unfed
+  pub ends : EndsLoad loading ended place steps calls partial waiting unread rest written more unloaded unfed
 
 -- The same load, whose input was read further than the lines that it took: these bytes more.
 abbrev pub LoadsAhead : Loading → Result ⊤ Unloaded → (left rest taken more fed unfed : Option (List ℕ)) → Type 0

@@ -50,6 +50,30 @@ string_member name text = key name ∷ string text ∷ []
 abbrev pub number_member : (name digits : List ℕ) → List Token
 number_member name digits = key name ∷ number digits ∷ []
 
+-- A key and an identifier come first, and this rest follows.
+pub record HasName (name id : ℤ) (all rest : List Token) : Type 0 where
+  pub word : List ℕ
+  pub digits : List ℕ
+  pub has_key : IsHexKey word name
+  pub has_id : IsId digits id
+  pub object : all ≡ string_member (codes "key") word ++ (number_member (codes "msqid") digits ++ rest)
+
+-- A mode and a limit come first, and this rest follows.
+pub record HasLimits (mode qbytes : ℕ) (all rest : List Token) : Type 0 where
+  pub word : List ℕ
+  pub digits : List ℕ
+  pub has_mode : IsPerms word mode
+  pub has_qbytes : IsNat32 digits qbytes
+  pub object : all ≡ string_member (codes "perms") word ++ (number_member (codes "qbytes") digits ++ rest)
+
+-- Two numbers of 32 bits come first, under these names, and this rest follows.
+pub record HasPair (first second : List ℕ) (one two : ℕ) (all rest : List Token) : Type 0 where
+  pub digits : List ℕ
+  pub others : List ℕ
+  pub has_one : IsNat32 digits one
+  pub has_two : IsNat32 others two
+  pub object : all ≡ number_member first digits ++ (number_member second others ++ rest)
+
 -- The line states this format: it has these tokens.
 pub record IsFormatLine (line : List ℕ) : Type 0 where
   pub utf8 : IsUtf8 line

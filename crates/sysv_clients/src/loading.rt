@@ -1,9 +1,22 @@
 //! A `load`: a session that makes the queues that a file states, and sends their messages.
 
-ghost use Rattle.std.specs.Prelude.{◌≡◌, [], IfOk, IfErr};
-ghost use Rattle.sysv_clients.specs.Feed.{feed_name, feed_stream, failure_of};
-ghost use Rattle.sysv_clients.specs.Loading.{FailsLoadBy, LoadsAhead, find_ask, is_own, make_ask, set_ask};
+ghost use Rattle.std.specs.Prelude.{◌≡◌, ◌⊎◌, ◌+◌, ◌-◌, ◌<◌, ◌≤◌, ◌^◌, ℕ, List, Option, [], true, IfErr, IfOk, OnOk};
+ghost use Rattle.std.specs.Bool.{MatchBool};
+ghost use Rattle.std.specs.Io.KnownBytes.{prepend_known};
+ghost use Rattle.sysv_clients.specs.declared.loading.Loading.{Loading as ALoading};
+ghost use Rattle.sysv_clients.specs.declared.loading.Unloaded.TheVariants as unloadeds;
+ghost use Rattle.sysv_clients.specs.declared.saved.Entry.TheVariants as entries;
+ghost use Rattle.sysv_clients.specs.declared.stated.TheConstants.{OBJECT_BYTES};
+ghost use Rattle.sysv_clients.specs.Feed.{failure_of, feed_name, feed_stream};
+ghost use Rattle.sysv_clients.specs.Lines.{IsNext};
+ghost use Rattle.sysv_clients.specs.Loaded.{Checks, EndsAt, Finds, IsAsked, IsCutLoad, IsOfLine, Loads, MayBeAt, Passes, ReadsEntry, Stops, TakesLine, TakesNext, one_taken};
+ghost use Rattle.sysv_clients.specs.Loading.{FailsLoadBy, IsDue, LoadsAhead, LoadsAll, find_ask, is_own, make_ask, outset, sending_to_load, set_ask, unloaded_by, window_to_load};
+ghost use Rattle.sysv_clients.specs.Dialogue.{Exchanges};
+ghost use Rattle.sysv_clients.specs.Asks.{request_of};
+ghost use Rattle.sysv_clients.specs.Saved.{IsFormatLine, StatesEntry};
+ghost use Rattle.sysv_clients.specs.Window.{empty};
 ghost use Rattle.sysv_model.specs.Instrumented.{stream_name, stream_of};
+ghost use Rattle.sysv_wire.specs.Requests.{request_encoding};
 
 use crate::client::found;
 use crate::command::make_flags;
@@ -92,6 +105,8 @@ pub enum Unloaded {
 }
 
 impl From<Unsent> for Unloaded {
+    ghost from_gives = { λ unsent given. given ≡ unloaded_by unsent };
+
     fn from(unsent: Unsent) -> Unloaded {
         match unsent {
             Unsent::Fault(fault) => Unloaded::Fault(fault),
@@ -106,7 +121,9 @@ impl From<Unsent> for Unloaded {
 }
 
 /// Returns the end of a load at a line that cannot be loaded.
-fn at_line(before: u64, why: Unfit) -> Unloaded {
+fn at_line(before: u64, why: Unfit) -> Unloaded
+    ensures { result ≡ unloadeds.Line before why }
+{
     Unloaded::Line { before, why }
 }
 
@@ -134,7 +151,9 @@ impl Loading {
     }
 
     /// Returns the sends to the queues.
-    fn sending(&self) -> Sending {
+    fn sending(&self) -> Sending
+        ensures { result ≡ sending_to_load self.now }
+    {
         Sending {
             cred: self.cred,
             key: 0,
@@ -231,41 +250,97 @@ pub fn load_feed<I: Read, R: Read, W: Write>(
     // The input stays the same.
     ensures same { feed_name input.new ≡ feed_name input.old }
 {
+    load_instrumented(
+        alloc,
+        loading,
+        input,
+        &mut Instrumented::new(reader),
+        &mut Instrumented::new(writer),
+    )
+}
+
+/// Loads lines like `load_feed`.
+fn load_instrumented<I: Read, R: Read, W: Write>(
+    alloc: Global,
+    loading: &Loading,
+    input: &mut Feed<'_, I>,
+    reader: &mut Instrumented<'_, R>,
+    writer: &mut Instrumented<'_, W>,
+) -> Result<(), Unloaded>
+    ensures loads { LoadsAhead loading.now result
+        (R.remaining (stream_of reader.old)) (R.remaining (stream_of reader.new))
+        (W.contents (stream_of writer.old)) (W.contents (stream_of writer.new))
+        (I.remaining (feed_stream input.old)) (I.remaining (feed_stream input.new)) }
+    ensures failed { FailsLoadBy result (failure_of input.new) }
+    ensures same_input { feed_name input.new ≡ feed_name input.old }
+    ensures same_reader { stream_name reader.new ≡ stream_name reader.old }
+    ensures same_writer { stream_name writer.new ≡ stream_name writer.old }
+{
     match Loader::open(alloc) {
-        Ok(mut loader) => loader.load_all(
-            alloc,
-            loading,
-            input,
-            &mut Instrumented::new(reader),
-            &mut Instrumented::new(writer),
-        ),
+        Ok(mut loader) => loader.load_all(alloc, loading, input, reader, writer),
         Err(NoMemory) => Err(Unloaded::Fault(ClientFault::NoMemory)),
+    }
+}
+
+/// Where a load is.
+#[derive(Clone, Copy)]
+pub(crate) struct Place {
+    /// The number of lines that were taken: passed over or loaded.
+    lines: u64,
+    /// The queue of the last queue's line, if there is one since the last line of a format.
+    queue: Option<SavedQueue>,
+    /// The identifier of that queue, once it was made or found.
+    found: Option<i32>,
+}
+
+impl Place {
+    /// Returns the place before the first line.
+    fn outset() -> Place
+        ensures { result ≡ outset }
+    {
+        Place {
+            lines: 0,
+            queue: None,
+            found: None,
+        }
+    }
+
+    /// Returns whether the next line is before the one to load from. The first line is not, since
+    /// it states the format.
+    fn is_early(&self, loading: &Loading) -> bool
+        requires { self.now.lines < 2 ^ 64 - 1 }
+        ensures { MatchBool result
+            ((1 ≤ self.now.lines) × (self.now.lines + 1 < loading.now.from))
+            (IsDue loading.now self.now.lines) }
+    {
+        self.lines > 0 && self.lines + 1 < loading.from
     }
 }
 
 /// A client that loads queues.
 #[derive(Drop)]
 struct Loader {
-    /// What sends their messages.
+    /// What reads the lines, and sends the messages.
     sender: Sender,
     /// The body of the other requests, which is empty.
     none: Body,
-    /// The queue of the next message.
-    queue: Option<SavedQueue>,
-    /// Whether that queue was made or found.
-    is_found: bool,
+    /// Where it is.
+    place: Place,
+    /// The sends on their way, and the number of lines before theirs.
+    window: Window,
 }
 
 impl Loader {
     /// Creates a client that has made no request. Fails with `NoMemory` if allocation fails.
     fn open(alloc: Global) -> Result<Loader, NoMemory>
-        ensures { IfOk result (λ loader. loader.none ≡ []) }
+        ensures { IfOk result (λ loader. (loader.none ≡ []) × (loader.sender.chunk ≡ [])
+            × (loader.place ≡ outset) × (loader.window ≡ empty)) }
     {
         Ok(Loader {
             sender: Sender::open(alloc, Wording::Objects)?,
             none: Body::open(alloc)?,
-            queue: None,
-            is_found: false,
+            place: Place::outset(),
+            window: Window::empty(),
         })
     }
 
@@ -277,156 +352,355 @@ impl Loader {
         input: &mut Feed<'_, I>,
         reader: &mut Instrumented<'_, R>,
         writer: &mut Instrumented<'_, W>,
-    ) -> Result<(), Unloaded> {
+    ) -> Result<(), Unloaded>
+        requires none { self.old.none ≡ [] }
+        requires chunk { self.old.sender.chunk ≡ [] }
+        requires place { self.old.place ≡ outset }
+        requires window { self.old.window ≡ empty }
+        ensures loads { LoadsAhead loading.now result
+            (R.remaining (stream_of reader.old)) (R.remaining (stream_of reader.new))
+            (W.contents (stream_of writer.old)) (W.contents (stream_of writer.new))
+            (I.remaining (feed_stream input.old)) (I.remaining (feed_stream input.new)) }
+        ensures failed { FailsLoadBy result (failure_of input.new) }
+        ensures same_input { feed_name input.new ≡ feed_name input.old }
+        ensures same_reader { stream_name reader.new ≡ stream_name reader.old }
+        ensures same_writer { stream_name writer.new ≡ stream_name writer.old }
+    {
         if let Err(fault) = self.request(Ask::Hello(loading.cred), reader, writer) {
             return Err(Unloaded::Fault(fault));
         }
-        let mut window = Window::empty();
-        let mut lines = 0;
-        while lines < u64::MAX {
-            match self.load_next(alloc, loading, lines, &mut window, input, reader, writer) {
-                Ok(true) => lines += 1,
-                Ok(false) => return self.end(reader, writer, &mut window, Ok(())),
-                Err(why) => return self.end(reader, writer, &mut window, Err(why)),
+        while self.place.lines < u64::MAX {
+            match self.load_next(alloc, loading, input, reader, writer) {
+                Ok(true) => {}
+                Ok(false) => return self.end(reader, writer, Ok(())),
+                Err(Unloaded::Cut(cut)) => return Err(Unloaded::Cut(cut)),
+                Err(why) => return self.end(reader, writer, Err(why)),
             }
         }
-        self.end(reader, writer, &mut window, Err(Unloaded::Many))
+        self.end(reader, writer, Err(Unloaded::Many))
     }
 
-    /// Reads and loads the line after this number of lines, if there is one. Returns whether
-    /// another one may follow.
+    /// Reads and loads the next line, if there is one. Returns whether another one may follow.
     fn load_next<I: Read, R: Read, W: Write>(
         &mut self,
         alloc: Global,
         loading: &Loading,
-        lines: u64,
-        window: &mut Window,
         input: &mut Feed<'_, I>,
         reader: &mut Instrumented<'_, R>,
         writer: &mut Instrumented<'_, W>,
-    ) -> Result<bool, Unloaded> {
-        let fetched = self.sender.fetch(input, Wording::Objects, lines)?;
+    ) -> Result<bool, Unloaded>
+        requires none { self.old.none ≡ [] }
+        requires lines { self.old.place.lines < 2 ^ 64 - 1 }
+        requires many { self.old.window.done + self.old.window.waiting ≡ self.old.place.lines }
+        requires room { self.old.window.waiting < window_to_load loading.now }
+        ensures takes { (left taken fed : Option (List ℕ)) →
+            Loads loading.now left (R.remaining (stream_of reader.old)) taken
+            (W.contents (stream_of writer.old)) fed (prepend_known self.old.sender.chunk
+            (I.remaining (feed_stream input.old))) self.old.place self.old.window
+            → TakesNext loading.now result left (R.remaining (stream_of reader.new)) taken
+            (W.contents (stream_of writer.new)) fed (prepend_known self.new.sender.chunk
+            (I.remaining (feed_stream input.new))) self.new.place self.new.window }
+        ensures lines { IfOk result (λ more. more ≡ true
+            → self.new.place.lines ≡ self.old.place.lines + 1) }
+        ensures many { OnOk result
+            (self.new.window.done + self.new.window.waiting ≡ self.new.place.lines) }
+        ensures room { OnOk result (self.new.window.waiting < window_to_load loading.now) }
+        ensures none { self.new.none ≡ self.old.none }
+        ensures failed { IfErr result (λ why. FailsLoadBy (Err why) (failure_of input.new)) }
+        ensures same_input { feed_name input.new ≡ feed_name input.old }
+        ensures same_reader { stream_name reader.new ≡ stream_name reader.old }
+        ensures same_writer { stream_name writer.new ≡ stream_name writer.old }
+    {
+        let fetched = self
+            .sender
+            .fetch(input, Wording::Objects, self.place.lines)?;
         if fetched.is_nothing() {
-            return if lines == 0 {
-                Err(at_line(0, Unfit::Format))
-            } else {
-                Ok(false)
-            };
+            return self.at_end();
         }
-        if lines > 0 && lines + 1 < loading.from {
-            self.pass(lines)?;
-            window.done += 1;
+        if self.place.is_early(loading) {
+            self.pass()?;
         } else {
-            self.load(alloc, loading, lines, window, reader, writer)?;
+            self.load(alloc, loading, reader, writer)?;
         }
         Ok(fetched.is_line())
     }
 
-    /// Passes over the line after this number of lines, which is not loaded. If it is that of a
-    /// queue, the next messages belong to it.
-    fn pass(&mut self, lines: u64) -> Result<(), Unloaded> {
-        match read_queue(self.sender.line.bytes(), &mut self.sender.scratch) {
-            Ok(None) => Ok(()),
-            Ok(queue) => {
-                self.queue = queue;
-                self.is_found = false;
-                Ok(())
-            }
-            Err(NoMemory) => Err(at_line(lines, Unfit::Memory)),
+    /// Returns false: no line is left. Fails if there was none, since the first states the format.
+    fn at_end(&self) -> Result<bool, Unloaded>
+        ensures { EndsAt self.now.place.lines result }
+    {
+        if self.place.lines == 0 {
+            Err(at_line(0, Unfit::Format))
+        } else {
+            Ok(false)
         }
     }
 
-    /// Loads the line after this number of lines.
+    /// Passes over the line that was read, which is not loaded. If it is that of a queue, the next
+    /// messages belong to it.
+    fn pass(&mut self) -> Result<(), Unloaded>
+        requires lines { self.old.place.lines < 2 ^ 64 - 1 }
+        requires many { self.old.window.done + self.old.window.waiting ≡ self.old.place.lines }
+        ensures passes { Passes result self.old.sender.line self.old.place self.new.place }
+        ensures window { OnOk result (self.new.window ≡ one_taken self.old.window) }
+        ensures same_window { IfErr result (λ _. self.new.window ≡ self.old.window) }
+        ensures chunk { self.new.sender.chunk ≡ self.old.sender.chunk }
+        ensures none { self.new.none ≡ self.old.none }
+    {
+        match read_queue(self.sender.line.bytes(), &mut self.sender.scratch) {
+            Ok(None) => self.take(self.place.queue, self.place.found),
+            Ok(queue) => self.take(queue, None),
+            Err(NoMemory) => return Err(at_line(self.place.lines, Unfit::Memory)),
+        }
+        Ok(())
+    }
+
+    /// Counts the next line, which was taken, and for which no send is on its way. The next
+    /// messages belong to this queue.
+    fn take(&mut self, queue: Option<SavedQueue>, found: Option<i32>)
+        requires lines { self.old.place.lines < 2 ^ 64 - 1 }
+        requires done { self.old.window.done < 2 ^ 64 - 1 }
+        ensures place { self.new.place ≡ record {
+            lines = self.old.place.lines + 1;
+            queue = queue;
+            found = found;
+        } }
+        ensures window { self.new.window ≡ one_taken self.old.window }
+        ensures chunk { self.new.sender.chunk ≡ self.old.sender.chunk }
+        ensures none { self.new.none ≡ self.old.none }
+    {
+        self.window.done += 1;
+        self.place = Place {
+            lines: self.place.lines + 1,
+            queue,
+            found,
+        };
+    }
+
+    /// Loads the line that was read.
     fn load<R: Read, W: Write>(
         &mut self,
         alloc: Global,
         loading: &Loading,
-        lines: u64,
-        window: &mut Window,
         reader: &mut Instrumented<'_, R>,
         writer: &mut Instrumented<'_, W>,
-    ) -> Result<(), Unloaded> {
-        match self.entry(alloc, lines)? {
-            Entry::Format => {
-                self.sender.drain(reader, writer, window, 0)?;
-                self.queue = None;
-                self.is_found = false;
-                window.done += 1;
-                Ok(())
-            }
-            Entry::Queue(queue) => {
-                self.sender.drain(reader, writer, window, 0)?;
-                check(loading, lines, &queue)?;
-                window.id = self.asked(lines, loading.make(&queue), reader, writer)?;
-                self.asked(lines, queue.set(window.id), reader, writer)?;
-                self.queue = Some(queue);
-                self.is_found = true;
-                window.done += 1;
-                Ok(())
-            }
-            Entry::Message(mtype) => {
-                self.find(loading, lines, window, reader, writer)?;
-                let sending = loading.sending();
-                self.sender
-                    .send(writer, window, sending.send(window.id, mtype))?;
-                let keep = kept(&sending, window.waiting, self.sender.chunk.has_line());
-                self.sender.drain(reader, writer, window, keep)?;
-                Ok(())
-            }
+    ) -> Result<(), Unloaded>
+        requires none { self.old.none ≡ [] }
+        requires lines { self.old.place.lines < 2 ^ 64 - 1 }
+        requires many { self.old.window.done + self.old.window.waiting ≡ self.old.place.lines }
+        requires room { self.old.window.waiting < window_to_load loading.now }
+        ensures takes { (left taken fed unloaded unfed : Option (List ℕ)) →
+            IsDue loading.now self.old.place.lines
+            → IsNext OBJECT_BYTES self.old.sender.line unloaded unfed
+            → Loads loading.now left (R.remaining (stream_of reader.old)) taken
+            (W.contents (stream_of writer.old)) fed unloaded self.old.place self.old.window
+            → TakesLine loading.now result left (R.remaining (stream_of reader.new)) taken
+            (W.contents (stream_of writer.new)) fed unfed self.new.place self.new.window }
+        ensures lines { OnOk result (self.new.place.lines ≡ self.old.place.lines + 1) }
+        ensures many { OnOk result
+            (self.new.window.done + self.new.window.waiting ≡ self.new.place.lines) }
+        ensures room { OnOk result (self.new.window.waiting < window_to_load loading.now) }
+        ensures of_line { IfErr result IsOfLine }
+        ensures chunk { self.new.sender.chunk ≡ self.old.sender.chunk }
+        ensures none { self.new.none ≡ self.old.none }
+        ensures same_reader { stream_name reader.new ≡ stream_name reader.old }
+        ensures same_writer { stream_name writer.new ≡ stream_name writer.old }
+    {
+        match self.entry(alloc)? {
+            Entry::Format => self.load_format(reader, writer),
+            Entry::Queue(queue) => self.load_queue(loading, queue, reader, writer),
+            Entry::Message(mtype) => self.load_message(loading, mtype, reader, writer),
         }
     }
 
-    /// Reads what the line after this number of lines states. The first one states the format.
-    fn entry(&mut self, alloc: Global, lines: u64) -> Result<Entry, Unloaded> {
-        let Sender {
-            line,
-            scratch,
-            text,
-            ..
-        } = &mut self.sender;
-        match read_entry(alloc, line.bytes(), scratch, text) {
-            Ok(Some(entry)) if lines > 0 || entry == Entry::Format => Ok(entry),
+    /// Loads a line that states the format.
+    fn load_format<R: Read, W: Write>(
+        &mut self,
+        reader: &mut Instrumented<'_, R>,
+        writer: &mut Instrumented<'_, W>,
+    ) -> Result<(), Unloaded>
+        requires lines { self.old.place.lines < 2 ^ 64 - 1 }
+        requires many { self.old.window.done + self.old.window.waiting ≡ self.old.place.lines }
+        ensures takes { (loading : ALoading) (left taken fed unloaded unfed : Option (List ℕ)) →
+            IsDue loading self.old.place.lines → IsFormatLine self.old.sender.line
+            → IsNext OBJECT_BYTES self.old.sender.line unloaded unfed
+            → Loads loading left (R.remaining (stream_of reader.old)) taken
+            (W.contents (stream_of writer.old)) fed unloaded self.old.place self.old.window
+            → TakesLine loading result left (R.remaining (stream_of reader.new)) taken
+            (W.contents (stream_of writer.new)) fed unfed self.new.place self.new.window }
+        ensures lines { OnOk result (self.new.place.lines ≡ self.old.place.lines + 1) }
+        ensures many { OnOk result
+            (self.new.window.done + self.new.window.waiting ≡ self.new.place.lines) }
+        ensures none_waits { OnOk result (self.new.window.waiting ≡ 0) }
+        ensures of_line { IfErr result IsOfLine }
+        ensures chunk { self.new.sender.chunk ≡ self.old.sender.chunk }
+        ensures none { self.new.none ≡ self.old.none }
+        ensures same_reader { stream_name reader.new ≡ stream_name reader.old }
+        ensures same_writer { stream_name writer.new ≡ stream_name writer.old }
+    {
+        self.sender.drain(reader, writer, &mut self.window, 0)?;
+        self.take(None, None);
+        Ok(())
+    }
+
+    /// Loads the line of a queue.
+    fn load_queue<R: Read, W: Write>(
+        &mut self,
+        loading: &Loading,
+        queue: SavedQueue,
+        reader: &mut Instrumented<'_, R>,
+        writer: &mut Instrumented<'_, W>,
+    ) -> Result<(), Unloaded>
+        requires none { self.old.none ≡ [] }
+        requires lines { self.old.place.lines < 2 ^ 64 - 1 }
+        requires many { self.old.window.done + self.old.window.waiting ≡ self.old.place.lines }
+        requires room { self.old.window.waiting < window_to_load loading.now }
+        ensures takes { (left taken fed unloaded unfed : Option (List ℕ)) →
+            IsDue loading.now self.old.place.lines
+            → StatesEntry self.old.sender.line (entries.Queue queue) self.old.sender.text
+            → (self.old.place.lines ≡ 0 → (entries.Queue queue) ≡ entries.Format)
+            → IsNext OBJECT_BYTES self.old.sender.line unloaded unfed
+            → Loads loading.now left (R.remaining (stream_of reader.old)) taken
+            (W.contents (stream_of writer.old)) fed unloaded self.old.place self.old.window
+            → TakesLine loading.now result left (R.remaining (stream_of reader.new)) taken
+            (W.contents (stream_of writer.new)) fed unfed self.new.place self.new.window }
+        ensures lines { OnOk result (self.new.place.lines ≡ self.old.place.lines + 1) }
+        ensures many { OnOk result
+            (self.new.window.done + self.new.window.waiting ≡ self.new.place.lines) }
+        ensures room { OnOk result (self.new.window.waiting < window_to_load loading.now) }
+        ensures of_line { IfErr result IsOfLine }
+        ensures chunk { self.new.sender.chunk ≡ self.old.sender.chunk }
+        ensures none { self.new.none ≡ self.old.none }
+        ensures same_reader { stream_name reader.new ≡ stream_name reader.old }
+        ensures same_writer { stream_name writer.new ≡ stream_name writer.old }
+    {
+        self.sender.drain(reader, writer, &mut self.window, 0)?;
+        check(loading, self.place.lines, &queue)?;
+        let id = self.asked(loading.make(&queue), reader, writer)?;
+        self.asked(queue.set(id), reader, writer)?;
+        self.take(Some(queue), Some(id));
+        Ok(())
+    }
+
+    /// Loads the line of a message of this type. Its body was read.
+    fn load_message<R: Read, W: Write>(
+        &mut self,
+        loading: &Loading,
+        mtype: i64,
+        reader: &mut Instrumented<'_, R>,
+        writer: &mut Instrumented<'_, W>,
+    ) -> Result<(), Unloaded>
+        requires none { self.old.none ≡ [] }
+        requires lines { self.old.place.lines < 2 ^ 64 - 1 }
+        requires many { self.old.window.done + self.old.window.waiting ≡ self.old.place.lines }
+        requires room { self.old.window.waiting < window_to_load loading.now }
+        ensures takes { (left taken fed unloaded unfed : Option (List ℕ)) →
+            IsDue loading.now self.old.place.lines
+            → StatesEntry self.old.sender.line (entries.Message mtype) self.old.sender.text
+            → (self.old.place.lines ≡ 0 → (entries.Message mtype) ≡ entries.Format)
+            → IsNext OBJECT_BYTES self.old.sender.line unloaded unfed
+            → Loads loading.now left (R.remaining (stream_of reader.old)) taken
+            (W.contents (stream_of writer.old)) fed unloaded self.old.place self.old.window
+            → TakesLine loading.now result left (R.remaining (stream_of reader.new)) taken
+            (W.contents (stream_of writer.new)) fed unfed self.new.place self.new.window }
+        ensures lines { OnOk result (self.new.place.lines ≡ self.old.place.lines + 1) }
+        ensures many { OnOk result
+            (self.new.window.done + self.new.window.waiting ≡ self.new.place.lines) }
+        ensures room { OnOk result (self.new.window.waiting < window_to_load loading.now) }
+        ensures of_line { IfErr result IsOfLine }
+        ensures chunk { self.new.sender.chunk ≡ self.old.sender.chunk }
+        ensures none { self.new.none ≡ self.old.none }
+        ensures same_reader { stream_name reader.new ≡ stream_name reader.old }
+        ensures same_writer { stream_name writer.new ≡ stream_name writer.old }
+    {
+        let id = self.find(loading, reader, writer)?;
+        let sending = loading.sending();
+        let ask = sending.send(id, mtype);
+        self.sender.send(writer, &mut self.window, ask)?;
+        self.place.lines += 1;
+        self.place.found = Some(id);
+        let keep = kept(&sending, self.window.waiting, self.sender.chunk.has_line());
+        self.sender.drain(reader, writer, &mut self.window, keep)?;
+        Ok(())
+    }
+
+    /// Reads what the line states that was read. The first one states the format.
+    fn entry(&mut self, alloc: Global) -> Result<Entry, Unloaded>
+        ensures reads { ReadsEntry self.old.place.lines result self.old.sender.line
+            self.new.sender.text }
+        ensures place { self.new.place ≡ self.old.place }
+        ensures window { self.new.window ≡ self.old.window }
+        ensures chunk { self.new.sender.chunk ≡ self.old.sender.chunk }
+        ensures line { self.new.sender.line ≡ self.old.sender.line }
+        ensures none { self.new.none ≡ self.old.none }
+    {
+        let lines = self.place.lines;
+        let line = self.sender.line.bytes();
+        match read_entry(alloc, line, &mut self.sender.scratch, &mut self.sender.text) {
+            Ok(Some(Entry::Format)) => Ok(Entry::Format),
             Ok(_) if lines == 0 => Err(at_line(lines, Unfit::Format)),
-            Ok(_) => Err(at_line(lines, Unfit::Nothing)),
+            Ok(Some(entry)) => Ok(entry),
+            Ok(None) => Err(at_line(lines, Unfit::Nothing)),
             Err(NoMemory) => Err(at_line(lines, Unfit::Memory)),
         }
     }
 
-    /// Finds the queue of a message, which is the line after this number of lines, unless it was
-    /// made or found before.
+    /// Finds the queue of a message, which is the next line, unless it was made or found before.
+    /// Returns its identifier.
     fn find<R: Read, W: Write>(
         &mut self,
         loading: &Loading,
-        lines: u64,
-        window: &mut Window,
         reader: &mut Instrumented<'_, R>,
         writer: &mut Instrumented<'_, W>,
-    ) -> Result<(), Unloaded> {
-        if self.is_found {
-            return Ok(());
+    ) -> Result<i32, Unloaded>
+        requires { self.old.none ≡ [] }
+        ensures finds { MayBeAt loading.now self.old.place → Finds loading.now self.old.place
+            result (R.remaining (stream_of reader.old)) (R.remaining (stream_of reader.new))
+            (W.contents (stream_of writer.old)) (W.contents (stream_of writer.new)) }
+        ensures of_line { IfErr result IsOfLine }
+        ensures place { self.new.place ≡ self.old.place }
+        ensures window { self.new.window ≡ self.old.window }
+        ensures text { self.new.sender.text ≡ self.old.sender.text }
+        ensures chunk { self.new.sender.chunk ≡ self.old.sender.chunk }
+        ensures none { self.new.none ≡ self.old.none }
+        ensures same_reader { stream_name reader.new ≡ stream_name reader.old }
+        ensures same_writer { stream_name writer.new ≡ stream_name writer.old }
+    {
+        if let Some(id) = self.place.found {
+            return Ok(id);
         }
-        let Some(queue) = self.queue else {
-            return Err(at_line(lines, Unfit::NoQueue));
+        let Some(queue) = self.place.queue else {
+            return Err(at_line(self.place.lines, Unfit::NoQueue));
         };
-        check(loading, lines, &queue)?;
-        window.id = self.asked(lines, queue.find(), reader, writer)?;
-        self.is_found = true;
-        Ok(())
+        check(loading, self.place.lines, &queue)?;
+        self.asked(queue.find(), reader, writer)
     }
 
-    /// Makes a request for the line after this number of lines, all of which are loaded. Returns
-    /// the identifier in the reply, or 0 if there is none.
+    /// Makes a request for the next line; all lines before are loaded. Returns the identifier in
+    /// the reply, or 0 if there is none.
     fn asked<R: Read, W: Write>(
         &mut self,
-        lines: u64,
         ask: Ask,
         reader: &mut Instrumented<'_, R>,
         writer: &mut Instrumented<'_, W>,
-    ) -> Result<i32, Unloaded> {
+    ) -> Result<i32, Unloaded>
+        requires { self.old.none ≡ [] }
+        ensures asks { IsAsked self.old.place.lines ask result
+            (R.remaining (stream_of reader.old)) (R.remaining (stream_of reader.new))
+            (W.contents (stream_of writer.old)) (W.contents (stream_of writer.new)) }
+        ensures of_line { IfErr result IsOfLine }
+        ensures place { self.new.place ≡ self.old.place }
+        ensures window { self.new.window ≡ self.old.window }
+        ensures text { self.new.sender.text ≡ self.old.sender.text }
+        ensures chunk { self.new.sender.chunk ≡ self.old.sender.chunk }
+        ensures none { self.new.none ≡ self.old.none }
+        ensures same_reader { stream_name reader.new ≡ stream_name reader.old }
+        ensures same_writer { stream_name writer.new ≡ stream_name writer.old }
+    {
         match self.request(ask, reader, writer) {
             Ok(answer) => Ok(found(0, &answer)),
             Err(fault) => Err(Unloaded::Cut(Cut {
-                before: lines,
+                before: self.place.lines,
                 fault,
                 after: 0,
                 unknown: match fault {
@@ -443,31 +717,51 @@ impl Loader {
         ask: Ask,
         reader: &mut Instrumented<'_, R>,
         writer: &mut Instrumented<'_, W>,
-    ) -> Result<ReplyContent, ClientFault> {
+    ) -> Result<ReplyContent, ClientFault>
+        requires { self.old.none ≡ [] }
+        ensures exchanges { Exchanges (request_encoding (request_of ask) []) ask result
+            (R.remaining (stream_of reader.old)) (R.remaining (stream_of reader.new))
+            (W.contents (stream_of writer.old)) (W.contents (stream_of writer.new))
+            self.new.sender.given }
+        ensures place { self.new.place ≡ self.old.place }
+        ensures window { self.new.window ≡ self.old.window }
+        ensures text { self.new.sender.text ≡ self.old.sender.text }
+        ensures chunk { self.new.sender.chunk ≡ self.old.sender.chunk }
+        ensures none { self.new.none ≡ self.old.none }
+        ensures same_reader { stream_name reader.new ≡ stream_name reader.old }
+        ensures same_writer { stream_name writer.new ≡ stream_name writer.old }
+    {
         exchange(reader, writer, ask, &self.none, &mut self.sender.given)
     }
 
-    /// Reads the replies that are left, unless a request ended the load, and ends it like this.
+    /// Reads the replies that are left, and ends the load like its lines.
     fn end<R: Read, W: Write>(
         &mut self,
         reader: &mut Instrumented<'_, R>,
         writer: &mut Instrumented<'_, W>,
-        window: &mut Window,
         ended: Result<(), Unloaded>,
-    ) -> Result<(), Unloaded> {
-        match ended {
-            Err(Unloaded::Cut(cut)) => Err(Unloaded::Cut(cut)),
-            ended => {
-                self.sender.drain(reader, writer, window, 0)?;
-                ended
-            }
-        }
+    ) -> Result<(), Unloaded>
+        requires { self.old.window.done + self.old.window.waiting < 2 ^ 64 }
+        ensures ends { (loading : ALoading) (left taken fed unfed : Option (List ℕ)) →
+            Stops loading ended left (R.remaining (stream_of reader.old)) taken
+            (W.contents (stream_of writer.old)) fed unfed self.old.place self.old.window
+            → LoadsAll loading result left (R.remaining (stream_of reader.new)) taken
+            (W.contents (stream_of writer.new)) fed unfed }
+        ensures same_end { (result ≡ ended) ⊎ IfErr result IsCutLoad }
+        ensures chunk { self.new.sender.chunk ≡ self.old.sender.chunk }
+        ensures same_reader { stream_name reader.new ≡ stream_name reader.old }
+        ensures same_writer { stream_name writer.new ≡ stream_name writer.old }
+    {
+        self.sender.drain(reader, writer, &mut self.window, 0)?;
+        ended
     }
 }
 
 /// Fails if this queue, to which the line after this number of lines belongs, is not loaded: it is
 /// private, or its creator is not the caller.
-fn check(loading: &Loading, lines: u64, queue: &SavedQueue) -> Result<(), Unloaded> {
+fn check(loading: &Loading, lines: u64, queue: &SavedQueue) -> Result<(), Unloaded>
+    ensures { Checks loading.now lines queue.now result }
+{
     if queue.key == 0 {
         Err(at_line(lines, Unfit::Private))
     } else if loading.is_own(queue) {

@@ -4,7 +4,7 @@ ghost use Rattle.std.specs.Bool.{MatchBool};
 ghost use Rattle.std.specs.Option.{SomeIff};
 ghost use Rattle.std.specs.Prelude.{◌≡◌, ◌∷◌, ◌++◌};
 ghost use Rattle.json.specs.Token.{Token as AToken, key};
-ghost use Rattle.sysv_clients.specs.Saved.{IsFormatLine, IsQueueIn, IsQueueLine, StatesEntry, StatesNothing, number_member, string_member};
+ghost use Rattle.sysv_clients.specs.Saved.{HasLimits, HasName, HasPair, IsFormatLine, IsQueueIn, IsQueueLine, StatesEntry, StatesNothing, number_member, string_member};
 ghost use Rattle.sysv_clients.specs.Words.{IsHexKey, IsId, IsPerms};
 ghost use Rattle.sysv_clients.specs.declared.saved.SavedQueue.{SavedQueue as ASavedQueue};
 ghost use Rattle.sysv_words.specs.Words.{IsNat32};
@@ -122,19 +122,91 @@ fn queue_in(reader: &mut Reader<'_>) -> Option<SavedQueue>
     if !opens(reader) {
         return None;
     }
-    let queue = SavedQueue {
-        key: hex_key(string(reader, "key")?.as_bytes())?,
-        id: id_of(number(reader, "msqid")?.as_bytes())?,
-        uid: number_32(reader, "uid")?,
-        gid: number_32(reader, "gid")?,
-        cuid: number_32(reader, "cuid")?,
-        cgid: number_32(reader, "cgid")?,
-        mode: perms_of(string(reader, "perms")?.as_bytes())?,
-        qbytes: number_32(reader, "qbytes")?,
-        cbytes: number_32(reader, "bytes")?,
-        qnum: number_32(reader, "messages")?,
+    let Some(name) = name_in(reader) else {
+        return None;
     };
-    closes(reader).then_some(queue)
+    let Some(owner) = pair_in(reader, "uid", "gid") else {
+        return None;
+    };
+    let Some(creator) = pair_in(reader, "cuid", "cgid") else {
+        return None;
+    };
+    let Some(limits) = limits_in(reader) else {
+        return None;
+    };
+    let Some(counts) = pair_in(reader, "bytes", "messages") else {
+        return None;
+    };
+    if !closes(reader) {
+        return None;
+    }
+    Some(SavedQueue {
+        key: name.0,
+        id: name.1,
+        uid: owner.0,
+        gid: owner.1,
+        cuid: creator.0,
+        cgid: creator.1,
+        mode: limits.0,
+        qbytes: limits.1,
+        cbytes: counts.0,
+        qnum: counts.1,
+    })
+}
+
+/// Reads the key and the identifier of a queue.
+fn name_in(reader: &mut Reader<'_>) -> Option<(i32, i32)>
+    ensures { MatchOption result
+        ((key id : ℤ) (rest : List AToken) → ¬ HasName key id reader.old rest)
+        (λ name. HasName name.0 name.1 reader.old reader.new) }
+{
+    let Some(word) = string(reader, "key") else {
+        return None;
+    };
+    let Some(key) = hex_key(word.as_bytes()) else {
+        return None;
+    };
+    let Some(digits) = number(reader, "msqid") else {
+        return None;
+    };
+    let Some(id) = id_of(digits.as_bytes()) else {
+        return None;
+    };
+    Some((key, id))
+}
+
+/// Reads the mode and the limit of a queue.
+fn limits_in(reader: &mut Reader<'_>) -> Option<(u32, u32)>
+    ensures { MatchOption result
+        ((mode qbytes : ℕ) (rest : List AToken) → ¬ HasLimits mode qbytes reader.old rest)
+        (λ limits. HasLimits limits.0 limits.1 reader.old reader.new) }
+{
+    let Some(word) = string(reader, "perms") else {
+        return None;
+    };
+    let Some(mode) = perms_of(word.as_bytes()) else {
+        return None;
+    };
+    let Some(qbytes) = number_32(reader, "qbytes") else {
+        return None;
+    };
+    Some((mode, qbytes))
+}
+
+/// Reads two members of these names whose values are numbers from 0 to 4294967295.
+fn pair_in(reader: &mut Reader<'_>, first: &str, second: &str) -> Option<(u32, u32)>
+    ensures { MatchOption result
+        ((one two : ℕ) (rest : List AToken) →
+        ¬ HasPair first.now second.now one two reader.old rest)
+        (λ pair. HasPair first.now second.now pair.0 pair.1 reader.old reader.new) }
+{
+    let Some(one) = number_32(reader, first) else {
+        return None;
+    };
+    let Some(two) = number_32(reader, second) else {
+        return None;
+    };
+    Some((one, two))
 }
 
 /// Reads a member of this name whose value is a number from 0 to 4294967295.
@@ -145,7 +217,10 @@ fn number_32(reader: &mut Reader<'_>, name: &str) -> Option<u32>
         (λ value. (digits : List ℕ) × IsNat32 digits value
         × (reader.old ≡ number_member name.now digits ++ reader.new)) }
 {
-    u32::read(number(reader, name)?.as_bytes())
+    let Some(digits) = number(reader, name) else {
+        return None;
+    };
+    u32::read(digits.as_bytes())
 }
 
 /// Reads a member of this name whose value is a string. Returns its text.

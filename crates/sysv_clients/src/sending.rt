@@ -1,7 +1,7 @@
 //! A `snd` of several messages: a session that sends the message that each line of an input states.
 
 ghost use Rattle.std.specs.Prelude.{◌≡◌, ◌⊎◌, ◌+◌, ◌<◌, ◌≤◌, ◌^◌, ℕ, List, Option, [], length, IfErr, IfOk, OnOk};
-ghost use Rattle.std.specs.Io.KnownBytes.{prepend_known};
+ghost use Rattle.std.specs.Io.KnownBytes.{Appends, prepend_known};
 ghost use Rattle.sysv_clients.specs.declared.sending.Heard.TheVariants as heards;
 ghost use Rattle.sysv_clients.specs.declared.sending.Sending.{Sending as ASending};
 ghost use Rattle.sysv_clients.specs.declared.line_text.TheConstants.{LINE_ROOM};
@@ -9,10 +9,10 @@ ghost use Rattle.sysv_clients.specs.declared.sending.TheConstants.{WINDOW};
 ghost use Rattle.sysv_clients.specs.declared.sending.Unsent.TheVariants as unsents;
 ghost use Rattle.sysv_clients.specs.Feed.{failure_of, feed_name, feed_stream};
 ghost use Rattle.sysv_clients.specs.Lines.{FailsBy, Fetches};
-ghost use Rattle.sysv_clients.specs.Sending.{IsNextSend, SendsAhead, SendsAll, a_send, find_to_send, send_ask, unsent_line, window_of};
+ghost use Rattle.sysv_clients.specs.Sending.{IsNextSend, SendsAhead, SendsAll, Sent, a_send, find_to_send, send_ask, unsent_line, window_of};
 ghost use Rattle.json.specs.Scratch.{room};
 ghost use Rattle.sysv_clients.specs.Stated.{line_most, strings_most};
-ghost use Rattle.sysv_clients.specs.Window.{Drains, EndsCut, EndsLines, IsCut, HearsSend, Opens, ReadsMessage, Sends, empty, lost};
+ghost use Rattle.sysv_clients.specs.Window.{AreSnds, Drains, EndsLines, HearsCut, HearsSend, HearsSends, IsCut, Opens, PutsSend, ReadsMessage, Sends, empty, lost};
 ghost use Rattle.sysv_model.specs.Instrumented.{stream_name, stream_of};
 
 use crate::client::found;
@@ -448,6 +448,9 @@ impl Sender {
               done = window.old.done;
               waiting = window.old.waiting + 1;
             }) window.new }
+        ensures puts { PutsSend result (record { ask = ask; text = self.old.text })
+            (W.contents (stream_of writer.old)) (W.contents (stream_of writer.new))
+            window.old window.new }
         ensures len { OnOk result ((window.new.waiting ≡ window.old.waiting + 1)
             × (window.new.done ≡ window.old.done)) }
         ensures cut { IfErr result IsCut }
@@ -476,6 +479,12 @@ impl Sender {
             (W.contents (stream_of writer.old)) fed unsent window.old
             → Drains sending result keep left (R.remaining (stream_of reader.new)) taken
             (W.contents (stream_of writer.new)) fed unsent window.old window.new }
+        ensures hears { (waiting : List Sent) → AreSnds waiting
+            → window.old.waiting ≡ length waiting
+            → HearsSends result waiting (R.remaining (stream_of reader.old))
+            (R.remaining (stream_of reader.new)) window.old window.new }
+        ensures writes { Appends (W.contents (stream_of writer.old))
+            (W.contents (stream_of writer.new)) [] }
         ensures cut { IfErr result IsCut }
         ensures few { OnOk result (window.new.waiting ≤ keep) }
         ensures len { OnOk result (window.new.done + window.new.waiting
@@ -501,10 +510,10 @@ impl Sender {
         keep: u32,
     ) -> Result<(), Unsent>
         requires { window.old.done + window.old.waiting < 2 ^ 64 }
-        ensures drains { (sending : ASending) (left taken more fed unsent : Option (List ℕ)) →
-            Sends sending left (R.remaining (stream_of reader.old)) taken more fed unsent window.old
-            → Drains sending result keep left (R.remaining (stream_of reader.new)) taken more fed
-            unsent window.old window.new }
+        ensures hears { (waiting : List Sent) → AreSnds waiting
+            → window.old.waiting ≡ length waiting
+            → HearsSends result waiting (R.remaining (stream_of reader.old))
+            (R.remaining (stream_of reader.new)) window.old window.new }
         ensures cut { IfErr result IsCut }
         ensures few { OnOk result (window.new.waiting ≤ keep) }
         ensures len { OnOk result (window.new.done + window.new.waiting
@@ -551,11 +560,10 @@ impl Sender {
         error: Errno,
     ) -> Cut
         requires { 0 < window.now.waiting }
-        ensures ends { (sending : ASending) (left mid taken more fed unsent : Option (List ℕ)) →
-            Sends sending left mid taken more fed unsent window.now
-            → HearsSend (heards.Refused error) mid (R.remaining (stream_of reader.old))
-            → EndsCut sending (unsents.Cut result) left (R.remaining (stream_of reader.new))
-            taken more fed }
+        ensures ends { (waiting : List Sent) (left : Option (List ℕ)) → AreSnds waiting
+            → window.now.waiting ≡ length waiting
+            → HearsSend (heards.Refused error) left (R.remaining (stream_of reader.old))
+            → HearsCut waiting left (R.remaining (stream_of reader.new)) window.now result }
         ensures chunk { self.new.chunk ≡ self.old.chunk }
         ensures same_reader { stream_name reader.new ≡ stream_name reader.old }
     {
