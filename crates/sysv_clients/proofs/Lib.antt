@@ -14,6 +14,7 @@ mod StatedLemmas
 mod HoldLemmas
 mod SaveLemmas
 mod SavedLemmas
+mod EntryLemmas
 mod LoadLemmas
 mod JsonLemmas
 mod CopyLemmas

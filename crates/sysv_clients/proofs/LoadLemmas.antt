@@ -4,7 +4,7 @@ use Rattle.std.proofs.Common.{Result, Ok, Err, refl, sym, ap, subst, ◌∙◌, 
 use Rattle.std.proofs.Common.{Bool, true, false, length-append, w32, w64, of_z, to_z, FitsSigned}
 use Rattle.std.proofs.lemmas.Int.{to_z-of_z}
 use Rattle.std.proofs.lemmas.List.Concat.{flat_map-append}
-use Rattle.std.specs.Prelude.{⊤, ◌⊎◌, IfErr, MatchOption, if◌then◌else◌}
+use Rattle.std.specs.Prelude.{⊤, ◌⊎◌, IfErr, OnOk, MatchOption, if◌then◌else◌}
 use Rattle.std.specs.Int.RustNames.{bit_or}
 use Rattle.std.specs.Io.KnownBytes.{Appends, Consumes, prepend_known}
 use Rattle.std.proofs.KnownBytes.{Appends-nil, Appends-trans, Consumes-nil, Consumes-trans}
@@ -25,6 +25,7 @@ use Rattle.sysv_clients.specs.declared.sending.Cut.{Cut as ACut}
 use Rattle.sysv_clients.specs.declared.sending.Sending.{Sending}
 use Rattle.sysv_clients.specs.declared.sending.Unsent.{Unsent}
 use Rattle.sysv_clients.specs.declared.sending.Unsent.TheVariants as unsent
+use Rattle.sysv_clients.specs.declared.sending.TheConstants.{WINDOW}
 use Rattle.sysv_clients.specs.declared.sending.Window.{Window}
 use Rattle.sysv_clients.specs.declared.stated.TheConstants.{OBJECT_BYTES}
 use Rattle.sysv_clients.specs.Asks.{flags_to_make, flags_to_wait, no_flags, request_of}
@@ -33,7 +34,7 @@ use Rattle.sysv_clients.specs.Dialogue.{Exchanges, id_after}
 use Rattle.sysv_clients.specs.Lines.{FailsBy, Fetches, HasNone, IsNext, is_line, is_nothing}
 use Rattle.sysv_clients.specs.Loaded.{Checks, EndsAt, Finds, FindsQueue, FitsNext, IsAsked, IsCutLoad, IsNoEntry}
 use Rattle.sysv_clients.specs.Loaded.{IsOfLine, IsUnfound, Loads, LoadsPart, MayBeAt, Passes, ReadsEntry, Stops}
-use Rattle.sysv_clients.specs.Loaded.{StopsBy, TakesNext, one_taken}
+use Rattle.sysv_clients.specs.Loaded.{StopsBy, TakesLine, TakesNext, one_taken}
 use Rattle.sysv_clients.specs.Loading.{AreAllDone, AreTaken, EndsLoad, FailsLoadBy, IsDue, IsUnfit, LoadsAhead}
 use Rattle.sysv_clients.specs.Loading.{LoadsAll, NamesFound, Notes}
 use Rattle.sysv_clients.specs.Loading.{NamesNext, NamesQueue, Step, Takes, Wants}
@@ -41,7 +42,8 @@ use Rattle.sysv_clients.specs.Loading.{MayLoad, asks_in, find_ask, make_ask, out
 use Rattle.sysv_clients.specs.Loading.{sending_to_load, unloaded_by, window_to_load}
 use Rattle.sysv_clients.specs.Saved.{IsFormatLine, IsQueueLine, StatesEntry}
 use Rattle.sysv_clients.specs.Sending.{HasReply, Sent, frames_of, send_ask, sent_by}
-use Rattle.sysv_clients.specs.Window.{AreSnds, HearsCut, HearsDone, HearsSends, IsCut, IsSnd, PutsSend, lost, one_more}
+use Rattle.sysv_clients.specs.Window.{AreSnds, HearsCut, HearsDone, HearsSends, IsCut, IsSnd, PutsSend, empty, lost}
+use Rattle.sysv_clients.specs.Window.{one_more}
 use Rattle.sysv_clients.proofs.CallLemmas.{call_of, read_more, written_more}
 use Rattle.sysv_clients.proofs.SendLemmas.{next_after, none_after, read_with, reads_there, same_written, sent_with}
 use Rattle.sysv_clients.proofs.SendLemmas.{written_so}
@@ -1264,6 +1266,21 @@ pass_stops loading Many line left rest taken more fed unloaded unfed place after
 pass_stops loading (Input why) line left rest taken more fed unloaded unfed place after window so_far next passes =
     absurd passes
 
+pub passes_line : (loading : Loading) (result : Result ⊤ Unloaded) (line : List ℕ)
+    (left rest taken more fed unloaded unfed : Option (List ℕ)) (place after : Place) (window now : Window)
+    → Loads loading left rest taken more fed unloaded place window → IsNext OBJECT_BYTES line unloaded unfed
+    → (1 ≤ place.lines) × (place.lines + 1 < loading.from) → Passes result line place after
+    → OnOk result (now ≡ one_taken window) → IfErr result (λ _. now ≡ window)
+    → TakesLine loading result left rest taken more fed unfed after now
+passes_line loading (Ok tt) line left rest taken more fed unloaded unfed place after window now so_far next early passes
+    grown same =
+    subst (λ (w : Window). Loads loading left rest taken more fed unfed after w) (sym grown)
+    (passed loading line left rest taken more fed unloaded unfed place after window so_far next early.0 early.1 passes)
+passes_line loading (Err why) line left rest taken more fed unloaded unfed place after window now so_far next early
+    passes grown same =
+    subst (λ (w : Window). StopsBy loading why left rest taken more fed unfed after w) (sym same)
+    (pass_stops loading why line left rest taken more fed unloaded unfed place after window so_far next passes)
+
 -- Another line may follow the one that was taken, or it was the last.
 pub took_next : (loading : Loading) (lines : ℕ) (more_lines : Bool) (fetched : Fetched) (line : List ℕ)
     (left rest taken more fed unloaded unfed : Option (List ℕ)) (place : Place) (window : Window)
@@ -1411,3 +1428,59 @@ check_of_line loading lines queue (Cut cut) checks = tt
 check_of_line loading lines queue (Fault why) checks = absurd checks
 check_of_line loading lines queue Many checks = absurd checks
 check_of_line loading lines queue (Input why) checks = absurd checks
+
+-- A window has space for a send.
+pub has_room : (loading : Loading) → 0 < window_to_load loading
+has_room loading = room loading.nowait
+  where
+    room : (nowait : Bool) → 0 < (if nowait then 1 else WINDOW)
+    room true = omega arith
+    room false = omega arith
+
+-- The hello was done, and nothing was read further than the lines.
+pub begins_there : (loading : Loading) (answer : ReplyContent) (given ahead : List ℕ) (place : Place)
+    (window : Window) (left rest taken more fed : Option (List ℕ)) → place ≡ outset → window ≡ empty → ahead ≡ []
+    → Exchanges (request_encoding (request_of (Hello loading.cred)) []) (Hello loading.cred) (Ok answer) left rest taken
+    more given
+    → Loads loading left rest taken more fed (prepend_known ahead fed) place window
+begins_there loading answer given ahead place window left rest taken more fed at_first free none exchange =
+    subst (λ (k : Option (List ℕ)). Loads loading left rest taken more fed k place window)
+    (sym (reads_there ahead fed none))
+    (subst (λ (p : Place). Loads loading left rest taken more fed fed p window) (sym at_first)
+    (subst (λ (w : Window). Loads loading left rest taken more fed fed outset w) (sym free)
+    (begins loading answer given left rest taken more fed exchange)))
+
+-- A load that no request ended.
+pub stops_fit : (loading : Loading) (why : Unloaded) (left rest taken more fed unfed : Option (List ℕ)) (place : Place)
+    (window : Window) → (IsCutLoad why → ⊥) → StopsBy loading why left rest taken more fed unfed place window
+    → window.done + window.waiting ≡ place.lines
+stops_fit loading (Cut cut) left rest taken more fed unfed place window still stops = absurd (still tt)
+stops_fit loading (Line lines why) left rest taken more fed unfed place window still stops = stops.1.many
+stops_fit loading (Input why) left rest taken more fed unfed place window still stops = stops.1.many
+stops_fit loading Many left rest taken more fed unfed place window still stops = absurd stops
+stops_fit loading (Fault why) left rest taken more fed unfed place window still stops = absurd stops
+
+pub not_cut : (why : Unloaded) → ((cut : ACut) → why ≡ Cut cut → ⊥) → IsCutLoad why → ⊥
+not_cut (Cut cut) other is = other cut refl
+not_cut (Line lines why) other is = is
+not_cut (Input why) other is = is
+not_cut Many other is = is
+not_cut (Fault why) other is = is
+
+pub stops_of : (loading : Loading) (why : Unloaded) (left rest taken more fed unfed : Option (List ℕ)) (place : Place)
+    (window : Window) → (IsCutLoad why → ⊥) → StopsBy loading why left rest taken more fed unfed place window
+    → Stops loading (Err why) left rest taken more fed unfed place window
+stops_of loading (Cut cut) left rest taken more fed unfed place window still stops = absurd (still tt)
+stops_of loading (Line lines why) left rest taken more fed unfed place window still stops = stops
+stops_of loading (Input why) left rest taken more fed unfed place window still stops = stops
+stops_of loading Many left rest taken more fed unfed place window still stops = absurd stops
+stops_of loading (Fault why) left rest taken more fed unfed place window still stops = absurd stops
+
+-- The same, where the code keeps the identifier in 32 bits.
+pub message_as : (loading : Loading) (id : ℤ) (left rest taken more fed unfed : Option (List ℕ)) (place : Place)
+    (window : Window) → FitsSigned w32 id
+    → Loads loading left rest taken more fed unfed (after_message place id) window
+    → Loads loading left rest taken more fed unfed (after_message place (to_z w32 (of_z w32 id))) window
+message_as loading id left rest taken more fed unfed place window fits so_far =
+    subst (λ (n : ℤ). Loads loading left rest taken more fed unfed (after_message place n) window)
+    (sym (to_z-of_z w32 id fits)) so_far

@@ -1,13 +1,14 @@
 -- The queue that a line states.
 use Rattle.std.proofs.Common.{◌≡◌, ◌∙◌, ℕ, ℤ, List, [], ◌∷◌, ◌++◌, Option, None, Some, codes, sym, ap}
-use Rattle.std.proofs.Common.{subst}
+use Rattle.std.proofs.Common.{Bool, true, false, subst}
+use Rattle.std.specs.Bool.{MatchBool}
 use Rattle.std.specs.Prelude.{MatchOption}
 use Rattle.std.specs.Str.{IsUtf8}
 use Rattle.json.specs.Lex.{tokens}
 use Rattle.json.specs.Token.{Token, begin_object, end_object}
 use Rattle.sysv_clients.specs.declared.saved.SavedQueue.{SavedQueue}
-use Rattle.sysv_clients.specs.Saved.{HasLimits, HasName, HasPair, IsQueueIn, IsQueueLine, Values, number_member}
-use Rattle.sysv_clients.specs.Saved.{queue_tokens, string_member}
+use Rattle.sysv_clients.specs.Saved.{HasLimits, HasName, HasPair, IsFormatLine, IsQueueIn, IsQueueLine, Values}
+use Rattle.sysv_clients.specs.Saved.{format_tokens, number_member, queue_tokens, string_member}
 
 -- The tokens of the line state a queue exactly if the line does.
 pub queue_or_none : (all : List Token) (own line : List ℕ) (r : Option SavedQueue) → all ≡ tokens own → own ≡ line
@@ -237,3 +238,31 @@ queue_is key id uid gid cuid cgid mode qbytes cbytes qnum all first second third
       has_bytes = counts.has_one;
       has_messages = counts.has_two;
     }
+
+-- The tokens of the line state the format exactly if the line does.
+pub format_or_not : (all : List Token) (own line : List ℕ) (is : Bool) → all ≡ tokens own → own ≡ line → IsUtf8 line
+    → MatchBool is (all ≡ format_tokens) (all ≡ format_tokens → ⊥)
+    → MatchBool is (IsFormatLine line) (IsFormatLine line → ⊥)
+format_or_not all own line true are same utf8 found =
+    record { utf8 = utf8; object = sym (are ∙ ap tokens same) ∙ found }
+format_or_not all own line false are same utf8 none = λ h. none (are ∙ ap tokens same ∙ h.object)
+
+tail_of : (token : Token) (one two : List Token) → token ∷ one ≡ token ∷ two → one ≡ two
+tail_of token one two same = cc
+
+after_string : (name text other : List ℕ) (mid rest all : List Token) → all ≡ string_member name text ++ mid
+    → all ≡ string_member name other ++ rest → mid ≡ rest
+after_string name text other mid rest all one two = cc (sym one ∙ two)
+
+-- The version of a format is missing.
+pub no_version : (text : List ℕ) (all first mid : List Token) → all ≡ begin_object ∷ first
+    → first ≡ string_member (codes "format") text ++ mid
+    → ((digits : List ℕ) (rest : List Token) → mid ≡ number_member (codes "version") digits ++ rest → ⊥)
+    → all ≡ format_tokens → ⊥
+no_version text all first mid opens begins none is =
+    none (codes "1") (end_object ∷ [])
+    (after_string (codes "format") text (codes "sysvmsg-queues") mid
+    (number_member (codes "version") (codes "1") ++ end_object ∷ []) first begins
+    (tail_of begin_object first
+    (string_member (codes "format") (codes "sysvmsg-queues")
+    ++ (number_member (codes "version") (codes "1") ++ end_object ∷ [])) (sym opens ∙ is)))

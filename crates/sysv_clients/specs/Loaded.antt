@@ -10,7 +10,7 @@ use Rattle.sysv_clients.specs.declared.loading.Unfit.TheVariants as unfit
 use Rattle.sysv_clients.specs.declared.loading.Unloaded.{Unloaded}
 use Rattle.sysv_clients.specs.declared.loading.Unloaded.TheVariants.{Fault, Cut, Line, Many, Input}
 use Rattle.sysv_clients.specs.declared.saved.Entry.{Entry}
-use Rattle.sysv_clients.specs.declared.saved.Entry.TheVariants.{Format}
+use Rattle.sysv_clients.specs.declared.saved.Entry.TheVariants.{Format, Queue, Message}
 use Rattle.sysv_clients.specs.declared.saved.SavedQueue.{SavedQueue}
 use Rattle.sysv_clients.specs.declared.sending.Window.{Window}
 use Rattle.sysv_clients.specs.Asks.{request_of}
@@ -167,6 +167,32 @@ ReadsEntry lines (Err (Fault why)) line body = ⊥
 ReadsEntry lines (Err (Cut cut)) line body = ⊥
 ReadsEntry lines (Err Many) line body = ⊥
 ReadsEntry lines (Err (Input why)) line body = ⊥
+
+-- The line states something else than the format, or nothing.
+abbrev pub IsNoFormat : Option Entry → Type 0
+IsNoFormat None = ⊤
+IsNoFormat (Some Format) = ⊥
+IsNoFormat (Some (Queue queue)) = ⊤
+IsNoFormat (Some (Message mtype)) = ⊤
+
+-- Why what a line states is not loaded after this number of lines.
+abbrev pub IsNotAdmitted : (lines : ℕ) → Option Entry → Unfit → Type 0
+IsNotAdmitted lines found unfit.Format = (lines ≡ 0) × IsNoFormat found
+IsNotAdmitted lines found unfit.Nothing = (1 ≤ lines) × (found ≡ None)
+IsNotAdmitted lines found unfit.Memory = ⊥
+IsNotAdmitted lines found unfit.Long = ⊥
+IsNotAdmitted lines found unfit.Private = ⊥
+IsNotAdmitted lines found (unfit.Creator uid gid) = ⊥
+IsNotAdmitted lines found unfit.NoQueue = ⊥
+
+-- What a line states may be loaded after this number of lines, or not.
+abbrev pub Admits : (lines : ℕ) → Option Entry → Result Entry Unloaded → Type 0
+Admits lines found (Ok entry) = (found ≡ Some entry) × (lines ≡ 0 → entry ≡ Format)
+Admits lines found (Err (Line before why)) = (before ≡ lines) × IsNotAdmitted lines found why
+Admits lines found (Err (Fault why)) = ⊥
+Admits lines found (Err (Cut cut)) = ⊥
+Admits lines found (Err Many) = ⊥
+Admits lines found (Err (Input why)) = ⊥
 
 -- A request for the line after this number of lines was made. Its reply has this identifier, or there is none.
 abbrev pub IsAsked : (lines : ℕ) → Ask → Result ℤ Unloaded → (left rest taken more : Option (List ℕ)) → Type 0

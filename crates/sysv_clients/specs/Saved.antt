@@ -74,12 +74,16 @@ pub record HasPair (first second : List ℕ) (one two : ℕ) (all rest : List To
   pub has_two : IsNat32 others two
   pub object : all ≡ number_member first digits ++ (number_member second others ++ rest)
 
+-- The tokens of the line that states the format.
+abbrev pub format_tokens : List Token
+format_tokens =
+    begin_object ∷ (string_member (codes "format") (codes "sysvmsg-queues")
+    ++ (number_member (codes "version") (codes "1") ++ end_object ∷ []))
+
 -- The line states this format: it has these tokens.
 pub record IsFormatLine (line : List ℕ) : Type 0 where
   pub utf8 : IsUtf8 line
-  pub object : tokens line
-      ≡ begin_object ∷ (string_member (codes "format") (codes "sysvmsg-queues")
-      ++ (number_member (codes "version") (codes "1") ++ end_object ∷ []))
+  pub object : tokens line ≡ format_tokens
 
 -- The values of the members of a queue's line, in their order.
 pub record Values : Type 0 where

@@ -9,7 +9,7 @@ ghost use Rattle.sysv_clients.specs.declared.saved.Entry.TheVariants as entries;
 ghost use Rattle.sysv_clients.specs.declared.stated.TheConstants.{OBJECT_BYTES};
 ghost use Rattle.sysv_clients.specs.Feed.{failure_of, feed_name, feed_stream};
 ghost use Rattle.sysv_clients.specs.Lines.{IsNext};
-ghost use Rattle.sysv_clients.specs.Loaded.{Checks, EndsAt, Finds, IsAsked, IsCutLoad, IsOfLine, Loads, MayBeAt, Passes, ReadsEntry, Stops, TakesLine, TakesNext, one_taken};
+ghost use Rattle.sysv_clients.specs.Loaded.{Admits, Checks, EndsAt, Finds, IsAsked, IsCutLoad, IsOfLine, Loads, MayBeAt, Passes, ReadsEntry, Stops, StopsBy, TakesLine, TakesNext, one_taken};
 ghost use Rattle.sysv_clients.specs.Loading.{FailsLoadBy, IsDue, LoadsAhead, LoadsAll, find_ask, is_own, make_ask, outset, sending_to_load, set_ask, unloaded_by, window_to_load};
 ghost use Rattle.sysv_clients.specs.Dialogue.{Exchanges};
 ghost use Rattle.sysv_clients.specs.Asks.{request_of};
@@ -373,8 +373,7 @@ impl Loader {
             match self.load_next(alloc, loading, input, reader, writer) {
                 Ok(true) => {}
                 Ok(false) => return self.end(reader, writer, Ok(())),
-                Err(Unloaded::Cut(cut)) => return Err(Unloaded::Cut(cut)),
-                Err(why) => return self.end(reader, writer, Err(why)),
+                Err(why) => return self.stop(reader, writer, why),
             }
         }
         self.end(reader, writer, Err(Unloaded::Many))
@@ -405,6 +404,7 @@ impl Loader {
         ensures many { OnOk result
             (self.new.window.done + self.new.window.waiting ≡ self.new.place.lines) }
         ensures room { OnOk result (self.new.window.waiting < window_to_load loading.now) }
+        ensures bound { self.new.place.lines ≤ self.old.place.lines + 1 }
         ensures none { self.new.none ≡ self.old.none }
         ensures failed { IfErr result (λ why. FailsLoadBy (Err why) (failure_of input.new)) }
         ensures same_input { feed_name input.new ≡ feed_name input.old }
@@ -417,11 +417,7 @@ impl Loader {
         if fetched.is_nothing() {
             return self.at_end();
         }
-        if self.place.is_early(loading) {
-            self.pass()?;
-        } else {
-            self.load(alloc, loading, reader, writer)?;
-        }
+        self.pass_or_load(alloc, loading, reader, writer)?;
         Ok(fetched.is_line())
     }
 
@@ -436,14 +432,56 @@ impl Loader {
         }
     }
 
+    /// Takes the line that was read: passes over it, or loads it.
+    fn pass_or_load<R: Read, W: Write>(
+        &mut self,
+        alloc: Global,
+        loading: &Loading,
+        reader: &mut Instrumented<'_, R>,
+        writer: &mut Instrumented<'_, W>,
+    ) -> Result<(), Unloaded>
+        requires none { self.old.none ≡ [] }
+        requires lines { self.old.place.lines < 2 ^ 64 - 1 }
+        requires many { self.old.window.done + self.old.window.waiting ≡ self.old.place.lines }
+        requires room { self.old.window.waiting < window_to_load loading.now }
+        ensures takes { (left taken fed unloaded unfed : Option (List ℕ)) →
+            IsNext OBJECT_BYTES self.old.sender.line unloaded unfed
+            → Loads loading.now left (R.remaining (stream_of reader.old)) taken
+            (W.contents (stream_of writer.old)) fed unloaded self.old.place self.old.window
+            → TakesLine loading.now result left (R.remaining (stream_of reader.new)) taken
+            (W.contents (stream_of writer.new)) fed unfed self.new.place self.new.window }
+        ensures lines { OnOk result (self.new.place.lines ≡ self.old.place.lines + 1) }
+        ensures bound { self.new.place.lines ≤ self.old.place.lines + 1 }
+        ensures many { OnOk result
+            (self.new.window.done + self.new.window.waiting ≡ self.new.place.lines) }
+        ensures room { OnOk result (self.new.window.waiting < window_to_load loading.now) }
+        ensures of_line { IfErr result IsOfLine }
+        ensures chunk { self.new.sender.chunk ≡ self.old.sender.chunk }
+        ensures none { self.new.none ≡ self.old.none }
+        ensures same_reader { stream_name reader.new ≡ stream_name reader.old }
+        ensures same_writer { stream_name writer.new ≡ stream_name writer.old }
+    {
+        if self.place.is_early(loading) {
+            self.pass()
+        } else {
+            self.load(alloc, loading, reader, writer)
+        }
+    }
+
     /// Passes over the line that was read, which is not loaded. If it is that of a queue, the next
     /// messages belong to it.
     fn pass(&mut self) -> Result<(), Unloaded>
         requires lines { self.old.place.lines < 2 ^ 64 - 1 }
         requires many { self.old.window.done + self.old.window.waiting ≡ self.old.place.lines }
         ensures passes { Passes result self.old.sender.line self.old.place self.new.place }
+        ensures lines { OnOk result (self.new.place.lines ≡ self.old.place.lines + 1) }
+        ensures bound { self.new.place.lines ≤ self.old.place.lines + 1 }
         ensures window { OnOk result (self.new.window ≡ one_taken self.old.window) }
         ensures same_window { IfErr result (λ _. self.new.window ≡ self.old.window) }
+        ensures many { OnOk result
+            (self.new.window.done + self.new.window.waiting ≡ self.new.place.lines) }
+        ensures waiting { self.new.window.waiting ≡ self.old.window.waiting }
+        ensures of_line { IfErr result IsOfLine }
         ensures chunk { self.new.sender.chunk ≡ self.old.sender.chunk }
         ensures none { self.new.none ≡ self.old.none }
     {
@@ -461,9 +499,9 @@ impl Loader {
         requires lines { self.old.place.lines < 2 ^ 64 - 1 }
         requires done { self.old.window.done < 2 ^ 64 - 1 }
         ensures place { self.new.place ≡ record {
-            lines = self.old.place.lines + 1;
-            queue = queue;
-            found = found;
+          lines = self.old.place.lines + 1;
+          queue = queue;
+          found = found;
         } }
         ensures window { self.new.window ≡ one_taken self.old.window }
         ensures chunk { self.new.sender.chunk ≡ self.old.sender.chunk }
@@ -497,6 +535,7 @@ impl Loader {
             → TakesLine loading.now result left (R.remaining (stream_of reader.new)) taken
             (W.contents (stream_of writer.new)) fed unfed self.new.place self.new.window }
         ensures lines { OnOk result (self.new.place.lines ≡ self.old.place.lines + 1) }
+        ensures bound { self.new.place.lines ≤ self.old.place.lines + 1 }
         ensures many { OnOk result
             (self.new.window.done + self.new.window.waiting ≡ self.new.place.lines) }
         ensures room { OnOk result (self.new.window.waiting < window_to_load loading.now) }
@@ -529,6 +568,7 @@ impl Loader {
             → TakesLine loading result left (R.remaining (stream_of reader.new)) taken
             (W.contents (stream_of writer.new)) fed unfed self.new.place self.new.window }
         ensures lines { OnOk result (self.new.place.lines ≡ self.old.place.lines + 1) }
+        ensures bound { self.new.place.lines ≤ self.old.place.lines + 1 }
         ensures many { OnOk result
             (self.new.window.done + self.new.window.waiting ≡ self.new.place.lines) }
         ensures none_waits { OnOk result (self.new.window.waiting ≡ 0) }
@@ -565,6 +605,7 @@ impl Loader {
             → TakesLine loading.now result left (R.remaining (stream_of reader.new)) taken
             (W.contents (stream_of writer.new)) fed unfed self.new.place self.new.window }
         ensures lines { OnOk result (self.new.place.lines ≡ self.old.place.lines + 1) }
+        ensures bound { self.new.place.lines ≤ self.old.place.lines + 1 }
         ensures many { OnOk result
             (self.new.window.done + self.new.window.waiting ≡ self.new.place.lines) }
         ensures room { OnOk result (self.new.window.waiting < window_to_load loading.now) }
@@ -604,6 +645,7 @@ impl Loader {
             → TakesLine loading.now result left (R.remaining (stream_of reader.new)) taken
             (W.contents (stream_of writer.new)) fed unfed self.new.place self.new.window }
         ensures lines { OnOk result (self.new.place.lines ≡ self.old.place.lines + 1) }
+        ensures bound { self.new.place.lines ≤ self.old.place.lines + 1 }
         ensures many { OnOk result
             (self.new.window.done + self.new.window.waiting ≡ self.new.place.lines) }
         ensures room { OnOk result (self.new.window.waiting < window_to_load loading.now) }
@@ -637,10 +679,7 @@ impl Loader {
         let lines = self.place.lines;
         let line = self.sender.line.bytes();
         match read_entry(alloc, line, &mut self.sender.scratch, &mut self.sender.text) {
-            Ok(Some(Entry::Format)) => Ok(Entry::Format),
-            Ok(_) if lines == 0 => Err(at_line(lines, Unfit::Format)),
-            Ok(Some(entry)) => Ok(entry),
-            Ok(None) => Err(at_line(lines, Unfit::Nothing)),
+            Ok(found) => admit(lines, found),
             Err(NoMemory) => Err(at_line(lines, Unfit::Memory)),
         }
     }
@@ -734,6 +773,30 @@ impl Loader {
         exchange(reader, writer, ask, &self.none, &mut self.sender.given)
     }
 
+    /// Ends the load at a line or a request that ends it, after the replies that are left.
+    fn stop<R: Read, W: Write>(
+        &mut self,
+        reader: &mut Instrumented<'_, R>,
+        writer: &mut Instrumented<'_, W>,
+        why: Unloaded,
+    ) -> Result<(), Unloaded>
+        requires { ¬ IsCutLoad why
+            → self.old.window.done + self.old.window.waiting < 2 ^ 64 }
+        ensures stops { (loading : ALoading) (left taken fed unfed : Option (List ℕ)) →
+            StopsBy loading why left (R.remaining (stream_of reader.old)) taken
+            (W.contents (stream_of writer.old)) fed unfed self.old.place self.old.window
+            → LoadsAll loading result left (R.remaining (stream_of reader.new)) taken
+            (W.contents (stream_of writer.new)) fed unfed }
+        ensures same_end { (result ≡ Err why) ⊎ IfErr result IsCutLoad }
+        ensures same_reader { stream_name reader.new ≡ stream_name reader.old }
+        ensures same_writer { stream_name writer.new ≡ stream_name writer.old }
+    {
+        match why {
+            Unloaded::Cut(cut) => Err(Unloaded::Cut(cut)),
+            why => self.end(reader, writer, Err(why)),
+        }
+    }
+
     /// Reads the replies that are left, and ends the load like its lines.
     fn end<R: Read, W: Write>(
         &mut self,
@@ -754,6 +817,27 @@ impl Loader {
     {
         self.sender.drain(reader, writer, &mut self.window, 0)?;
         ended
+    }
+}
+
+/// Returns the entry that a line after this number of lines states. The first one states the
+/// format.
+fn admit(lines: u64, found: Option<Entry>) -> Result<Entry, Unloaded>
+    ensures { Admits lines found result }
+{
+    let Some(entry) = found else {
+        if lines == 0 {
+            return Err(at_line(lines, Unfit::Format));
+        }
+        return Err(at_line(lines, Unfit::Nothing));
+    };
+    if lines > 0 {
+        return Ok(entry);
+    }
+    match entry {
+        Entry::Format => Ok(entry),
+        Entry::Queue(_) => Err(at_line(lines, Unfit::Format)),
+        Entry::Message(_) => Err(at_line(lines, Unfit::Format)),
     }
 }
 

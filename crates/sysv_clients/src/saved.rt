@@ -4,7 +4,7 @@ ghost use Rattle.std.specs.Bool.{MatchBool};
 ghost use Rattle.std.specs.Option.{SomeIff};
 ghost use Rattle.std.specs.Prelude.{◌≡◌, ◌∷◌, ◌++◌};
 ghost use Rattle.json.specs.Token.{Token as AToken, key};
-ghost use Rattle.sysv_clients.specs.Saved.{HasLimits, HasName, HasPair, IsFormatLine, IsQueueIn, IsQueueLine, StatesEntry, StatesNothing, number_member, string_member};
+ghost use Rattle.sysv_clients.specs.Saved.{HasLimits, HasName, HasPair, IsFormatLine, IsQueueIn, IsQueueLine, StatesEntry, StatesNothing, format_tokens, number_member, string_member};
 ghost use Rattle.sysv_clients.specs.Words.{IsHexKey, IsId, IsPerms};
 ghost use Rattle.sysv_clients.specs.declared.saved.SavedQueue.{SavedQueue as ASavedQueue};
 ghost use Rattle.sysv_words.specs.Words.{IsNat32};
@@ -91,12 +91,30 @@ fn read_format(line: &[u8], scratch: &mut Scratch) -> Result<bool, NoMemory>
     let Ok(mut reader) = Reader::new(line, scratch) else {
         return Err(NoMemory);
     };
-    Ok(
-        opens(&mut reader)
-            && string(&mut reader, "format") == Some("sysvmsg-queues")
-            && number(&mut reader, "version") == Some("1")
-            && closes(&mut reader),
-    )
+    Ok(format_in(&mut reader))
+}
+
+/// Reads the members of a format, which are all that the reader has. Returns whether they are those
+/// of this format.
+fn format_in(reader: &mut Reader<'_>) -> bool
+    ensures { MatchBool result (reader.old ≡ format_tokens) (¬ (reader.old ≡ format_tokens)) }
+{
+    if !opens(reader) {
+        return false;
+    }
+    let Some(format) = string(reader, "format") else {
+        return false;
+    };
+    if format != "sysvmsg-queues" {
+        return false;
+    }
+    let Some(version) = number(reader, "version") else {
+        return false;
+    };
+    if version != "1" {
+        return false;
+    }
+    closes(reader)
 }
 
 /// Reads the queue that a line states, or `None` if it states none. Fails with `NoMemory` if memory

@@ -1,3 +1,5 @@
+use Rattle.std.proofs.Common.{FitsSigned, rules, w64}
+use Rattle.std.proofs.lemmas.Int.{to_z-of_z}
 use Rattle.std.proofs.lemmas.Result.{err_from_is_err_and}
 use Rattle.sysv_clients.proofs.LoadLemmas.{entry_of_line, entry_stops}
 use Rattle.sysv_clients.proofs.loading.Loader.load.Goals as goal
@@ -19,15 +21,23 @@ returns-in_err-entry-clause-of_line g c =
 
 pub returns-in-Format-clause-takes : goal.returns-in-Format-clause-takes
 returns-in-Format-clause-takes g c = λ left taken fed unloaded unfed due next so_far.
-    c.load_format.ensures.takes c.args.loading.now left taken fed unloaded unfed (rw c.entry.ensures.place due) ?
-    (rw c.entry.ensures.line next) (rw (c.entry.ensures.place, c.entry.ensures.window) so_far)
+    let reads = rw c.in-Format.is at c.in_ok-entry.ensures.reads in
+    c.load_format.ensures.takes c.args.loading.now left taken fed unloaded unfed (rw c.entry.ensures.place due)
+    (rw c.entry.ensures.line reads.0) (rw c.entry.ensures.line next)
+    (rw (c.entry.ensures.place, c.entry.ensures.window) so_far)
 
 pub returns-in-Queue-clause-takes : goal.returns-in-Queue-clause-takes
 returns-in-Queue-clause-takes g c = λ left taken fed unloaded unfed due next so_far.
-    c.load_queue.ensures.takes left taken fed unloaded unfed (rw c.entry.ensures.place due) ? ?
-    (rw c.entry.ensures.line next) (rw (c.entry.ensures.place, c.entry.ensures.window) so_far)
+    let reads = rw c.in-Queue.is at c.in_ok-entry.ensures.reads in
+    c.load_queue.ensures.takes left taken fed unloaded unfed (rw c.entry.ensures.place due)
+    (rw c.entry.ensures.line reads.0) (rw c.entry.ensures.place reads.1) (rw c.entry.ensures.line next)
+    (rw (c.entry.ensures.place, c.entry.ensures.window) so_far)
 
 pub returns-in-Message-clause-takes : goal.returns-in-Message-clause-takes
 returns-in-Message-clause-takes g c = λ left taken fed unloaded unfed due next so_far.
-    c.load_message.ensures.takes left taken fed unloaded unfed (rw c.entry.ensures.place due) ? ?
+    let reads = rw c.in-Message.is at c.in_ok-entry.ensures.reads in
+    let fits : FitsSigned w64 c.in-Message.mtype = search rules in
+    c.load_message.ensures.takes left taken fed unloaded unfed (rw c.entry.ensures.place due)
+    (rw (c.entry.ensures.line, to_z-of_z w64 c.in-Message.mtype fits) reads.0)
+    (rw (c.entry.ensures.place, to_z-of_z w64 c.in-Message.mtype fits) reads.1)
     (rw c.entry.ensures.line next) (rw (c.entry.ensures.place, c.entry.ensures.window) so_far)

@@ -15,6 +15,7 @@ invariant-loop-self g l = record {
       (prepend_known l.self.sender.chunk (g.I.Read.remaining (feed_stream l.input))) l.self.place l.self.window;
   many : l.self.window.done + l.self.window.waiting ≡ l.self.place.lines;
   room : l.self.window.waiting < window_to_load l.loading;
+  bound : l.self.place.lines < 2 ^ 64;
   none : l.self.none ≡ [];
   same_input : feed_name l.input ≡ feed_name l.fn.input;
   same_reader : stream_name l.reader ≡ stream_name l.fn.reader;
