@@ -33,8 +33,8 @@ use Rattle.sysv_clients.specs.Window.{AreSnds, Drains, EndsCut, EndsLines, Hears
 use Rattle.sysv_clients.specs.Window.{Opens, ReadsMessage, Sends, lost}
 use Rattle.sysv_clients.proofs.CallLemmas.{call_of, done_more, none_made}
 use Rattle.sysv_clients.proofs.WindowLemmas.{all_answered, between, between_first, between_second, cut_by, each_both}
-use Rattle.sysv_clients.proofs.WindowLemmas.{frames_both, frames_of_calls, length_sent, no_replies, read_both, sent_both}
-use Rattle.sysv_clients.proofs.WindowLemmas.{snds_after, written_both}
+use Rattle.sysv_clients.proofs.WindowLemmas.{frames_both, frames_of_calls, length_sent, no_replies, read_both}
+use Rattle.sysv_clients.proofs.WindowLemmas.{sent_both, snds_after, written_both}
 use Rattle.sysv_model.specs.Writing.{AppendsPrefix}
 use Rattle.sysv_wire.specs.declared.reply.ReplyContent.{ReplyContent}
 use Rattle.sysv_wire.specs.declared.request.Ask.{Ask}
@@ -320,8 +320,8 @@ sent_with sends calls waiting others split =
     ∙ ap (λ (l : List Sent). l ++ others) (sym (sent_both sends calls))
 
 -- Nothing more was written.
-pub same_written : (taken more most : Option (List ℕ)) (bytes : List ℕ) → Appends taken more bytes → Appends more most []
-    → Appends taken most bytes
+pub same_written : (taken more most : Option (List ℕ)) (bytes : List ℕ) → Appends taken more bytes
+    → Appends more most [] → Appends taken most bytes
 same_written taken more most bytes wrote kept =
     subst (Appends taken most) (append-nil bytes) (Appends-trans taken more most bytes [] wrote kept)
 

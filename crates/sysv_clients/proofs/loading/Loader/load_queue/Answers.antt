@@ -43,7 +43,8 @@ returns-in_err-id-clause-takes g c = λ left taken fed unloaded unfed due is fir
     fed unloaded unfed c.args.self.now.place c.args.self.now.window c.drain.new.window so_far
     (c.in_ok-drain.ensures.hears so_far.part.waiting so_far.part.snds so_far.part.waits) c.drain.ensures.writes
     c.in_ok-drain.ensures.few due is next c.in_ok-check.ensures
-    (asked_as c.args.self.now.place.lines c.args.self.now.place.lines c.make.result (make_ask c.args.loading.now c.args.queue) (Err c.in_err-id.field-0.0)
+    (asked_as c.args.self.now.place.lines c.args.self.now.place.lines c.make.result
+    (make_ask c.args.loading.now c.args.queue) (Err c.in_err-id.field-0.0)
     (g.R.Read.remaining (stream_of c.drain.new.reader)) (g.R.Read.remaining (stream_of c.asked.new.reader))
     (g.W.Write.contents (stream_of c.drain.new.writer)) (g.W.Write.contents (stream_of c.asked.new.writer)) refl
     c.make.ensures c.in_err-id.ensures.asks))
@@ -57,12 +58,14 @@ returns-in_err-asked-clause-takes g c = λ left taken fed unloaded unfed due is 
     _ _ _ _ taken _ _ _ _ fed unloaded unfed c.args.self.now.place c.args.self.now.window c.drain.new.window so_far
     (c.in_ok-drain.ensures.hears so_far.part.waiting so_far.part.snds so_far.part.waits) c.drain.ensures.writes
     c.in_ok-drain.ensures.few due is next c.in_ok-check.ensures
-    (asked_as c.args.self.now.place.lines c.args.self.now.place.lines c.make.result (make_ask c.args.loading.now c.args.queue) (Ok c.in_ok-id.id)
+    (asked_as c.args.self.now.place.lines c.args.self.now.place.lines c.make.result
+    (make_ask c.args.loading.now c.args.queue) (Ok c.in_ok-id.id)
     (g.R.Read.remaining (stream_of c.drain.new.reader)) (g.R.Read.remaining (stream_of c.asked.new.reader))
     (g.W.Write.contents (stream_of c.drain.new.writer)) (g.W.Write.contents (stream_of c.asked.new.writer)) refl
     c.make.ensures c.in_ok-id.ensures.asks)
     (asked_as c.asked.new.self.place.lines c.args.self.now.place.lines c.set.result (set_ask c.args.queue c.in_ok-id.id)
-    (Err c.in_err-asked.field-0.0) (g.R.Read.remaining (stream_of c.asked.new.reader)) (g.R.Read.remaining (stream_of c.asked-2.new.reader))
+    (Err c.in_err-asked.field-0.0) (g.R.Read.remaining (stream_of c.asked.new.reader))
+    (g.R.Read.remaining (stream_of c.asked-2.new.reader))
     (g.W.Write.contents (stream_of c.asked.new.writer)) (g.W.Write.contents (stream_of c.asked-2.new.writer))
     (ap (λ (p : Place). p.lines) c.asked.ensures.place)
     (set_is c.args.queue c.set.result c.in_ok-id.id id_fits c.set.ensures) c.in_err-asked.ensures.asks))
@@ -84,12 +87,14 @@ returns-clause-takes g c = λ left taken fed unloaded unfed due is first next so
     c.args.self.now.window c.drain.new.window so_far
     (c.in_ok-drain.ensures.hears so_far.part.waiting so_far.part.snds so_far.part.waits) c.drain.ensures.writes
     c.in_ok-drain.ensures.few due is first next c.in_ok-check.ensures
-    (asked_as c.args.self.now.place.lines c.args.self.now.place.lines c.make.result (make_ask c.args.loading.now c.args.queue) (Ok c.in_ok-id.id)
+    (asked_as c.args.self.now.place.lines c.args.self.now.place.lines c.make.result
+    (make_ask c.args.loading.now c.args.queue) (Ok c.in_ok-id.id)
     (g.R.Read.remaining (stream_of c.drain.new.reader)) (g.R.Read.remaining (stream_of c.asked.new.reader))
     (g.W.Write.contents (stream_of c.drain.new.writer)) (g.W.Write.contents (stream_of c.asked.new.writer)) refl
     c.make.ensures c.in_ok-id.ensures.asks)
     (asked_as c.asked.new.self.place.lines c.args.self.now.place.lines c.set.result (set_ask c.args.queue c.in_ok-id.id)
-    (Ok c.in_ok-asked.field-0) (g.R.Read.remaining (stream_of c.asked.new.reader)) (g.R.Read.remaining (stream_of c.asked-2.new.reader))
+    (Ok c.in_ok-asked.field-0) (g.R.Read.remaining (stream_of c.asked.new.reader))
+    (g.R.Read.remaining (stream_of c.asked-2.new.reader))
     (g.W.Write.contents (stream_of c.asked.new.writer)) (g.W.Write.contents (stream_of c.asked-2.new.writer))
     (ap (λ (p : Place). p.lines) c.asked.ensures.place)
     (set_is c.args.queue c.set.result c.in_ok-id.id id_fits c.set.ensures) c.in_ok-asked.ensures.asks))
