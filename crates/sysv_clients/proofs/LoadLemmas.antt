@@ -39,8 +39,7 @@ use Rattle.sysv_clients.specs.Loading.{AreAllDone, AreTaken, EndsLoad, FailsLoad
 use Rattle.sysv_clients.specs.Loading.{LoadsAll, NamesFound, Notes}
 use Rattle.sysv_clients.specs.Loading.{NamesNext, NamesQueue, Step, Takes, Wants}
 use Rattle.sysv_clients.specs.Loading.{MayLoad, asks_in, find_ask, make_ask, outset, plain, send_of, set_ask}
-use Rattle.sysv_clients.specs.Loading.{unknown_by}
-use Rattle.sysv_clients.specs.Loading.{sending_to_load, unloaded_by, window_to_load}
+use Rattle.sysv_clients.specs.Loading.{unknown_by, sending_to_load, unloaded_by, window_to_load}
 use Rattle.sysv_clients.specs.Saved.{IsFormatLine, IsQueueLine, StatesEntry}
 use Rattle.sysv_clients.specs.Sending.{HasReply, Sent, frames_of, send_ask, sent_by}
 use Rattle.sysv_clients.specs.Window.{AreSnds, HearsCut, HearsDone, HearsSends, IsCut, IsSnd, PutsSend, empty, lost}
@@ -899,9 +898,8 @@ found_part loading id left mid rest taken more most fed unloaded place window so
     record {
       partial = plain (find_ask queue) ∷ [];
       found = Some id;
-      part =
-          finds_part loading queue.key id no_flags left mid rest taken more most fed unloaded place window place.lines
-          so_far.part (so_far.idle asked.0) asked.1;
+      part = finds_part loading queue.key id no_flags left mid rest taken more most fed unloaded place window
+          place.lines so_far.part (so_far.idle asked.0) asked.1;
       queue = queue;
       at = at;
       may = may;

@@ -34,8 +34,7 @@ use Rattle.sysv_clients.specs.Window.{Opens, ReadsMessage, Sends, lost}
 use Rattle.sysv_clients.proofs.CallLemmas.{call_of, done_more, none_made}
 use Rattle.sysv_clients.proofs.WindowLemmas.{all_answered, between, between_first, between_second, cut_by, each_both}
 use Rattle.sysv_clients.proofs.WindowLemmas.{frames_both, frames_of_calls, length_sent, no_replies, read_both}
-use Rattle.sysv_clients.proofs.WindowLemmas.{sent_both}
-use Rattle.sysv_clients.proofs.WindowLemmas.{snds_after, written_both}
+use Rattle.sysv_clients.proofs.WindowLemmas.{sent_both, snds_after, written_both}
 use Rattle.sysv_model.specs.Writing.{AppendsPrefix}
 use Rattle.sysv_wire.specs.declared.reply.ReplyContent.{ReplyContent}
 use Rattle.sysv_wire.specs.declared.request.Ask.{Ask}
@@ -322,8 +321,7 @@ sent_with sends calls waiting others split =
 
 -- Nothing more was written.
 pub same_written : (taken more most : Option (List ℕ)) (bytes : List ℕ) → Appends taken more bytes
-    → Appends more most []
-    → Appends taken most bytes
+    → Appends more most [] → Appends taken most bytes
 same_written taken more most bytes wrote kept =
     subst (Appends taken most) (append-nil bytes) (Appends-trans taken more most bytes [] wrote kept)
 

@@ -1,7 +1,6 @@
 -- A load in progress (this project's programs): some lines were read, and some sends may be on their way.
 use Rattle.std.specs.Prelude.{◌≡◌, ◌≤◌, ◌⊎◌, ◌+◌, ◌-◌, ◌^◌, ⊤, ℕ, ℤ, pos, Bool, true, false, List, [], ◌∷◌, ◌++◌}
-use Rattle.std.specs.Prelude.{length}
-use Rattle.std.specs.Prelude.{Option, None, Some, Result, Ok, Err, MatchOption}
+use Rattle.std.specs.Prelude.{length, Option, None, Some, Result, Ok, Err, MatchOption}
 use Rattle.std.specs.Io.KnownBytes.{Appends, Consumes}
 use Rattle.sysv_clients.specs.declared.fault.ClientFault.{ClientFault}
 use Rattle.sysv_clients.specs.declared.loading.Loading.{Loading}

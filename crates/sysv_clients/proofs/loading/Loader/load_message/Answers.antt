@@ -1,8 +1,7 @@
 use Rattle.std.proofs.Common.{FitsSigned, of_z, rules, to_z, w32}
 use Rattle.std.proofs.lemmas.Result.{err_from_is_err_and}
 use Rattle.sysv_clients.proofs.LoadLemmas.{after_message, cut_of_line, find_stops, hears_load, message_lost}
-use Rattle.sysv_clients.proofs.LoadLemmas.{message_sent}
-use Rattle.sysv_clients.proofs.LoadLemmas.{message_as, snd_is, stops_by}
+use Rattle.sysv_clients.proofs.LoadLemmas.{message_sent, message_as, snd_is, stops_by}
 use Rattle.sysv_clients.proofs.loading.Loader.load_message.Goals as goal
 
 pub returns-in_err-id-clause-takes : goal.returns-in_err-id-clause-takes
@@ -11,8 +10,7 @@ returns-in_err-id-clause-takes g c = λ left taken fed unloaded unfed due states
     rw (p.1, p.2, c.find.ensures.place, c.find.ensures.window)
     (find_stops c.args.loading.now c.in_err-id.field-0.0 c.args.mtype c.args.self.now.sender.line
     c.args.self.now.sender.text left _ _ taken _ _ fed unloaded unfed c.args.self.now.place c.args.self.now.window
-    so_far
-    due states next (c.in_err-id.ensures.finds so_far.may))
+    so_far due states next (c.in_err-id.ensures.finds so_far.may))
 
 pub returns-in_err-send-clause-takes : goal.returns-in_err-send-clause-takes
 returns-in_err-send-clause-takes g c = λ left taken fed unloaded unfed due states first next so_far.
@@ -20,8 +18,8 @@ returns-in_err-send-clause-takes g c = λ left taken fed unloaded unfed due stat
     rw (p.1, p.2)
     (message_lost c.args.loading.now c.in_ok-id.id c.args.mtype c.send-ask.result c.in_err-send.field-0.0
     c.args.self.now.sender.line c.args.self.now.sender.text c.find.new.self.sender.text left _ _ taken _ _ _ fed
-    unloaded
-    unfed c.args.self.now.place c.find.new.self.place c.args.self.now.window c.find.new.self.window c.send.new.window
+    unloaded unfed c.args.self.now.place c.find.new.self.place c.args.self.now.window c.find.new.self.window
+    c.send.new.window
     so_far (c.in_ok-id.ensures.finds so_far.may) due states first next c.requires.room
     (snd_is c.args.loading.now c.sending-sending.result c.send-ask.result c.in_ok-id.id c.args.mtype (search rules)
     (search rules) c.sending-sending.ensures c.send-ask.ensures)
@@ -40,8 +38,8 @@ returns-in_err-drain-clause-takes g c = λ left taken fed unloaded unfed due sta
     c.send.new.window id_fits
     (message_sent c.args.loading.now c.in_ok-id.id c.args.mtype c.send-ask.result
     c.args.self.now.sender.line c.args.self.now.sender.text c.find.new.self.sender.text left _ _ taken _ _ _ fed
-    unloaded
-    unfed c.args.self.now.place c.find.new.self.place c.args.self.now.window c.find.new.self.window c.send.new.window
+    unloaded unfed c.args.self.now.place c.find.new.self.place c.args.self.now.window c.find.new.self.window
+    c.send.new.window
     so_far (c.in_ok-id.ensures.finds so_far.may) due states first next c.requires.room
     (snd_is c.args.loading.now c.sending-sending.result c.send-ask.result c.in_ok-id.id c.args.mtype id_fits
     (search rules) c.sending-sending.ensures c.send-ask.ensures)
@@ -65,8 +63,8 @@ returns-clause-takes g c = λ left taken fed unloaded unfed due states first nex
     c.send.new.window id_fits
     (message_sent c.args.loading.now c.in_ok-id.id c.args.mtype c.send-ask.result
     c.args.self.now.sender.line c.args.self.now.sender.text c.find.new.self.sender.text left _ _ taken _ _ _ fed
-    unloaded
-    unfed c.args.self.now.place c.find.new.self.place c.args.self.now.window c.find.new.self.window c.send.new.window
+    unloaded unfed c.args.self.now.place c.find.new.self.place c.args.self.now.window c.find.new.self.window
+    c.send.new.window
     so_far (c.in_ok-id.ensures.finds so_far.may) due states first next c.requires.room
     (snd_is c.args.loading.now c.sending-sending.result c.send-ask.result c.in_ok-id.id c.args.mtype id_fits
     (search rules) c.sending-sending.ensures c.send-ask.ensures)
