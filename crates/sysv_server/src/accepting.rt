@@ -15,7 +15,9 @@ use std::io::ErrorKind;
 use std::sync::Wait;
 use sysv_engine::{Arrivals, Rows, ServerState};
 use sysv_seats::{Limits, SocketStream};
-use sysv_system::{EAGAIN, ECONNABORTED, EMFILE, ENOMEM, EPERM, Event, Watched, await_any, pause};
+use sysv_system::{
+    EAGAIN, ECONNABORTED, EMFILE, ENOMEM, EPERM, Event, Several, Watched, await_any, pause,
+};
 
 /// The maximum number of bytes of the input that are read at once and dropped.
 const INPUT_BYTES: usize = 512;
@@ -182,10 +184,12 @@ impl<'a, L: Listens, I: Input + Drop, H: Host> Accepting<'a, L, I, H> {
                 return Err(Reason::NoSocket(why));
             }
         }
+        let mut listeners = Several::none();
+        self.listener.watch(&mut listeners);
         let view = View {
             alloc: self.alloc,
             server: self.server,
-            listener: self.listener.descriptor(),
+            listeners: &listeners,
             blocks: self.blocks,
             accepted: self.accepted,
             started: self.desk.started(),
@@ -318,7 +322,7 @@ impl<H: Host> Acceptor<'_, '_, H> {
     fn wait(&self, told: &mut bool, input: Watched, desk: &Desk) -> Arrived {
         let View {
             server,
-            listener,
+            listeners,
             accepted,
             ..
         } = self.view;
@@ -327,7 +331,7 @@ impl<H: Host> Acceptor<'_, '_, H> {
             *told = true;
         }
         if server.has_room(accepted) {
-            return self.arrived(input, listener, desk, desk.limit());
+            return self.arrived(input, listeners, desk, desk.limit());
         }
         server.await_turn(true);
         let limit = if server.has_room(accepted) {
@@ -335,25 +339,24 @@ impl<H: Host> Acceptor<'_, '_, H> {
         } else {
             desk.limit()
         };
-        let arrived = self.arrived(input, Watched::NONE, desk, limit);
+        let arrived = self.arrived(input, &Several::none(), desk, limit);
         server.await_turn(false);
         arrived
     }
 
-    /// Waits until the input, the listener or the doorbell can be read, or something happens at the
-    /// desk, for at most `limit` milliseconds, and hushes the doorbell.
+    /// Waits until the input or the doorbell can be read, a client waits at one of the listeners, or
+    /// something happens at the desk, for at most `limit` milliseconds, and hushes the doorbell.
     fn arrived(
         &self,
         input: Watched,
-        listener: Watched,
+        listeners: &Several,
         desk: &Desk,
         limit: Option<u64>,
     ) -> Arrived {
         let server = self.view.server;
-        let files = [input, listener, server.doorbell()];
-        let [input, listener, doorbell] = files.map(Event::readable);
-        let awaited = [input, listener, doorbell, desk.awaited()];
-        let [input, connection, is_rung, reader] = await_any(awaited, limit);
+        let [input, doorbell] = [input, server.doorbell()].map(Event::readable);
+        let awaited = [input, doorbell, desk.awaited()];
+        let ([input, is_rung, reader], connection) = await_any(awaited, listeners, limit);
         if is_rung {
             server.hush();
         }
@@ -375,7 +378,7 @@ fn descriptor<I: Input>(input: &Option<I>) -> Watched {
 
 /// Returns whether an accept failed for want of something that may come back, or because the client
 /// has gone.
-fn is_passing(why: &io::Error) -> bool {
+pub(crate) fn is_passing(why: &io::Error) -> bool {
     match why.raw_os_error() {
         Some(code) => PASSING.contains(&code),
         None => false,

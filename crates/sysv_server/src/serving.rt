@@ -19,7 +19,7 @@ use std::os::unix::net::{UnixListener, UnixStream};
 use std::sync::Wait;
 use std::thread::Threads;
 use sysv_engine::{Ended, Patience, Rest, ServeFault, ServerState, Sums, serve_arrivals, watches};
-use sysv_seats::Limits;
+use sysv_seats::{Callers, Limits};
 
 /// The largest number of clients at once.
 pub const MAX_CLIENTS: u32 = 16_384;
@@ -74,6 +74,7 @@ pub fn serve_on<R: Threads + Wait + Net + Sync>(
         drain: 0,
         stats: false,
         hold: false,
+        sockets: 1,
     };
     let mut lent = Lent::new(listener);
     let mut reason = None;
@@ -136,7 +137,7 @@ pub fn serve_listener<I: Read + AsRawFd + Drop, H: Host + Drop, R: Threads + Wai
     ensures setting { IfOk result (λ ended. RanOn terms ended.setting) }
     ensures err { IfErr result (FailsOn terms.stats terms.blocks terms.at_once terms.sessions) }
 {
-    let mut socket = Hosted::new(&host);
+    let mut socket = Hosted::new(&host, 0, Callers::Anyone);
     let input = input_of(input);
     run(rt, alloc, &mut socket, true, &host, input, terms, reason)
 }
@@ -214,6 +215,7 @@ fn run<L: Listens, I: Input + Drop, H: Host, R: Threads + Wait + Net + Sync>(
         drain,
         stats,
         hold: _,
+        sockets: _,
     } = terms;
     *reason = None;
     let Some((server, rests)) = opened_for(alloc, &terms) else {

@@ -70,7 +70,7 @@ HasServed has_input ended reason shown after =
 -- The number of places of a server on these terms, under this limit of open files: as many as the terms
 -- have sessions at once, or as many as there are descriptors for.
 abbrev pub places_of : Option ℕ → Terms → ℕ
-places_of limit terms = places_within limit terms.stats terms.workers terms.at_once
+places_of limit terms = places_within limit terms.stats terms.workers terms.sockets terms.at_once
 
 -- A server on these terms ended so, under this limit of open files. It cut off clients only under the
 -- limits that the terms have.

@@ -6,7 +6,7 @@ use sysv_clients::{Form, Receipt, Target, Task};
 use sysv_connect::{How, Looking, Telling};
 use sysv_model::Cred;
 use sysv_options::{
-    Asked, NoWords, Process, Serving, SocketFile, Surroundings, Who, credentials, no_text,
+    Asked, Entrances, NoWords, Process, Serving, SocketFile, Surroundings, Who, credentials, no_text,
     read_words, surroundings, telling,
 };
 use sysv_server::{MAX_CLIENTS, Patience, Terms};
@@ -215,9 +215,12 @@ fn a_server_is_requested(rt: HostRuntime) {
         drain: 9,
         stats: true,
         hold: true,
+        sockets: 1,
     };
     let serving = Serving {
         file,
+        others: Entrances::none(),
+        no_main: false,
         stats: Some(SocketFile {
             path: "./s",
             ..file

@@ -1,0 +1,131 @@
+//! Several sockets that connections are accepted from.
+ghost use Rattle.std.specs.Prelude.{◌≡◌, ◌<◌, ◌≤◌, vec_len};
+
+use crate::accepting::is_passing;
+use crate::host::{Host, Notice};
+use crate::listening::Listens;
+use std::io;
+use sysv_seats::{Limits, SocketStream};
+use sysv_system::{EAGAIN, Several};
+
+/// Several sockets that connections are accepted from, in turn: after one from a socket, the next one
+/// comes from the first socket after it at which a client waits.
+///
+/// If an accept at a socket fails and is not tried again, only that socket is closed, unless it is the
+/// last one that is open.
+pub struct Doors<'h, L, H> {
+    sockets: Vec<L>,
+    /// The number of the socket at which the next accept is tried first.
+    next: usize,
+    host: &'h H,
+}
+
+impl<'h, L: Listens, H: Host> Doors<'h, L, H> {
+    /// Creates the doors with these sockets, of which there are at most 65. Their numbers are their
+    /// places in the vector.
+    pub fn new(sockets: Vec<L>, host: &'h H) -> Doors<'h, L, H>
+        ensures { result.sockets ≡ sockets }
+    {
+        Doors {
+            sockets,
+            next: 0,
+            host,
+        }
+    }
+
+    /// Returns whether another socket than the one of this number is open.
+    fn has_other(&self, number: usize) -> bool {
+        for (other, socket) in self.sockets.iter().enumerate() {
+            if other != number && socket.is_open() {
+                return true;
+            }
+        }
+        false
+    }
+
+    /// Returns the number after this one, or 0 after the last one.
+    fn after(&self, number: usize) -> usize {
+        let next = number.saturating_add(1);
+        if next < self.sockets.len() { next } else { 0 }
+    }
+
+    /// Gives up the socket of this number, at which an accept failed, unless it may be tried again or
+    /// no other is open. Returns why nothing was accepted.
+    fn give_up(&mut self, number: usize, why: io::Error) -> io::Error {
+        if is_passing(&why) || !self.has_other(number) {
+            return why;
+        }
+        if let Some(socket) = self.sockets.get_mut(number) {
+            socket.close();
+        }
+        self.host.note(Notice::Lost(number, why));
+        none_waits()
+    }
+
+    /// Closes all sockets.
+    fn close_all(&mut self) {
+        for socket in self.sockets.iter_mut() {
+            socket.close();
+        }
+    }
+}
+
+impl<L: Listens, H: Host> Listens for Doors<'_, L, H> {
+    fn is_open(&self) -> bool {
+        for socket in self.sockets.iter() {
+            if socket.is_open() {
+                return true;
+            }
+        }
+        false
+    }
+
+    fn open(&mut self) -> io::Result<()> {
+        for number in 0..self.sockets.len() {
+            if let Some(socket) = self.sockets.get_mut(number) {
+                if let Err(why) = socket.open() {
+                    self.close_all();
+                    return Err(why);
+                }
+            }
+        }
+        Ok(())
+    }
+
+    fn watch(&self, listeners: &mut Several) {
+        for socket in self.sockets.iter() {
+            socket.watch(listeners);
+        }
+    }
+
+    fn accept(&mut self, limits: Limits) -> io::Result<SocketStream> {
+        let mut listeners = Several::none();
+        self.watch(&mut listeners);
+        let seen = listeners.looked_at();
+        let mut failed = none_waits();
+        for _ in 0..self.sockets.len() {
+            let number = self.next;
+            self.next = self.after(number);
+            if !seen.has_client(number) {
+                continue;
+            }
+            let Some(socket) = self.sockets.get_mut(number) else {
+                continue;
+            };
+            match socket.accept(limits) {
+                Ok(stream) => return Ok(stream),
+                Err(why) => failed = self.give_up(number, why),
+            }
+        }
+        Err(failed)
+    }
+
+    fn close(&mut self) {
+        self.close_all();
+    }
+}
+
+/// Returns the error that no client waits, which is tried again.
+fn none_waits() -> io::Error {
+    io::Error::from_raw_os_error(EAGAIN)
+}
