@@ -391,40 +391,40 @@ pending_next old new size result text cred request counted reads is =
       ap (λ (u : Unsent). length u.marks) reads.unsent,
     )
 
-module _ {T : Type 0} (incoming outgoing : T → Option (List ℕ)) where
+module _ {T : Type 0} (incoming outgoing : T → Option (List ℕ)) (callers : T → Callers) where
   -- A client that is free can take up more.
   ready : (newest : Version) (start : Pass) (origin : T) (client : Sitting T) (now : Timed Pass) → IsFree client →
-      (sits : Sits incoming outgoing newest start origin client now) →
-      IsReady incoming outgoing newest start origin client now sits.sent
+      (sits : Sits incoming outgoing callers newest start origin client now) →
+      IsReady incoming outgoing callers newest start origin client now sits.sent
   ready newest start origin client now free sits =
-      subst₂ (λ (p : Option Parked) (s : Option End). IsAt incoming outgoing newest start origin client now
+      subst₂ (λ (p : Option Parked) (s : Option End). IsAt incoming outgoing callers newest start origin client now
       sits.sent p s)
       free.0 free.1 sits.at
 
   at_ready : (newest : Version) (start : Pass) (origin : T) (client : Sitting T) (now : Timed Pass)
       (sent : List ℕ) → client.parked ≡ None →
-      client.stopped ≡ None → IsReady incoming outgoing newest start origin client now sent →
-      IsAt incoming outgoing newest start origin client now sent client.parked client.stopped
+      client.stopped ≡ None → IsReady incoming outgoing callers newest start origin client now sent →
+      IsAt incoming outgoing callers newest start origin client now sent client.parked client.stopped
   at_ready newest start origin client now sent parked stopped at =
-      subst₂ (λ (p : Option Parked) (s : Option End). IsAt incoming outgoing newest start origin client now sent p s)
+      subst₂ (λ (p : Option Parked) (s : Option End). IsAt incoming outgoing callers newest start origin client now sent p s)
       (sym parked) (sym stopped) at
 
   at_stopped : (newest : Version) (start : Pass) (origin : T) (client : Sitting T) (now : Timed Pass)
       (sent : List ℕ) (why : End) →
       client.parked ≡ None → client.stopped ≡ Some why →
-      HasStopped incoming outgoing newest start origin client now sent why →
-      IsAt incoming outgoing newest start origin client now sent client.parked client.stopped
+      HasStopped incoming outgoing callers newest start origin client now sent why →
+      IsAt incoming outgoing callers newest start origin client now sent client.parked client.stopped
   at_stopped newest start origin client now sent why parked stopped at =
-      subst₂ (λ (p : Option Parked) (s : Option End). IsAt incoming outgoing newest start origin client now sent p s)
+      subst₂ (λ (p : Option Parked) (s : Option End). IsAt incoming outgoing callers newest start origin client now sent p s)
       (sym parked) (sym stopped) at
 
   at_waiting : (newest : Version) (start : Pass) (origin : T) (client : Sitting T) (now : Timed Pass)
       (sent : List ℕ) (parked : Parked) →
       client.parked ≡ Some parked → client.stopped ≡ None →
-      IsWaiting incoming outgoing newest start origin client now sent parked →
-      IsAt incoming outgoing newest start origin client now sent client.parked client.stopped
+      IsWaiting incoming outgoing callers newest start origin client now sent parked →
+      IsAt incoming outgoing callers newest start origin client now sent client.parked client.stopped
   at_waiting newest start origin client now sent parked parks stopped at =
-      subst₂ (λ (p : Option Parked) (s : Option End). IsAt incoming outgoing newest start origin client now sent p s)
+      subst₂ (λ (p : Option Parked) (s : Option End). IsAt incoming outgoing callers newest start origin client now sent p s)
       (sym parks) (sym stopped) at
 
   -- ---- a request has an outcome, or waits
@@ -432,7 +432,7 @@ module _ {T : Type 0} (incoming outgoing : T → Option (List ℕ)) where
   module _ (newest : Version) (start : Pass) (before : Timed Pass) (now : Holder Pass) (origin : T)
       (old new : Sitting T)
       (cred : Cred) (request : Request)
-      (text : List ℕ) (size : ℕ) (asked : HasAsked incoming outgoing newest start origin old cred request text size
+      (text : List ℕ) (size : ℕ) (asked : HasAsked incoming outgoing callers newest start origin old cred request text size
       before)
       (connection : new.connection ≡ old.connection) where
     wrote : Appends (outgoing origin) (outgoing new.connection) asked.sent
@@ -456,11 +456,11 @@ module _ {T : Type 0} (incoming outgoing : T → Option (List ℕ)) where
       pub put_reply : Puts (Ok tt) request.version outcome given old.dialogue new.dialogue →
           new.input ≡ drop size old.input →
           new.parked ≡ None → new.stopped ≡ old.stopped →
-          Sits incoming outgoing newest start origin new (timed now before.late)
+          Sits incoming outgoing callers newest start origin new (timed now before.late)
       put_reply put input parked stopped =
           let after : Timed Pass = timed now before.late in
           let stands =
-          puts newest Means SLOTS cred request text outcome given old.dialogue (begun_with start) asked.settled after
+          puts newest (means_for (callers origin)) SLOTS cred request text outcome given old.dialogue (begun_with start) asked.settled after
           (incoming origin)
           (prepend_known asked.later (incoming old.connection)) asked.sent asked.asking means
           (answers request.version request.ask came given outcome is may) new.dialogue put in
@@ -472,7 +472,7 @@ module _ {T : Type 0} (incoming outgoing : T → Option (List ℕ)) where
             at = at_ready newest start origin new after asked.sent parked (stopped ∙ asked.going) (
               after,
               ([], refl),
-              subst₂ (λ (l : List ℕ) (t : T). Stands newest Means SLOTS new.dialogue (begun_with start) after
+              subst₂ (λ (l : List ℕ) (t : T). Stands newest (means_for (callers origin)) SLOTS new.dialogue (begun_with start) after
                   (incoming origin) (prepend_known l (incoming t)) asked.sent) (sym left) (sym connection) stands,
             );
           }
@@ -480,12 +480,12 @@ module _ {T : Type 0} (incoming outgoing : T → Option (List ℕ)) where
       -- It has no reply, and the client stops.
       pub put_none : (why : End) → Puts (Err why) request.version outcome given old.dialogue new.dialogue →
           new.parked ≡ None → new.stopped ≡ Some why →
-          Sits incoming outgoing newest start origin new (timed now before.late)
+          Sits incoming outgoing callers newest start origin new (timed now before.late)
       put_none why put parked stopped =
           let after : Timed Pass = timed now before.late in
           let rest = prepend_known asked.later (incoming old.connection) in
           let stood =
-          put_ends newest Means SLOTS cred request text outcome given old.dialogue (begun_with start) asked.settled
+          put_ends newest (means_for (callers origin)) SLOTS cred request text outcome given old.dialogue (begun_with start) asked.settled
           after (incoming origin)
           rest asked.sent asked.asking means (answers request.version request.ask came given outcome is may) why
           new.dialogue put in
@@ -508,7 +508,7 @@ module _ {T : Type 0} (incoming outgoing : T → Option (List ℕ)) where
         HoldBegun zero_moment request.version cred request.ask text before.holder came given now →
         new.dialogue ≡ old.dialogue → new.input ≡ old.input →
         new.parked ≡ Some (record { cred = cred; request = request; waiting = waiting; length = size }) →
-        new.stopped ≡ old.stopped → Sits incoming outgoing newest start origin new (timed now before.late)
+        new.stopped ≡ old.stopped → Sits incoming outgoing callers newest start origin new (timed now before.late)
     parks came waiting given is begun dialogue input parked stopped =
         let waits = subst (λ (p : Progress Waiting RequestOutcome). HoldBegun zero_moment request.version cred
         request.ask text before.holder p given now) is begun in
@@ -523,7 +523,7 @@ module _ {T : Type 0} (incoming outgoing : T → Option (List ℕ)) where
                 before = before;
                 lapsed = asked.lapsed;
                 later = asked.later;
-                asking = subst₂ (λ (k : Dialogue) (t : T). StandsAsking newest Means SLOTS cred request text k
+                asking = subst₂ (λ (k : Dialogue) (t : T). StandsAsking newest (means_for (callers origin)) SLOTS cred request text k
                     (begun_with start) asked.settled
                     (incoming origin) (prepend_known asked.later (incoming t)) asked.sent) (sym dialogue)
                     (sym connection)
@@ -539,28 +539,28 @@ module _ {T : Type 0} (incoming outgoing : T → Option (List ℕ)) where
 
   parked_at : (newest : Version) (start : Pass) (origin : T) (client : Sitting T) (now : Timed Pass)
       (sent : List ℕ) (parked : Parked)
-      (stopped : Option End) → IsAt incoming outgoing newest start origin client now sent (Some parked) stopped →
-      (stopped ≡ None) × IsWaiting incoming outgoing newest start origin client now sent parked
+      (stopped : Option End) → IsAt incoming outgoing callers newest start origin client now sent (Some parked) stopped →
+      (stopped ≡ None) × IsWaiting incoming outgoing callers newest start origin client now sent parked
   parked_at newest start origin client now sent parked None at = (refl, at)
   parked_at newest start origin client now sent parked (Some why) at = absurd at
 
   -- A client with a parked call waits.
   pub is_waiting : (newest : Version) (start : Pass) (origin : T) (client : Sitting T) (now : Timed Pass)
       (parked : Parked) →
-      client.parked ≡ Some parked → (sits : Sits incoming outgoing newest start origin client now) →
-      (client.stopped ≡ None) × IsWaiting incoming outgoing newest start origin client now sits.sent parked
+      client.parked ≡ Some parked → (sits : Sits incoming outgoing callers newest start origin client now) →
+      (client.stopped ≡ None) × IsWaiting incoming outgoing callers newest start origin client now sits.sent parked
   is_waiting newest start origin client now parked is sits =
       parked_at newest start origin client now sits.sent parked client.stopped
-      (subst (λ (p : Option Parked). IsAt incoming outgoing newest start origin client now sits.sent p
+      (subst (λ (p : Option Parked). IsAt incoming outgoing callers newest start origin client now sits.sent p
       client.stopped) is
       sits.at)
 
   -- Its request was taken up.
   pub asked_before : (newest : Version) (start : Pass) (origin : T) (client : Sitting T) (now : Timed Pass)
       (parked : Parked)
-      (sits : Sits incoming outgoing newest start origin client now) → client.stopped ≡ None →
-      (waits : IsWaiting incoming outgoing newest start origin client now sits.sent parked) →
-      HasAsked incoming outgoing newest start origin client parked.cred parked.request waits.text parked.length
+      (sits : Sits incoming outgoing callers newest start origin client now) → client.stopped ≡ None →
+      (waits : IsWaiting incoming outgoing callers newest start origin client now sits.sent parked) →
+      HasAsked incoming outgoing callers newest start origin client parked.cred parked.request waits.text parked.length
       waits.before
   asked_before newest start origin client now parked sits going waits = record {
     sent = sits.sent;
@@ -579,7 +579,7 @@ module _ {T : Type 0} (incoming outgoing : T → Option (List ℕ)) where
   module _ (newest : Version) (start : Pass) (now : Timed Pass) (origin : T) (old new : Sitting T) (size : ℕ)
       (result : Result TakenUp End)
       (text : List ℕ) (free : IsFree old) (reads : ReadsNext old size result text new)
-      (sits : Sits incoming outgoing newest start origin old now) where
+      (sits : Sits incoming outgoing callers newest start origin old now) where
     stays : new.connection ≡ old.connection
     stays = ap (λ (s : Sitting T). s.connection) reads.same
 
@@ -594,14 +594,14 @@ module _ {T : Type 0} (incoming outgoing : T → Option (List ℕ)) where
 
     -- A request is taken up.
     pub asks_next : (cred : Cred) (request : Request) → result ≡ Ok (Asked cred request) →
-        HasAsked incoming outgoing newest start origin new cred request text size now
+        HasAsked incoming outgoing callers newest start origin new cred request text size now
     asks_next cred request is =
         let takes = took (Ok (Asked cred request)) is in
         let took_more = takes_up_more old.dialogue.session new.dialogue.session (Ok (Asked cred request)) old.input
         reads.rest text
         (incoming old.connection) tt takes in
         let at = ready newest start origin old now free sits in
-        let stands = takes_request newest Means SLOTS cred request old.dialogue new.dialogue (begun_with start)
+        let stands = takes_request newest (means_for (callers origin)) SLOTS cred request old.dialogue new.dialogue (begun_with start)
         at.0 (incoming origin)
         (prepend_known old.input (incoming old.connection)) (prepend_known reads.rest (incoming old.connection))
         sits.sent text at.2 took_more reads.unsent in
@@ -612,7 +612,7 @@ module _ {T : Type 0} (incoming outgoing : T → Option (List ℕ)) where
           settled = at.0;
           lapsed = at.1;
           asking =
-              subst (λ (t : T). StandsAsking newest Means SLOTS cred request text new.dialogue (begun_with start)
+              subst (λ (t : T). StandsAsking newest (means_for (callers origin)) SLOTS cred request text new.dialogue (begun_with start)
               at.0 (incoming origin)
               (prepend_known reads.rest (incoming t)) sits.sent) (sym stays) stands;
           frame = ap (λ (s : Sitting T). s.input) reads.same ∙ takes.3.0;
@@ -622,15 +622,15 @@ module _ {T : Type 0} (incoming outgoing : T → Option (List ℕ)) where
 
     -- What is read ends the session.
     pub stops_next : (why : End) (last : Sitting T) → result ≡ Err why → IsSettled (Err why) (incoming old.connection) →
-        last ≡ stopped_for why new → Sits incoming outgoing newest start origin last now
+        last ≡ stopped_for why new → Sits incoming outgoing callers newest start origin last now
     stops_next why last is settled same =
         let took_more = takes_up_more old.dialogue.session new.dialogue.session (Err why) old.input reads.rest text
         (incoming old.connection) settled (took (Err why) is) in
         let rest = prepend_known reads.rest (incoming old.connection) in
         let at = ready newest start origin old now free sits in
-        let stood = stops newest Means SLOTS why old.dialogue new.dialogue (begun_with start) at.0 (incoming origin)
+        let stood = stops newest (means_for (callers origin)) SLOTS why old.dialogue new.dialogue (begun_with start) at.0 (incoming origin)
         (prepend_known old.input (incoming old.connection)) rest sits.sent text at.2 took_more reads.unsent in
-        let at_new : HasStopped incoming outgoing newest start origin (stopped_for why new) now sits.sent why = (
+        let at_new : HasStopped incoming outgoing callers newest start origin (stopped_for why new) now sits.sent why = (
           rest,
           subst (λ (t : T). IsBehind rest (incoming t)) (sym stays)
               (behind reads.rest (incoming old.connection)),
@@ -638,7 +638,7 @@ module _ {T : Type 0} (incoming outgoing : T → Option (List ℕ)) where
           at.1,
           stood,
         ) in
-        subst (λ (s : Sitting T). Sits incoming outgoing newest start origin s now) (sym same)
+        subst (λ (s : Sitting T). Sits incoming outgoing callers newest start origin s now) (sym same)
         (record {
           sent = sits.sent;
           wrote = wrote_still;
@@ -651,11 +651,11 @@ module _ {T : Type 0} (incoming outgoing : T → Option (List ℕ)) where
         StandsGreeting newest version new.dialogue (begun_with start) settled (incoming origin)
         (prepend_known (drop size new.input) (incoming new.connection)) sits.sent →
         GreetsAs version (with_input (drop size new.input) new) last →
-        Sits incoming outgoing newest start origin last now
+        Sits incoming outgoing callers newest start origin last now
     greeted version last settled lapsed stands (inl same) =
         let answered = conversing (gathered (with_frame (hello_frame version SLOTS)) new.dialogue)
         (with_input (drop size new.input) new) in
-        subst (λ (s : Sitting T). Sits incoming outgoing newest start origin s now) (sym same)
+        subst (λ (s : Sitting T). Sits incoming outgoing callers newest start origin s now) (sym same)
         (record {
           sent = sits.sent;
           wrote = wrote_still;
@@ -664,13 +664,13 @@ module _ {T : Type 0} (incoming outgoing : T → Option (List ℕ)) where
               (ap (λ (s : Sitting T). s.stopped) reads.same ∙ free.1) (
                 settled,
                 lapsed,
-                greets newest Means SLOTS version new.dialogue answered.dialogue (begun_with start) settled
+                greets newest (means_for (callers origin)) SLOTS version new.dialogue answered.dialogue (begun_with start) settled
                     (incoming origin) (prepend_known (drop size new.input) (incoming new.connection)) sits.sent stands
                     refl,
               );
         })
     greeted version last settled lapsed stands (inr same) =
-        subst (λ (s : Sitting T). Sits incoming outgoing newest start origin s now) (sym same)
+        subst (λ (s : Sitting T). Sits incoming outgoing callers newest start origin s now) (sym same)
         (record {
           sent = sits.sent;
           wrote = wrote_still;
@@ -682,14 +682,14 @@ module _ {T : Type 0} (incoming outgoing : T → Option (List ℕ)) where
                 behind (drop size new.input) (incoming new.connection),
                 settled,
                 lapsed,
-                greet_ends newest Means SLOTS version new.dialogue (begun_with start) settled (incoming origin)
+                greet_ends newest (means_for (callers origin)) SLOTS version new.dialogue (begun_with start) settled (incoming origin)
                     (prepend_known (drop size new.input) (incoming new.connection)) sits.sent stands,
               );
         })
 
     pub greets_next : (version : Version) (last : Sitting T) → result ≡ Ok (Hello version) →
         GreetsAs version (with_input (drop size new.input) new) last →
-        Sits incoming outgoing newest start origin last now
+        Sits incoming outgoing callers newest start origin last now
     greets_next version last is greets_as =
         let takes = took (Ok (Hello version)) is in
         let encoded = takes.2.1 in
@@ -697,7 +697,7 @@ module _ {T : Type 0} (incoming outgoing : T → Option (List ℕ)) where
         takes_up_more old.dialogue.session new.dialogue.session (Ok (Hello version)) old.input reads.rest text
         (incoming old.connection) tt takes in
         let at = ready newest start origin old now free sits in
-        let stands = takes_hello newest Means SLOTS version old.dialogue new.dialogue (begun_with start) at.0
+        let stands = takes_hello newest (means_for (callers origin)) SLOTS version old.dialogue new.dialogue (begun_with start) at.0
         (incoming origin)
         (prepend_known old.input (incoming old.connection)) (prepend_known reads.rest (incoming old.connection))
         sits.sent text at.2 took_more reads.unsent in

@@ -22,7 +22,7 @@ use Rattle.sysv_wire.specs.declared.reply.ReplyContent.TheVariants as content
 use Rattle.sysv_wire.specs.Frames.{op_number}
 use Rattle.sysv_wire.specs.Replies.{reply_encoding}
 use Rattle.sysv_seats.specs.declared.callers.Callers.{Callers}
-use Rattle.sysv_seats.specs.Callers.{Entry, includes}
+use Rattle.sysv_seats.specs.Callers.{includes}
 use Rattle.sysv_seats.specs.Held.{ServesHolding, holds_with}
 use Rattle.sysv_seats.specs.Holding.{Timed, begun_with}
 
@@ -38,14 +38,15 @@ denial version = record { version = version; op = op_number op.Hello; result = c
 abbrev pub denial_frame : Version → List ℕ
 denial_frame version = reply_encoding (denial version) []
 
-module _ (entry : Entry) where
+-- A session that reads versions up to the newest one, on a connection that lets in these callers.
+module _ (newest : Version) (callers : Callers) where
   -- The session has no hello, or its hello states the credentials of a caller who is let in. All its calls are made with
   -- these.
   abbrev pub IsLetIn : {K : Type 0} (Means : Meaning K) (served : Served) (old new : K)
       (left rest taken more : Option (List ℕ)) →
-      ServesTogether entry.newest Means SLOTS served old new left rest taken more → Type 0
+      ServesTogether newest Means SLOTS served old new left rest taken more → Type 0
   IsLetIn Means served old new left rest taken more (inl stays) = ⊤
-  IsLetIn Means served old new left rest taken more (inr converses) = includes entry.callers converses.cred ≡ true
+  IsLetIn Means served old new left rest taken more (inr converses) = includes callers converses.cred ≡ true
 
   -- So many bytes were sent of the answer to a hello of this version that was not let in, if its session ended
   -- for this reason: all of them with `NoHello`, not all with `Write`, and none if memory was refused.
@@ -61,8 +62,8 @@ module _ (entry : Entry) where
       Type 0 where
     pub version : Version
     pub cred : Cred
-    pub known : FitsHello entry.newest version cred
-    pub other : includes entry.callers cred ≡ false
+    pub known : FitsHello newest version cred
+    pub other : includes callers cred ≡ false
     pub reads : Consumes left rest (hello_encoding version cred)
     pub handler : new ≡ begun_with old
     pub sent : List ℕ
@@ -75,6 +76,6 @@ module _ (entry : Entry) where
   abbrev pub ServesFor : (ℕ → Type 0) → Type 0 → Served → (old : Pass) → (new : Timed Pass) →
       (left rest taken more : Option (List ℕ)) → Type 0
   ServesFor may may_leave served old new left rest taken more =
-      ((serves : ServesHolding entry.newest may may_leave served old new left rest taken more)
+      ((serves : ServesHolding newest may may_leave served old new left rest taken more)
       × IsLetIn (holds_with may may_leave) served (begun_with old) serves.0 left rest taken more serves.1)
       ⊎ IsDenied served old new left rest taken more

@@ -33,7 +33,8 @@ use Rattle.sysv_wire.specs.Requests.{request_encoding}
 use Rattle.sysv_seats.specs.declared.parked.Parked.{Parked}
 use Rattle.sysv_seats.specs.declared.waiting.Waiting.{Waiting}
 use Rattle.sysv_seats.specs.declared.waiting.Waiting.TheVariants.{Send, Receive, Get}
-use Rattle.sysv_seats.specs.Callers.{Entry, includes}
+use Rattle.sysv_seats.specs.declared.callers.Callers.{Callers}
+use Rattle.sysv_seats.specs.Callers.{includes}
 use Rattle.sysv_seats.specs.Held.{HoldParked, LapsesTo, holds_with}
 use Rattle.sysv_seats.specs.Holding.{Holder, Timed, begun_with, timed}
 use Rattle.sysv_seats.specs.LettingIn.{ServesFor, by_callers, denial_frame}
@@ -84,16 +85,16 @@ IsBehind rest kept = (ahead : List ℕ) × Consumes rest kept ahead
 abbrev pub zero_moment : ℕ → Type 0
 zero_moment now = now ≡ 0
 
--- What the calls of a client's session mean that lets in these callers.
-abbrev pub means : Entry → Meaning (Timed Pass)
-means entry = by_callers entry.callers (holds_with zero_moment ⊤)
+-- What the calls of a client's session mean whose connection lets in these callers.
+abbrev pub means_for : Callers → Meaning (Timed Pass)
+means_for callers = by_callers callers (holds_with zero_moment ⊤)
 
--- Of this input, the hello is taken up, if one is: it states the credentials of a caller who is let in.
-abbrev pub IsKnown : Entry → Option (List ℕ) → Option (Version × Cred) → Type 0
-IsKnown entry left None = ⊤
-IsKnown entry left (Some caller) = (includes entry.callers caller.1 ≡ true)
-    × FitsHello entry.newest caller.0 caller.1
-    × (behind : Option (List ℕ)) × Consumes left behind (hello_encoding caller.0 caller.1)
+-- The hello that was taken up of this input, if one was, is one of this newest version, and states the credentials of a
+-- caller who is let in.
+abbrev pub IsKnown : Version → Callers → Option (List ℕ) → Option (Version × Cred) → Type 0
+IsKnown newest callers left None = ⊤
+IsKnown newest callers left (Some caller) = (includes callers caller.1 ≡ true) × FitsHello newest caller.0 caller.1
+    × ((behind : Option (List ℕ)) × Consumes left behind (hello_encoding caller.0 caller.1))
 
 -- The answer to a hello of this version that is not let in was gathered, or memory for it was refused. These are all
 -- bytes that were gathered.
@@ -102,54 +103,55 @@ GathersDenial version NoHello bytes = bytes ≡ denial_frame version
 GathersDenial version NoMemory bytes = bytes ≡ []
 GathersDenial version why bytes = ⊥
 
-module _ {T : Type 0} (incoming outgoing : T → Option (List ℕ)) where
+-- `callers` are the callers that a connection lets in.
+module _ {T : Type 0} (incoming outgoing : T → Option (List ℕ)) (callers : T → Callers) where
   -- The input that was not taken up: what has arrived of it, and then what the connection still has.
   abbrev pub unread : Sitting T → Option (List ℕ)
   unread client = prepend_known client.input (incoming client.connection)
 
-  -- More can be taken up. The session begins as the entry states. It began with the pass `start`,
+  -- More can be taken up. The session reads versions up to the newest one. It began with the pass `start`,
   -- on the connection `origin`, and held nothing then. `settled` is what it left after the last request that
   -- has an outcome; since then the time of what it holds may have been over.
-  abbrev pub IsReady : Entry → Pass → T → Sitting T → Timed Pass → List ℕ → Type 0
-  IsReady entry start origin client now sent = (settled : Timed Pass) × LapsesTo zero_moment settled now
-      × Stands entry.newest (means entry) SLOTS client.dialogue (begun_with start) settled (incoming origin)
+  abbrev pub IsReady : Version → Pass → T → Sitting T → Timed Pass → List ℕ → Type 0
+  IsReady newest start origin client now sent = (settled : Timed Pass) × LapsesTo zero_moment settled now
+      × Stands newest (means_for (callers origin)) SLOTS client.dialogue (begun_with start) settled (incoming origin)
       (unread client) sent
-      × IsKnown entry (incoming origin) client.dialogue.session.caller
+      × IsKnown newest (callers origin) (incoming origin) client.dialogue.session.caller
 
   -- The request of this call was taken up, and its frame is still at the front of the input. The call was
   -- begun with the pass of `before`, and waits.
-  pub record IsWaiting (entry : Entry) (start : Pass) (origin : T) (client : Sitting T) (now : Timed Pass)
+  pub record IsWaiting (newest : Version) (start : Pass) (origin : T) (client : Sitting T) (now : Timed Pass)
       (sent : List ℕ) (parked : Parked) : Type 0 where
     pub text : List ℕ
     pub settled : Timed Pass
     pub before : Timed Pass
     pub lapsed : LapsesTo zero_moment settled before
     pub later : List ℕ
-    pub asking : StandsAsking entry.newest (means entry) SLOTS parked.cred parked.request text client.dialogue
+    pub asking : StandsAsking newest (means_for (callers origin)) SLOTS parked.cred parked.request text client.dialogue
         (begun_with start) settled (incoming origin) (prepend_known later (incoming client.connection)) sent
     pub frame : client.input ≡ request_encoding parked.request text ++ later
     pub size : parked.length ≡ length (request_encoding parked.request text)
     pub waits : HoldParked zero_moment parked.cred parked.request.ask text before.holder parked.waiting now.holder
     pub late : now.late ≡ before.late
-    pub known : IsKnown entry (incoming origin) client.dialogue.session.caller
+    pub known : IsKnown newest (callers origin) (incoming origin) client.dialogue.session.caller
 
   -- It takes up no more, for this reason.
-  abbrev pub HasStopped : Entry → Pass → T → Sitting T → Timed Pass → List ℕ → End → Type 0
-  HasStopped entry start origin client now sent why =
+  abbrev pub HasStopped : Version → Pass → T → Sitting T → Timed Pass → List ℕ → End → Type 0
+  HasStopped newest start origin client now sent why =
       (rest : Option (List ℕ)) × IsBehind rest (incoming client.connection)
       × (settled : Timed Pass) × LapsesTo zero_moment settled now
-      × Stopped entry.newest (means entry) SLOTS why client.dialogue (begun_with start) settled (incoming origin)
+      × Stopped newest (means_for (callers origin)) SLOTS why client.dialogue (begun_with start) settled (incoming origin)
       rest sent
-      × IsKnown entry (incoming origin) client.dialogue.session.caller
+      × IsKnown newest (callers origin) (incoming origin) client.dialogue.session.caller
 
   -- Its hello was taken up and is not let in. It made no call, and takes up no more, for this reason. The answer to the
   -- hello was gathered, unless memory for it was refused.
-  pub record HasDenied (entry : Entry) (start : Pass) (origin : T) (client : Sitting T) (now : Timed Pass)
+  pub record HasDenied (newest : Version) (start : Pass) (origin : T) (client : Sitting T) (now : Timed Pass)
       (sent : List ℕ) (why : End) : Type 0 where
     pub version : Version
     pub cred : Cred
-    pub known : FitsHello entry.newest version cred
-    pub other : includes entry.callers cred ≡ false
+    pub known : FitsHello newest version cred
+    pub other : includes (callers origin) cred ≡ false
     pub rest : Option (List ℕ)
     pub reads : Consumes (incoming origin) rest (hello_encoding version cred)
     pub behind : IsBehind rest (incoming client.connection)
@@ -159,37 +161,39 @@ module _ {T : Type 0} (incoming outgoing : T → Option (List ℕ)) where
     pub tallies : client.dialogue.session.tally ≡ record { written = 0; lost = 0 }
     pub counts : client.dialogue.session.requests ≡ 1
 
-  abbrev pub IsAt : Entry → Pass → T → Sitting T → Timed Pass → List ℕ → Option Parked → Option End → Type 0
-  IsAt entry start origin client now sent None None = IsReady entry start origin client now sent
-  IsAt entry start origin client now sent (Some parked) None = IsWaiting entry start origin client now sent parked
-  IsAt entry start origin client now sent None (Some why) =
-      HasStopped entry start origin client now sent why ⊎ HasDenied entry start origin client now sent why
-  IsAt entry start origin client now sent (Some parked) (Some why) = ⊥
+  abbrev pub IsAt : Version → Pass → T → Sitting T → Timed Pass → List ℕ → Option Parked → Option End → Type 0
+  IsAt newest start origin client now sent None None = IsReady newest start origin client now sent
+  IsAt newest start origin client now sent (Some parked) None = IsWaiting newest start origin client now sent parked
+  IsAt newest start origin client now sent None (Some why) =
+      HasStopped newest start origin client now sent why ⊎ HasDenied newest start origin client now sent why
+  IsAt newest start origin client now sent (Some parked) (Some why) = ⊥
 
-  -- The client's session began with the pass `start`, on the connection `origin`. Its connection has
-  -- taken these bytes of its replies since then. `now` is the pass now, what the session holds, and what was
-  -- given back since its time was over.
-  pub record Sits (entry : Entry) (start : Pass) (origin : T) (client : Sitting T) (now : Timed Pass) :
+  -- The client's session began with the pass `start`, on the connection `origin`, and lets in the callers that this
+  -- connection lets in. Its connection has taken these bytes of its replies since then. `now` is the pass now, what the
+  -- session holds, and what was given back since its time was over.
+  pub record Sits (newest : Version) (start : Pass) (origin : T) (client : Sitting T) (now : Timed Pass) :
       Type 0 where
     pub sent : List ℕ
     pub wrote : Appends (outgoing origin) (outgoing client.connection) sent
-    pub at : IsAt entry start origin client now sent client.parked client.stopped
+    pub same : callers client.connection ≡ callers origin
+    pub at : IsAt newest start origin client now sent client.parked client.stopped
 
   -- The client's session, which began with the pass `start` on the connection `origin`, is over. It
   -- reported this, and its connection was closed into the book. It may still hold a message.
-  pub record IsOver {B : Type 0} (closes : Closing T B) (entry : Entry) (start : Pass) (origin : T)
+  pub record IsOver {B : Type 0} (closes : Closing T B) (newest : Version) (start : Pass) (origin : T)
       (served : Served) (now : Timed Pass) (book book' : B) : Type 0 where
     pub rest : Option (List ℕ)
     pub kept : Option (List ℕ)
     pub more : Option (List ℕ)
-    pub serves : ServesFor entry zero_moment ⊤ served start now (incoming origin) rest (outgoing origin) more
+    pub serves : ServesFor newest (callers origin) zero_moment ⊤ served start now (incoming origin) rest
+        (outgoing origin) more
     pub behind : IsBehind rest kept
     pub closed : closes.leaves book kept more book'
 
   -- Wherever the client was before, it is still one of the same session.
   abbrev pub KeepsWith : (old : Sitting T) → Holder Pass → (new : Sitting T) → Holder Pass → Type 0
-  KeepsWith old before new after = (late : List Answer) (entry : Entry) (start : Pass) (origin : T) →
-      Sits entry start origin old (timed before late) → Sits entry start origin new (timed after late)
+  KeepsWith old before new after = (late : List Answer) (newest : Version) (start : Pass) (origin : T) →
+      Sits newest start origin old (timed before late) → Sits newest start origin new (timed after late)
 
   -- The same, and no call was made.
   abbrev pub Keeps : (old new : Sitting T) → Type 0
@@ -197,19 +201,20 @@ module _ {T : Type 0} (incoming outgoing : T → Option (List ℕ)) where
 
   -- This request was taken up, and its frame, of this length, is at the front of the input. The pass
   -- and what was held were `before` then. The client has not stopped.
-  pub record HasAsked (entry : Entry) (start : Pass) (origin : T) (client : Sitting T) (cred : Cred)
+  pub record HasAsked (newest : Version) (start : Pass) (origin : T) (client : Sitting T) (cred : Cred)
       (request : Request) (text : List ℕ) (size : ℕ) (before : Timed Pass) : Type 0 where
     pub sent : List ℕ
     pub wrote : Appends (outgoing origin) (outgoing client.connection) sent
     pub later : List ℕ
     pub settled : Timed Pass
     pub lapsed : LapsesTo zero_moment settled before
-    pub asking : StandsAsking entry.newest (means entry) SLOTS cred request text client.dialogue
+    pub asking : StandsAsking newest (means_for (callers origin)) SLOTS cred request text client.dialogue
         (begun_with start) settled (incoming origin) (prepend_known later (incoming client.connection)) sent
     pub frame : client.input ≡ request_encoding request text ++ later
     pub whole : size ≡ length (request_encoding request text)
     pub going : client.stopped ≡ None
-    pub known : IsKnown entry (incoming origin) client.dialogue.session.caller
+    pub same : callers client.connection ≡ callers origin
+    pub known : IsKnown newest (callers origin) (incoming origin) client.dialogue.session.caller
 
 -- ---- steps within an event
 

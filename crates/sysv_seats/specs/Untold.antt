@@ -14,6 +14,10 @@ pub record Closing (T B : Type 0) : Type 1 where
   pub said : T → Option Over
   pub leaves : B → Option (List ℕ) → Option (List ℕ) → B → Type 0
 
+-- The callers that a connection lets in.
+abbrev pub lets_in : {T B : Type 0} → Closing T B → T → Callers
+lets_in closes connection = (closes.breaks connection).callers
+
 -- A connection that does not tell its bytes.
 abbrev pub untold : {T : Type 0} → T → Option (List ℕ)
 untold connection = None

@@ -7,7 +7,8 @@ ghost use Rattle.sysv_session.specs.Input.{hello_encoding};
 ghost use Rattle.sysv_session.specs.TakenUp.{TakesUp};
 ghost use Rattle.sysv_wire.specs.Requests.{FitsAsk, op_of, request_encoding};
 ghost use Rattle.sysv_seats.specs.Breaking.{MayBreak, MayEnd};
-ghost use Rattle.sysv_seats.specs.Callers.{Entry, entry_for, includes};
+ghost use Rattle.sysv_seats.specs.Callers.{includes};
+ghost use Rattle.sysv_seats.specs.Untold.{lets_in};
 ghost use Rattle.sysv_seats.specs.Limits.{has_limit};
 ghost use Rattle.sysv_seats.specs.HandlesKept.{KeepsHandles};
 ghost use Rattle.sysv_seats.specs.Notification.{Keeps as KeepsNotification, notifications_of, told_of};
@@ -107,8 +108,8 @@ impl<T: NonBlocking> Client<T> {
     pub fn open(alloc: Global, connection: T, newest: Version) -> Client<T>
         ensures connection { result.connection ≡ connection }
         ensures sits { (pass : Pass) →
-            Sits T.incoming T.outgoing (entry_for newest (T.closes.breaks connection).callers) pass
-            connection result (begun_with pass) }
+            Sits T.incoming T.outgoing (lets_in T.closes) newest pass connection
+            result (begun_with pass) }
         ensures said { T.closes.said connection ≡ None → IsAsSaid T.closes result }
     {
         Client {
@@ -259,7 +260,7 @@ impl<T: NonBlocking> Client<T> {
     /// Learns that the peer has shut down its writing. A parked call is left, now or when it is
     /// parked, if the client may leave.
     pub fn leave(&mut self)
-        ensures keeps { Keeps T.incoming T.outgoing self.old self.new }
+        ensures keeps { Keeps T.incoming T.outgoing (lets_in T.closes) self.old self.new }
         ensures breaks { T.closes.breaks self.new.connection
             ≡ T.closes.breaks self.old.connection }
         ensures unparked { self.old.parked ≡ None → self.new.parked ≡ None }
@@ -272,7 +273,7 @@ impl<T: NonBlocking> Client<T> {
     /// Ends the client because of a limit, if it may be cut off under this one. A parked call is
     /// left, and the connection takes no more replies.
     pub fn cut(&mut self, limit: Limit)
-        ensures keeps { Keeps T.incoming T.outgoing self.old self.new }
+        ensures keeps { Keeps T.incoming T.outgoing (lets_in T.closes) self.old self.new }
         ensures broken { has_limit (T.closes.breaks self.old.connection).limits limit ≡ true
             → self.new.broken ≡ true }
         ensures stays { has_limit (T.closes.breaks self.old.connection).limits limit ≡ false
@@ -294,7 +295,7 @@ impl<T: NonBlocking> Client<T> {
     /// - Reading from the connection and writing to it may break off.
     pub fn cut_off(&mut self)
         requires { MayBreak (T.closes.breaks self.old.connection) }
-        ensures keeps { Keeps T.incoming T.outgoing self.old self.new }
+        ensures keeps { Keeps T.incoming T.outgoing (lets_in T.closes) self.old self.new }
         ensures broken { self.new.broken ≡ true }
         ensures breaks { T.closes.breaks self.new.connection
             ≡ T.closes.breaks self.old.connection }
@@ -307,7 +308,7 @@ impl<T: NonBlocking> Client<T> {
 
     /// Gives the connection as many bytes of the replies as it takes now.
     pub fn drain(&mut self)
-        ensures keeps { Keeps T.incoming T.outgoing self.old self.new }
+        ensures keeps { Keeps T.incoming T.outgoing (lets_in T.closes) self.old self.new }
         ensures broken { self.old.broken ≡ true → self.new ≡ self.old }
         ensures breaks { T.closes.breaks self.new.connection
             ≡ T.closes.breaks self.old.connection }
@@ -330,7 +331,7 @@ impl<T: NonBlocking> Client<T> {
     /// Takes up and answers what has arrived: a share of the requests that are there, or what one
     /// read returns.
     pub fn take_turn<R: Wait>(&mut self, handler: &mut Keeper<'_, Zero, R>, tools: &mut Tools)
-        ensures keeps { KeepsWith T.incoming T.outgoing self.old (holder_of handler.old)
+        ensures keeps { KeepsWith T.incoming T.outgoing (lets_in T.closes) self.old (holder_of handler.old)
             self.new (holder_of handler.new) }
         ensures handles { KeepsHandles handler.old.handler handler.new.handler }
         ensures breaks { T.closes.breaks self.new.connection
@@ -347,7 +348,7 @@ impl<T: NonBlocking> Client<T> {
 
     /// Looks whether the parked call may go on, and continues it if so.
     pub fn go_on<R: Wait>(&mut self, handler: &mut Keeper<'_, Zero, R>, tools: &mut Tools)
-        ensures keeps { KeepsWith T.incoming T.outgoing self.old (holder_of handler.old)
+        ensures keeps { KeepsWith T.incoming T.outgoing (lets_in T.closes) self.old (holder_of handler.old)
             self.new (holder_of handler.new) }
         ensures handles { KeepsHandles handler.old.handler handler.new.handler }
         ensures breaks { T.closes.breaks self.new.connection
@@ -380,9 +381,9 @@ impl<T: NonBlocking> Client<T> {
     /// If a read has said that the connection was reset or that it failed, the session ends for that
     /// reason, or with replies that were not taken.
     pub fn close(self, book: &mut T::Book) -> Served
-        ensures over { (entry : Entry) (start : Pass) (now : Timed Pass) (origin : T) →
-            Sits T.incoming T.outgoing entry start origin self now →
-            IsOver T.incoming T.outgoing T.closes entry start origin result now book.old
+        ensures over { (newest : Known) (start : Pass) (now : Timed Pass) (origin : T) →
+            Sits T.incoming T.outgoing (lets_in T.closes) newest start origin self now →
+            IsOver T.incoming T.outgoing (lets_in T.closes) T.closes newest start origin result now book.old
             book.new }
         ensures cause { is_finished self ≡ true
             → MayEnd (T.closes.breaks self.connection) result.«end» }
@@ -411,7 +412,7 @@ impl<T: NonBlocking> Client<T> {
     /// Gives up the parked call, if there is one: it is left, and nothing more is taken up.
     fn give_up(&mut self)
         requires { (T.closes.breaks self.old.connection).writing ≡ true }
-        ensures keeps { Keeps T.incoming T.outgoing self.old self.new }
+        ensures keeps { Keeps T.incoming T.outgoing (lets_in T.closes) self.old self.new }
         ensures none { self.new.parked ≡ None }
         ensures same { (self.new.connection ≡ self.old.connection)
             × (self.new.dialogue ≡ self.old.dialogue) × (self.new.broken ≡ self.old.broken) }
@@ -427,7 +428,7 @@ impl<T: NonBlocking> Client<T> {
 
     /// Gives up the parked call if the peer has shut down its writing, and the client may leave.
     fn heed_leave(&mut self)
-        ensures keeps { Keeps T.incoming T.outgoing self.old self.new }
+        ensures keeps { Keeps T.incoming T.outgoing (lets_in T.closes) self.old self.new }
         ensures breaks { T.closes.breaks self.new.connection
             ≡ T.closes.breaks self.old.connection }
         ensures unparked { self.old.parked ≡ None → self.new.parked ≡ None }
@@ -451,7 +452,7 @@ impl<T: NonBlocking> Client<T> {
     fn fail(&mut self)
         requires unsent { self.old.dialogue.unsent.bytes ≢ [] }
         requires writing { (T.closes.breaks self.old.connection).writing ≡ true }
-        ensures keeps { Keeps T.incoming T.outgoing self.old self.new }
+        ensures keeps { Keeps T.incoming T.outgoing (lets_in T.closes) self.old self.new }
         ensures broken { self.new.broken ≡ true }
         ensures breaks { T.closes.breaks self.new.connection
             ≡ T.closes.breaks self.old.connection }
@@ -477,7 +478,7 @@ impl<T: NonBlocking> Client<T> {
     /// Takes up a share of what has arrived, or what one read returns.
     fn take_some<R: Wait>(&mut self, handler: &mut Keeper<'_, Zero, R>, tools: &mut Tools)
         requires free { IsFree self.old }
-        ensures keeps { KeepsWith T.incoming T.outgoing self.old (holder_of handler.old)
+        ensures keeps { KeepsWith T.incoming T.outgoing (lets_in T.closes) self.old (holder_of handler.old)
             self.new (holder_of handler.new) }
         ensures handles { KeepsHandles handler.old.handler handler.new.handler }
         ensures breaks { T.closes.breaks self.new.connection
@@ -494,7 +495,7 @@ impl<T: NonBlocking> Client<T> {
     /// Reads once, and takes up what has arrived.
     fn fill<R: Wait>(&mut self, handler: &mut Keeper<'_, Zero, R>, tools: &mut Tools)
         requires free { IsFree self.old }
-        ensures keeps { KeepsWith T.incoming T.outgoing self.old (holder_of handler.old)
+        ensures keeps { KeepsWith T.incoming T.outgoing (lets_in T.closes) self.old (holder_of handler.old)
             self.new (holder_of handler.new) }
         ensures handles { KeepsHandles handler.old.handler handler.new.handler }
         ensures breaks { T.closes.breaks self.new.connection
@@ -534,7 +535,7 @@ impl<T: NonBlocking> Client<T> {
 
     /// Takes up a share of the requests in the input.
     fn take_share<R: Wait>(&mut self, handler: &mut Keeper<'_, Zero, R>, tools: &mut Tools)
-        ensures keeps { KeepsWith T.incoming T.outgoing self.old (holder_of handler.old)
+        ensures keeps { KeepsWith T.incoming T.outgoing (lets_in T.closes) self.old (holder_of handler.old)
             self.new (holder_of handler.new) }
         ensures handles { KeepsHandles handler.old.handler handler.new.handler }
         ensures breaks { T.closes.breaks self.new.connection
@@ -566,7 +567,7 @@ impl<T: NonBlocking> Client<T> {
     )
         requires free { IsFree self.old }
         requires end { is_end ≡ true → IsAtEnd (T.incoming self.old.connection) }
-        ensures keeps { KeepsWith T.incoming T.outgoing self.old (holder_of handler.old)
+        ensures keeps { KeepsWith T.incoming T.outgoing (lets_in T.closes) self.old (holder_of handler.old)
             self.new (holder_of handler.new) }
         ensures handles { KeepsHandles handler.old.handler handler.new.handler }
         ensures breaks { T.closes.breaks self.new.connection
@@ -609,7 +610,7 @@ impl<T: NonBlocking> Client<T> {
     fn lets_in(&self) -> bool
         ensures { (version : Known) (cred : Cred) (later : List ℕ) → FitsAsk (Ask.Hello cred) →
             self.now.input ≡ hello_encoding version cred ++ later →
-            result ≡ includes (T.closes.breaks self.now.connection).callers cred }
+            result ≡ includes (lets_in T.closes self.now.connection) cred }
     {
         let cred = hello_cred(&self.input[self.start..]);
         self.connection.callers().includes(cred)
@@ -669,10 +670,10 @@ impl<T: NonBlocking> Client<T> {
         requires asked { op_of request.ask ≢ Op.Hello }
         requires pending { IsPending self.old }
         requires frame { size ≤ length self.old.input }
-        ensures keeps { (late : List Answer) (entry : Entry) (start : Pass) (origin : T) →
-            HasAsked T.incoming T.outgoing entry start origin self.old cred request tools.old.text
+        ensures keeps { (late : List Answer) (newest : Known) (start : Pass) (origin : T) →
+            HasAsked T.incoming T.outgoing (lets_in T.closes) newest start origin self.old cred request tools.old.text
             size (timed (holder_of handler.old) late) →
-            Sits T.incoming T.outgoing entry start origin self.new
+            Sits T.incoming T.outgoing (lets_in T.closes) newest start origin self.new
             (timed (holder_of handler.new) late) }
         ensures handles { KeepsHandles handler.old.handler handler.new.handler }
         ensures breaks { T.closes.breaks self.new.connection
@@ -701,13 +702,13 @@ impl<T: NonBlocking> Client<T> {
         requires frame { size ≤ length self.old.input }
         requires answer { HoldProgress request.version request.ask progress tools.old.given }
         requires replied { IsReplied progress }
-        ensures keeps { (entry : Entry) (start : Pass) (before : Timed Pass) (now : Holder Pass)
+        ensures keeps { (newest : Known) (start : Pass) (before : Timed Pass) (now : Holder Pass)
             (origin : T) (text : List ℕ) →
-            HasAsked T.incoming T.outgoing entry start origin self.old cred request text size
+            HasAsked T.incoming T.outgoing (lets_in T.closes) newest start origin self.old cred request text size
             before →
             HoldBegun zero_moment request.version cred request.ask text before.holder progress
             tools.old.given now →
-            Sits T.incoming T.outgoing entry start origin self.new (timed now before.late) }
+            Sits T.incoming T.outgoing (lets_in T.closes) newest start origin self.new (timed now before.late) }
         ensures notifications { KeepsNotification (notifications_of (told_of made.now progress))
             tools.old tools.new }
         ensures breaks { T.closes.breaks self.new.connection

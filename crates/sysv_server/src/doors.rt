@@ -13,6 +13,7 @@ use sysv_system::{EAGAIN, Several};
 ///
 /// If an accept at a socket fails and is not tried again, only that socket is closed, unless it is the
 /// last one that is open.
+#[derive(Drop)]
 pub struct Doors<'h, L, H> {
     sockets: Vec<L>,
     /// The number of the socket at which the next accept is tried first.
@@ -71,6 +72,18 @@ impl<'h, L: Listens, H: Host> Doors<'h, L, H> {
 }
 
 impl<L: Listens, H: Host> Listens for Doors<'_, L, H> {
+    ghost use Rattle.std.specs.Prelude.{None, ◌⊎◌, ⊤};
+    ghost use Rattle.std.specs.List.{list_any};
+    ghost use Rattle.sysv_server.specs.Doors.{OneCame};
+
+    ghost accepted = { λ _. None };
+
+    ghost listens = { λ doors. list_any L.listens doors.sockets.items };
+
+    ghost fails = { λ _ _ _. ⊤ };
+
+    ghost steps = { λ old step new. OneCame L.steps old.sockets.items step new.sockets.items };
+
     fn is_open(&self) -> bool {
         for socket in self.sockets.iter() {
             if socket.is_open() {
