@@ -1,8 +1,10 @@
 -- What the events of a client keep: how far its session is.
 use Rattle.std.proofs.Common.{◌≡◌, ◌≢◌, ◌≤◌, ◌<◌, ℕ, List, [], ◌∷◌, ◌++◌}
 use Rattle.std.proofs.Common.{length, take, Bool, Option, Result, Err}
-use Rattle.std.proofs.Common.{None, Some, refl, sym, ap, subst, subst₂, ◌∙◌, arith, inl, inr, append_assoc}
-use Rattle.std.specs.Prelude.{◌==◌, ◌||◌, ◌&&◌, ⊤, IfSome, true, false, is_some, unwrap_or}
+use Rattle.std.proofs.Common.{None, Some, refl, sym, ap, ap₂, subst, subst₂, ◌∙◌, arith, inl, inr, append_assoc}
+use Rattle.std.proofs.Common.{append-nil, drop, length-append}
+use Rattle.std.proofs.lemmas.List.{take-append-drop}
+use Rattle.std.specs.Prelude.{◌==◌, ◌||◌, ◌&&◌, ◌⊎◌, ⊤, IfSome, true, false, is_some, unwrap_or}
 use Rattle.std.specs.Io.KnownBytes.{Appends, Consumes, Keeps as KeepsBytes, prepend_known}
 use Rattle.std.proofs.lemmas.Bool.{ne_eqb}
 use Rattle.std.proofs.KnownBytes.{Appends-kept, Appends-nil, Appends-trans, Keeps-refl, prepend_known-nil}
@@ -17,7 +19,10 @@ use Rattle.sysv_session.specs.declared.handler.RequestOutcome.TheVariants.{Left 
 use Rattle.sysv_session.specs.declared.session.Session.{Session}
 use Rattle.sysv_session.specs.declared.session.TakenUp.{TakenUp}
 use Rattle.sysv_session.specs.Answers.{IsReplied}
+use Rattle.sysv_queue.specs.Tally.{Tallied}
 use Rattle.sysv_session.specs.Conversation.{HasRoom, Puts, Dialogue, report, reported, sent_on}
+use Rattle.sysv_session.specs.Failing.{is_reset}
+use Rattle.sysv_session.specs.Outbox.{Mark, at_end, beyond, more_written, passed}
 use Rattle.sysv_session.specs.Stands.{Stands, StandsAsking}
 use Rattle.sysv_session.specs.TakenUp.{EndsHere, TakesUp}
 use Rattle.sysv_session.proofs.GoesOn.{ends, leaves, opens, sends, sends_asking, sends_stopped}
@@ -29,10 +34,13 @@ use Rattle.sysv_wire.specs.declared.fault.Fault.TheVariants.{Truncated, TooLong,
 use Rattle.sysv_wire.specs.declared.frame.Version.{Version}
 use Rattle.sysv_seats.specs.declared.parked.Parked.{Parked}
 use Rattle.sysv_seats.specs.Breaking.{Breaks, HasCause, MayEnd}
-use Rattle.sysv_seats.specs.Held.{holds_with}
+use Rattle.sysv_seats.specs.declared.callers.Callers.{Callers}
+use Rattle.sysv_seats.specs.LettingIn.{EndsDenied}
 use Rattle.sysv_seats.specs.Holding.{Holder, Timed, begun_with, timed}
 use Rattle.sysv_seats.proofs.HeldPieces.{hold_left}
-use Rattle.sysv_seats.specs.Sits.{Arrives, HasFrame, HasStopped, IsAt, IsBehind, IsCounted, IsFree, IsOver}
+use Rattle.sysv_seats.proofs.LetIn.{known_cred}
+use Rattle.sysv_seats.specs.Sits.{Arrives, GathersDenial, HasDenied, HasFrame, HasStopped, IsAt, IsBehind}
+use Rattle.sysv_seats.specs.Sits.{IsCounted, IsFree, IsKnown, IsOver, means_for}
 use Rattle.sysv_seats.specs.Sits.{IsReady, end_at_close, is_finished, is_early}
 use Rattle.sysv_seats.specs.Sits.{Keeps, KeepsWith, Sits, Sitting, broken_off, broken_off_for, stopped_for, with_input}
 use Rattle.sysv_seats.specs.Sits.{zero_moment}
@@ -272,7 +280,7 @@ module _ {T : Type 0} (incoming outgoing : T → Option (List ℕ)) (callers : T
       s) free.0
       free.1 at
 
-  is_at : (newest : Version) (start : Pass) (origin : T) (client : Sitting T) (now : Timed Pass) (sent : List ℕ) →
+  pub is_at : (newest : Version) (start : Pass) (origin : T) (client : Sitting T) (now : Timed Pass) (sent : List ℕ) →
       IsFree client →
       IsReady incoming outgoing callers newest start origin client now sent →
       IsAt incoming outgoing callers newest start origin client now sent client.parked client.stopped
@@ -286,10 +294,31 @@ module _ {T : Type 0} (incoming outgoing : T → Option (List ℕ)) (callers : T
       IsAt incoming outgoing callers newest start origin client now sent client.parked (Some why)
   is_stopped newest start origin client now sent why none stopped =
       subst (λ (p : Option Parked). IsAt incoming outgoing callers newest start origin client now sent p (Some why))
-      (sym none) stopped
+      (sym none) (inl stopped)
+
+  -- A client whose hello was denied, with the same dialogue, whose connection has as much to be read.
+  denied_same : (newest : Version) (start : Pass) (origin : T) (client new : Sitting T) (now : Timed Pass)
+      (sent : List ℕ) (why : End) → incoming new.connection ≡ incoming client.connection →
+      new.dialogue ≡ client.dialogue → HasDenied incoming outgoing callers newest start origin client now sent why →
+      HasDenied incoming outgoing callers newest start origin new now sent why
+  denied_same newest start origin client new now sent why same dialogue at = record {
+    version = at.version;
+    cred = at.cred;
+    known = at.known;
+    other = at.other;
+    rest = at.rest;
+    reads = at.reads;
+    behind = subst (IsBehind at.rest) (sym same) at.behind;
+    handler = at.handler;
+    gathered = subst (λ (d : Dialogue). GathersDenial at.version why (sent ++ d.unsent.bytes)) (sym dialogue)
+        at.gathered;
+    marks = ap (λ (d : Dialogue). d.unsent.marks) dialogue ∙ at.marks;
+    tallies = ap (λ (d : Dialogue). d.session.tally) dialogue ∙ at.tallies;
+    counts = ap (λ (d : Dialogue). d.session.requests) dialogue ∙ at.counts;
+  }
 
   -- The connection cannot be read.
-  read_at : (newest : Version) (start : Pass) (origin : T) (client : Sitting T) (now : Timed Pass) (sent : List ℕ) →
+  pub read_at : (newest : Version) (start : Pass) (origin : T) (client : Sitting T) (now : Timed Pass) (sent : List ℕ) →
       IsReady incoming outgoing callers newest start origin client now sent →
       HasStopped incoming outgoing callers newest start origin client now sent (Fault Read)
   read_at newest start origin client now sent ready = (
@@ -299,6 +328,7 @@ module _ {T : Type 0} (incoming outgoing : T → Option (List ℕ)) (callers : T
     ready.1,
     stops_read newest (means_for (callers origin)) SLOTS client.dialogue (begun_with start) ready.0 (incoming origin)
         (prepend_known client.input (incoming client.connection)) sent ready.2,
+    ready.3,
   )
 
   pub stops_reading : (client : Sitting T) → IsFree client →
@@ -306,6 +336,7 @@ module _ {T : Type 0} (incoming outgoing : T → Option (List ℕ)) (callers : T
   stops_reading client free = λ here late newest start origin sits. let now : Timed Pass = timed here late in record {
     sent = sits.sent;
     wrote = sits.wrote;
+    same = sits.same;
     at = is_stopped newest start origin (stopped_for (Fault Read) client) now sits.sent (Fault Read) free.0
         (read_at newest start origin client now sits.sent (is_ready newest start origin client now sits.sent free
         sits.at));
@@ -322,6 +353,7 @@ module _ {T : Type 0} (incoming outgoing : T → Option (List ℕ)) (callers : T
     ready.1,
     stops_reset newest (means_for (callers origin)) SLOTS client.dialogue (begun_with start) ready.0 (incoming origin)
         (prepend_known client.input (incoming client.connection)) sent ready.2,
+    ready.3,
   )
 
   pub stops_resetting : (client : Sitting T) → IsFree client →
@@ -329,6 +361,7 @@ module _ {T : Type 0} (incoming outgoing : T → Option (List ℕ)) (callers : T
   stops_resetting client free = λ here late newest start origin sits. let now : Timed Pass = timed here late in record {
     sent = sits.sent;
     wrote = sits.wrote;
+    same = sits.same;
     at = is_stopped newest start origin (stopped_for Reset client) now sits.sent Reset free.0
         (reset_at newest start origin client now sits.sent (is_ready newest start origin client now sits.sent free
         sits.at));
@@ -341,6 +374,7 @@ module _ {T : Type 0} (incoming outgoing : T → Option (List ℕ)) (callers : T
       let now : Timed Pass = timed here late in record {
         sent = sits.sent;
         wrote = sits.wrote;
+        same = sits.same;
         at = let ready = is_ready newest start origin client now sits.sent free sits.at in
             is_stopped newest start origin (stopped_for Write client) now sits.sent Write free.0 (
               prepend_known client.input (incoming client.connection),
@@ -350,6 +384,7 @@ module _ {T : Type 0} (incoming outgoing : T → Option (List ℕ)) (callers : T
               stops_write newest (means_for (callers origin)) SLOTS client.dialogue (begun_with start) ready.0
                   (incoming origin) (prepend_known client.input (incoming client.connection)) sits.sent
                   (some_bytes client.dialogue.unsent.bytes some) ready.2,
+              ready.3,
             );
       }
 
@@ -357,12 +392,13 @@ module _ {T : Type 0} (incoming outgoing : T → Option (List ℕ)) (callers : T
   arrives_more : (client : Sitting T) (connection : T) (bytes : List ℕ) → IsFree client →
       Consumes (incoming client.connection) (incoming connection) bytes →
       (incoming client.connection ≡ None → incoming connection ≡ None) →
-      outgoing connection ≡ outgoing client.connection →
+      (outgoing connection ≡ outgoing client.connection) × (callers connection ≡ callers client.connection) →
       Keeps incoming outgoing callers client (with_input (client.input ++ bytes) (on connection client))
   arrives_more client connection bytes free took none same = λ here late newest start origin sits.
       let now : Timed Pass = timed here late in record {
         sent = sits.sent;
-        wrote = subst (λ (o : Option (List ℕ)). Appends (outgoing origin) o sits.sent) (sym same) sits.wrote;
+        wrote = subst (λ (o : Option (List ℕ)). Appends (outgoing origin) o sits.sent) (sym same.0) sits.wrote;
+        same = same.1 ∙ sits.same;
         at = let ready = is_ready newest start origin client now sits.sent free sits.at in
             is_at newest start origin (with_input (client.input ++ bytes) (on connection client)) now sits.sent free (
               ready.0,
@@ -370,18 +406,20 @@ module _ {T : Type 0} (incoming outgoing : T → Option (List ℕ)) (callers : T
               subst (λ (o : Option (List ℕ)). Stands newest (means_for (callers origin)) SLOTS client.dialogue
                   (begun_with start) ready.0 (incoming origin) o sits.sent)
                   (same_unread client.input bytes (incoming client.connection) (incoming connection) took none) ready.2,
+              ready.3,
             );
       }
 
   -- Bytes were read, and memory for them was refused.
   arrives_not : (client : Sitting T) (connection : T) (bytes : List ℕ) → IsFree client →
       Consumes (incoming client.connection) (incoming connection) bytes →
-      outgoing connection ≡ outgoing client.connection →
+      (outgoing connection ≡ outgoing client.connection) × (callers connection ≡ callers client.connection) →
       Keeps incoming outgoing callers client (stopped_for NoMemory (on connection client))
   arrives_not client connection bytes free took same = λ here late newest start origin sits.
       let now : Timed Pass = timed here late in record {
         sent = sits.sent;
-        wrote = subst (λ (o : Option (List ℕ)). Appends (outgoing origin) o sits.sent) (sym same) sits.wrote;
+        wrote = subst (λ (o : Option (List ℕ)). Appends (outgoing origin) o sits.sent) (sym same.0) sits.wrote;
+        same = same.1 ∙ sits.same;
         at = let ready = is_ready newest start origin client now sits.sent free sits.at in
             is_stopped newest start origin (stopped_for NoMemory (on connection client)) now sits.sent NoMemory free.0 (
               prepend_known client.input (incoming client.connection),
@@ -390,6 +428,7 @@ module _ {T : Type 0} (incoming outgoing : T → Option (List ℕ)) (callers : T
               ready.1,
               stops_memory newest (means_for (callers origin)) SLOTS client.dialogue (begun_with start) ready.0
                   (incoming origin) (prepend_known client.input (incoming client.connection)) sits.sent ready.2,
+              ready.3,
             );
       }
 
@@ -397,7 +436,7 @@ module _ {T : Type 0} (incoming outgoing : T → Option (List ℕ)) (callers : T
   pub arrives : (client new : Sitting T) (connection : T) (bytes : List ℕ) → IsFree client →
       Consumes (incoming client.connection) (incoming connection) bytes →
       (incoming client.connection ≡ None → incoming connection ≡ None) →
-      outgoing connection ≡ outgoing client.connection → Arrives bytes (on connection client) new →
+      (outgoing connection ≡ outgoing client.connection) × (callers connection ≡ callers client.connection) → Arrives bytes (on connection client) new →
       Keeps incoming outgoing callers client new
   arrives client new connection bytes free took none same (inl is) =
       subst (Keeps incoming outgoing callers client) (sym is) (arrives_more client connection bytes free took none same)
@@ -421,14 +460,18 @@ module _ {T : Type 0} (incoming outgoing : T → Option (List ℕ)) (callers : T
     size = at.size;
     waits = at.waits;
     late = at.late;
+    known = at.known;
   }
-  broken_at newest start origin client now sent None (Some why) at = at
+  broken_at newest start origin client now sent None (Some why) (inl at) = inl at
+  broken_at newest start origin client now sent None (Some why) (inr at) =
+      inr (denied_same newest start origin client (broken_off client) now sent why refl refl at)
   broken_at newest start origin client now sent (Some parked) (Some why) at = absurd at
 
   breaks : (client : Sitting T) → Keeps incoming outgoing callers client (broken_off client)
   breaks client = λ here late newest start origin sits. let now : Timed Pass = timed here late in record {
     sent = sits.sent;
     wrote = sits.wrote;
+    same = sits.same;
     at = broken_at newest start origin client now sits.sent client.parked client.stopped sits.at;
   }
 
@@ -482,7 +525,7 @@ module _ {T : Type 0} (incoming outgoing : T → Option (List ℕ)) (callers : T
   -- ---- any client
 
   -- The call is left.
-  left_at : (newest : Version) (start : Pass) (origin : T) (client : Sitting T) (input : List ℕ) (now : Timed Pass)
+  pub left_at : (newest : Version) (start : Pass) (origin : T) (client : Sitting T) (input : List ℕ) (now : Timed Pass)
       (sent : List ℕ)
       (parked : Parked) (stopped : Option End) →
       IsAt incoming outgoing callers newest start origin client now sent (Some parked) stopped →
@@ -497,7 +540,12 @@ module _ {T : Type 0} (incoming outgoing : T → Option (List ℕ)) (callers : T
         leaves newest (means_for (callers origin)) SLOTS parked.cred parked.request waits.text [] client.dialogue
             (begun_with start) waits.settled now (incoming origin)
             (prepend_known waits.later (incoming client.connection)) sent waits.asking
-            (waits.before, waits.lapsed, told, waits.late) refl,
+            (
+              known_cred newest (callers origin) (incoming origin) client.dialogue.session.caller
+                  waits.asking.asking.version parked.cred waits.asking.asking.caller waits.known,
+              (waits.before, waits.lapsed, told, waits.late),
+            ) refl,
+        waits.known,
       )
   left_at newest start origin client input now sent parked (Some why) none = absurd none
 
@@ -507,10 +555,11 @@ module _ {T : Type 0} (incoming outgoing : T → Option (List ℕ)) (callers : T
       let now : Timed Pass = timed here late in record {
         sent = sits.sent;
         wrote = sits.wrote;
-        at = left_at newest start origin client input now sits.sent parked client.stopped
+        same = sits.same;
+        at = inl (left_at newest start origin client input now sits.sent parked client.stopped
             (subst (λ (p : Option Parked). IsAt incoming outgoing callers newest start origin client now sits.sent p
             client.stopped) is
-            sits.at);
+            sits.at));
       }
 
   -- The connection took or gave nothing.
@@ -524,6 +573,7 @@ module _ {T : Type 0} (incoming outgoing : T → Option (List ℕ)) (callers : T
     at.1,
     subst (λ (o : Option (List ℕ)). Stands newest (means_for (callers origin)) SLOTS client.dialogue (begun_with start)
         at.0 (incoming origin) (prepend_known client.input o) sent) (sym same) at.2,
+    at.3,
   )
   turned_at newest start origin client connection now sent (Some parked) None same at = record {
     text = at.text;
@@ -539,12 +589,15 @@ module _ {T : Type 0} (incoming outgoing : T → Option (List ℕ)) (callers : T
     size = at.size;
     waits = at.waits;
     late = at.late;
+    known = at.known;
   }
-  turned_at newest start origin client connection now sent None (Some why) same at =
-      (at.0, subst (λ (o : Option (List ℕ)). IsBehind at.0 o) (sym same) at.1, at.2, at.3, at.4)
+  turned_at newest start origin client connection now sent None (Some why) same (inl at) =
+      inl (at.0, subst (λ (o : Option (List ℕ)). IsBehind at.0 o) (sym same) at.1, at.2, at.3, at.4, at.5)
+  turned_at newest start origin client connection now sent None (Some why) same (inr at) =
+      inr (denied_same newest start origin client (on connection client) now sent why same refl at)
   turned_at newest start origin client connection now sent (Some parked) (Some why) same at = absurd at
 
-  pub turned : (client : Sitting T) (connection : T) → incoming connection ≡ incoming client.connection →
+  pub turned : (client : Sitting T) (connection : T) → (incoming connection ≡ incoming client.connection) × (callers connection ≡ callers client.connection) →
       KeepsBytes (outgoing client.connection) (outgoing connection) →
       Keeps incoming outgoing callers client (on connection client)
   turned client connection same kept = λ here late newest start origin sits.
@@ -552,24 +605,25 @@ module _ {T : Type 0} (incoming outgoing : T → Option (List ℕ)) (callers : T
         sent = sits.sent;
         wrote =
             Appends-kept (outgoing origin) (outgoing client.connection) (outgoing connection) sits.sent sits.wrote kept;
-        at = turned_at newest start origin client connection now sits.sent client.parked client.stopped same sits.at;
+        same = same.1 ∙ sits.same;
+        at = turned_at newest start origin client connection now sits.sent client.parked client.stopped same.0 sits.at;
       }
 
   -- A read returned nothing.
   pub unread_still : (client : Sitting T) (connection : T) →
       KeepsBytes (incoming client.connection) (incoming connection) →
       (incoming client.connection ≡ None → incoming connection ≡ None) →
-      outgoing connection ≡ outgoing client.connection → Keeps incoming outgoing callers client (on connection client)
+      (outgoing connection ≡ outgoing client.connection) × (callers connection ≡ callers client.connection) → Keeps incoming outgoing callers client (on connection client)
   unread_still client connection kept none same =
-      turned client connection (none_read (incoming client.connection) (incoming connection) kept none)
-      (subst (λ (o : Option (List ℕ)). KeepsBytes (outgoing client.connection) o) (sym same)
+      turned client connection (none_read (incoming client.connection) (incoming connection) kept none, same.1)
+      (subst (λ (o : Option (List ℕ)). KeepsBytes (outgoing client.connection) o) (sym same.0)
       (Keeps-refl (outgoing client.connection)))
 
   -- One read, and then what is taken up.
   pub filled : (old client mid new : Sitting T) (connection : T) (bytes : List ℕ) (before after : Holder Pass) →
       client ≡ old → IsFree old → Consumes (incoming client.connection) (incoming connection) bytes →
       (incoming client.connection ≡ None → incoming connection ≡ None) →
-      outgoing connection ≡ outgoing client.connection → Arrives bytes (on connection client) mid →
+      (outgoing connection ≡ outgoing client.connection) × (callers connection ≡ callers client.connection) → Arrives bytes (on connection client) mid →
       KeepsWith incoming outgoing callers mid before new after → KeepsWith incoming outgoing callers old before new after
   filled old client mid new connection bytes before after view free took none same arrived taken =
       keeps_with_from old client before new after view
@@ -580,7 +634,7 @@ module _ {T : Type 0} (incoming outgoing : T → Option (List ℕ)) (callers : T
   pub filled_last : (old client new : Sitting T) (connection : T) (before after : Holder Pass) → client ≡ old →
       KeepsBytes (incoming client.connection) (incoming connection) →
       (incoming client.connection ≡ None → incoming connection ≡ None) →
-      outgoing connection ≡ outgoing client.connection →
+      (outgoing connection ≡ outgoing client.connection) × (callers connection ≡ callers client.connection) →
       KeepsWith incoming outgoing callers (on connection client) before new after →
       KeepsWith incoming outgoing callers old before new after
   filled_last old client new connection before after view kept none same taken =
@@ -591,7 +645,7 @@ module _ {T : Type 0} (incoming outgoing : T → Option (List ℕ)) (callers : T
   pub filled_none : (old client : Sitting T) (connection : T) (now : Holder Pass) → client ≡ old →
       KeepsBytes (incoming client.connection) (incoming connection) →
       (incoming client.connection ≡ None → incoming connection ≡ None) →
-      outgoing connection ≡ outgoing client.connection →
+      (outgoing connection ≡ outgoing client.connection) × (callers connection ≡ callers client.connection) →
       KeepsWith incoming outgoing callers old now (on connection client) now
   filled_none old client connection now view kept none same =
       keeps_with_from old client now (on connection client) now view
@@ -601,7 +655,7 @@ module _ {T : Type 0} (incoming outgoing : T → Option (List ℕ)) (callers : T
       (old client new : Sitting T) (connection : T) (now : Holder Pass) → client ≡ old → IsFree old →
       KeepsBytes (incoming client.connection) (incoming connection) →
       (incoming client.connection ≡ None → incoming connection ≡ None) →
-      outgoing connection ≡ outgoing client.connection → new ≡ stopped_for why (on connection client) →
+      (outgoing connection ≡ outgoing client.connection) × (callers connection ≡ callers client.connection) → new ≡ stopped_for why (on connection client) →
       KeepsWith incoming outgoing callers old now new now
   filled_not why stops old client new connection now view free kept none same is =
       keeps_with_from old client now new now view
@@ -628,6 +682,31 @@ module _ {T : Type 0} (incoming outgoing : T → Option (List ℕ)) (callers : T
     broken = client.broken;
   }
 
+  -- A client whose hello was denied, once the connection took n bytes of the answer.
+  denied_sent : (newest : Version) (start : Pass) (origin : T) (client : Sitting T) (connection : T) (n : ℕ)
+      (now : Timed Pass) (sent : List ℕ) (why : End) → incoming connection ≡ incoming client.connection →
+      HasDenied incoming outgoing callers newest start origin client now sent why →
+      HasDenied incoming outgoing callers newest start origin (with_sent connection n client) now
+      (sent ++ take n client.dialogue.unsent.bytes) why
+  denied_sent newest start origin client connection n now sent why same at =
+      let bytes = client.dialogue.unsent.bytes in
+      record {
+        version = at.version;
+        cred = at.cred;
+        known = at.known;
+        other = at.other;
+        rest = at.rest;
+        reads = at.reads;
+        behind = subst (IsBehind at.rest) (sym same) at.behind;
+        handler = at.handler;
+        gathered = subst (GathersDenial at.version why)
+            (sym (append_assoc sent (take n bytes) (drop n bytes)
+            ∙ ap (λ (l : List ℕ). sent ++ l) (take-append-drop n bytes))) at.gathered;
+        marks = ap (beyond n) at.marks;
+        tallies = ap₂ (λ (m : List Mark) (t : Tallied). more_written (passed n m) t) at.marks at.tallies;
+        counts = at.counts;
+      }
+
   drained_at : (newest : Version) (start : Pass) (origin : T) (client : Sitting T) (connection : T) (n : ℕ)
       (now : Timed Pass) (sent : List ℕ)
       (parked : Option Parked) (stopped : Option End) → n ≤ length client.dialogue.unsent.bytes →
@@ -642,6 +721,7 @@ module _ {T : Type 0} (incoming outgoing : T → Option (List ℕ)) (callers : T
         (incoming origin) (prepend_known client.input (incoming connection)) sent fits refl
         (subst (λ (o : Option (List ℕ)). Stands newest (means_for (callers origin)) SLOTS client.dialogue
         (begun_with start) at.0 (incoming origin) (prepend_known client.input o) sent) (sym same) at.2),
+    at.3,
   )
   drained_at newest start origin client connection n now sent (Some parked) None fits same at = record {
     text = at.text;
@@ -662,19 +742,23 @@ module _ {T : Type 0} (incoming outgoing : T → Option (List ℕ)) (callers : T
     size = at.size;
     waits = at.waits;
     late = at.late;
+    known = at.known;
   }
-  drained_at newest start origin client connection n now sent None (Some why) fits same at = (
+  drained_at newest start origin client connection n now sent None (Some why) fits same (inr at) =
+      inr (denied_sent newest start origin client connection n now sent why same at)
+  drained_at newest start origin client connection n now sent None (Some why) fits same (inl at) = inl (
     at.0,
     subst (λ (o : Option (List ℕ)). IsBehind at.0 o) (sym same) at.1,
     at.2,
     at.3,
     sends_stopped newest (means_for (callers origin)) SLOTS why n client.dialogue (sent_on n client.dialogue)
         (begun_with start) at.2 (incoming origin) at.0 sent fits refl at.4,
+    at.5,
   )
   drained_at newest start origin client connection n now sent (Some parked) (Some why) fits same at = absurd at
 
   pub drained : (client : Sitting T) (connection : T) (n : ℕ) → n ≤ length client.dialogue.unsent.bytes →
-      incoming connection ≡ incoming client.connection →
+      (incoming connection ≡ incoming client.connection) × (callers connection ≡ callers client.connection) →
       Appends (outgoing client.connection) (outgoing connection) (take n client.dialogue.unsent.bytes) →
       Keeps incoming outgoing callers client (with_sent connection n client)
   drained client connection n fits same wrote = λ here late newest start origin sits.
@@ -682,8 +766,9 @@ module _ {T : Type 0} (incoming outgoing : T → Option (List ℕ)) (callers : T
         sent = sits.sent ++ take n client.dialogue.unsent.bytes;
         wrote = Appends-trans (outgoing origin) (outgoing client.connection) (outgoing connection) sits.sent
             (take n client.dialogue.unsent.bytes) sits.wrote wrote;
-        at = drained_at newest start origin client connection n now sits.sent client.parked client.stopped fits same
-            sits.at;
+        same = same.1 ∙ sits.same;
+        at = drained_at newest start origin client connection n now sits.sent client.parked client.stopped fits
+            same.0 sits.at;
       }
 
   abbrev pub with_dialogue : T → Dialogue → Sitting T → Sitting T
@@ -698,7 +783,7 @@ module _ {T : Type 0} (incoming outgoing : T → Option (List ℕ)) (callers : T
 
   pub took : (client : Sitting T) (connection : T) (dialogue : Dialogue) (n : ℕ) (bytes : List ℕ) →
       bytes ≡ client.dialogue.unsent.bytes → dialogue ≡ sent_on n client.dialogue →
-      incoming connection ≡ incoming client.connection →
+      (incoming connection ≡ incoming client.connection) × (callers connection ≡ callers client.connection) →
       DrainAppends (outgoing client.connection) (outgoing connection) (Took n) bytes →
       Keeps incoming outgoing callers client (with_dialogue connection dialogue client)
   took client connection dialogue n bytes all is same appends =
@@ -706,73 +791,3 @@ module _ {T : Type 0} (incoming outgoing : T → Option (List ℕ)) (callers : T
       (ap (λ (t : Dialogue). with_dialogue connection t client) is)
       (drained client connection n (subst (λ (l : List ℕ). n ≤ length l) all appends.1.0) same
       (subst (λ (l : List ℕ). Appends (outgoing client.connection) (outgoing connection) (take n l)) all appends.2))
-
-  -- ---- the first and the last event
-
-  -- A new client.
-  pub opened : (client : Sitting T) (newest : Version) (pass : Pass) → client.dialogue.session.newest ≡ newest →
-      client.dialogue.session.caller ≡ None →
-      client.dialogue.session.tally ≡ record { written = 0; lost = 0 } → client.dialogue.session.requests ≡ 0 →
-      client.dialogue.unsent ≡ record { bytes = []; marks = [] } → client.input ≡ [] → IsFree client →
-      Sits incoming outgoing callers newest pass client.connection client (begun_with pass)
-  opened client newest pass limit caller tally requests unsent none free = record {
-    sent = [];
-    wrote = Appends-nil (outgoing client.connection);
-    at = is_at newest pass client.connection client (begun_with pass) [] free (
-      begun_with pass,
-      ([], refl),
-      subst (λ (o : Option (List ℕ)). Stands newest (means_for (callers origin)) SLOTS client.dialogue
-          (begun_with pass) (begun_with pass) (incoming client.connection) o [])
-          (sym (ap (λ (l : List ℕ). prepend_known l (incoming client.connection)) none
-          ∙ prepend_known-nil (incoming client.connection)))
-          (opens newest (means_for (callers origin)) SLOTS client.dialogue (begun_with pass) (incoming client.connection)
-          limit caller tally requests unsent),
-    );
-  }
-
-  -- A client is closed. Its call is left, if one is parked.
-  closing_at : (newest : Version) (start : Pass) (origin : T) (client : Sitting T) (now : Timed Pass) (sent : List ℕ)
-      (parked : Option Parked) (stopped : Option End) →
-      IsAt incoming outgoing callers newest start origin client now sent parked stopped →
-      HasStopped incoming outgoing callers newest start origin client now sent (end_at_close parked stopped)
-  closing_at newest start origin client now sent None None at = read_at newest start origin client now sent at
-  closing_at newest start origin client now sent None (Some why) at = at
-  closing_at newest start origin client now sent (Some parked) None at =
-      left_at newest start origin client client.input now sent parked None at
-  closing_at newest start origin client now sent (Some parked) (Some why) at = absurd at
-
-  closed : {B : Type 0} (closes : Closing T B) (newest : Version) (start : Pass) (origin : T) (client : Sitting T)
-      (now : Timed Pass)
-      (book book' : B) → Sits incoming outgoing callers newest start origin client now →
-      closes.leaves book (incoming client.connection) (outgoing client.connection) book' →
-      IsOver incoming outgoing callers closes newest start origin
-      (report (end_at_close client.parked client.stopped) client.dialogue) now book book'
-  closed closes newest start origin client now book book' sits done =
-      let why = end_at_close client.parked client.stopped in
-      let stopped = closing_at newest start origin client now sits.sent client.parked client.stopped sits.at in
-      record {
-        rest = stopped.0;
-        kept = incoming client.connection;
-        more = outgoing client.connection;
-        serves = (
-          stopped.2,
-          ends newest (means_for (callers origin)) SLOTS why client.dialogue (begun_with start) stopped.2
-              (incoming origin) stopped.0 (outgoing origin) (outgoing client.connection) sits.sent stopped.4 sits.wrote,
-          stopped.3,
-        );
-        behind = stopped.1;
-        closed = done;
-      }
-
-  pub closed_over : {B : Type 0} (closes : Closing T B) (old client : Sitting T) (why : End) (served : Served)
-      (book book' : B) → client ≡ old → why ≡ end_at_close client.parked client.stopped →
-      served ≡ report why client.dialogue →
-      closes.leaves book (incoming client.connection) (outgoing client.connection) book' →
-      (newest : Version) (start : Pass) (now : Timed Pass) (origin : T) →
-      Sits incoming outgoing callers newest start origin old now →
-      IsOver incoming outgoing callers closes newest start origin served now book book'
-  closed_over closes old client why served book book' same reason is done newest start now origin sits =
-      let here = subst (λ (c : Sitting T). Sits incoming outgoing callers newest start origin c now) (sym same) sits in
-      subst (λ (s : Served). IsOver incoming outgoing callers closes newest start origin s now book book')
-      (sym (is ∙ ap (λ (w : End). report w client.dialogue) reason))
-      (closed closes newest start origin client now book book' here done)

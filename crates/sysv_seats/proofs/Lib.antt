@@ -2,7 +2,9 @@ pub mod Sessions
 pub mod PieceAnswers
 pub mod SendFrame
 pub mod HeldPieces
+pub mod LetIn
 pub mod ClientLemmas
+pub mod ClientEnds
 pub mod ClientSteps
 pub mod Said
 pub mod Returns
