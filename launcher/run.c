@@ -26,7 +26,8 @@ enum {
     BY_SIGNAL = 128,      /* and the number of the signal that ended a process */
     APART_MS = 200,       /* signals that are closer together are one */
     LAST_LINES_MS = 1000, /* how long the last lines may wait for room on standard error */
-    PARENT_END = SIGUSR1  /* reports that a thread of the parent ended, with --with */
+    PARENT_END = SIGUSR1, /* reports that a thread of the parent ended, with --with */
+    MOST_OTHERS = 64      /* sockets of --as */
 };
 
 /* A file that the server made. */
@@ -44,7 +45,9 @@ struct run {
     int server_status;
     int status; /* of the command, once it has ended, and else -1 */
     int input;  /* of the server, which shuts down once it is closed */
+    bool is_serving;
     struct made socket, stats;
+    struct made others[MOST_OTHERS]; /* the sockets of --as */
     int stopped_by;  /* the signal that ended the run, or 0 */
     long ends_since; /* in milliseconds, once `input` is closed */
     bool is_killed;
@@ -179,8 +182,11 @@ static void keep(struct made *made)
 /* The server listens now. */
 static void take_serving(struct run *run)
 {
+    run->is_serving = true;
     keep(&run->socket);
     keep(&run->stats);
+    for (size_t i = 0; i < MOST_OTHERS; i++)
+        keep(&run->others[i]);
     if (run->stopped_by != 0)
         return;
     notify("READY=1");
@@ -200,7 +206,7 @@ static void take_lines(struct run *run)
 {
     enum line line;
     while ((line = relay_front(&run->relay)) != NO_LINE) {
-        if (line == SERVING_LINE && run->socket.file < 0)
+        if (line == SERVING_LINE && !run->is_serving)
             take_serving(run);
         if (run->request->command && line != OTHER_LINE)
             relay_drop(&run->relay);
@@ -268,6 +274,25 @@ static const char *value_of(char **options, const char *name)
     if (!rest)
         return NULL;
     return *rest == '=' ? rest + 1 : options[1];
+}
+
+/* Notes the sockets of --as, each of which is what comes before the last = of its value. */
+static void note_others(struct run *run)
+{
+    char **word = run->request->options;
+    for (size_t i = 0; i < MOST_OTHERS; i++)
+        run->others[i] = (struct made){NULL, -1};
+    const char *rest;
+    for (size_t i = 0; i < MOST_OTHERS && (rest = find_option(&word, "--as")); i++) {
+        const char *value = *rest == '=' ? rest + 1 : *++word;
+        const char *end = value ? strrchr(value, '=') : NULL;
+        if (!end)
+            return;
+        run->others[i].path = strndup(value, (size_t)(end - value));
+        if (!run->others[i].path)
+            fail(NOT_STARTED, "strndup");
+        word++;
+    }
 }
 
 /* The words of the server's command line. */
@@ -393,6 +418,7 @@ int run(const struct request *request)
         .stats = {value_of(request->options, "--stats"), -1},
         .status = -1,
     };
+    note_others(&state);
     begin_signals(&state);
     if (request->command) {
         watch_parent(&state);
@@ -405,5 +431,7 @@ int run(const struct request *request)
         step(&state);
     remove_made(&state.socket);
     remove_made(&state.stats);
+    for (size_t i = 0; i < MOST_OTHERS; i++)
+        remove_made(&state.others[i]);
     return ended(&state);
 }

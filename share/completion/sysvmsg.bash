@@ -2,7 +2,7 @@
 # PATH, complete to file names.
 
 # The options of a server with which sysvmsg-serve can be called too.
-_sysvmsg_server="--mode --replace --blocks --workers --at-once --sessions --idle --stall --drain --hold --stats"
+_sysvmsg_server="--mode --replace --as --no-main --blocks --workers --at-once --sessions --idle --stall --drain --hold --stats"
 
 _sysvmsg_commands="serve snd rcv ipcs ipcrm ipcmk stats script"
 

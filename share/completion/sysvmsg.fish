@@ -50,6 +50,8 @@ complete $clients -l pid -x -d "The caller's process ID"
 function __sysvmsg_complete_server
     complete $argv -l mode -x -d 'The mode of the socket'
     complete $argv -l replace -d 'Remove PATH first if no server listens there'
+    complete $argv -l as -r -d 'Create one more socket, for one user'
+    complete $argv -l no-main -d 'Create only the sockets of --as'
     complete $argv -l blocks -x -d 'The number of 64-byte blocks, 128 to 65536'
     complete $argv -l workers -x -d 'The number of threads, 1 to 16'
     complete $argv -l at-once -x -d 'The maximum number of sessions at once, 1 to 16384'

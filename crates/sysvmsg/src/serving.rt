@@ -145,7 +145,7 @@ impl<R: Eprint> Reporter<'_, R> {
         let path = socket.file.path;
         if let Callers::Only { uid, gid } = socket.callers {
             if takes_line() {
-                let _ = eprintln!(*self.rt; "sysvmsg: {path} is for user {uid} with group {gid}");
+                let _ = eprintln!(*self.rt; "sysvmsg: serving {path} for user {uid} with group {gid}");
             }
         }
     }
