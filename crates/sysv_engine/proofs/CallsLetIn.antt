@@ -157,16 +157,16 @@ module _ (callers : Callers) where
       ours (inl refused) = same_held before after refused.0 ours
   hold_asks may may_leave version cred (ask.Hold id size mtype flags seconds) text before outcome given after included
       ours (inr (inl (can, why, asked, is, held, none))) = record {
-    grows = grants cred id before.at (Err why) after.at included asked;
-    ours = subst IsOurs (sym held) ours;
-  }
+        grows = grants cred id before.at (Err why) after.at included asked;
+        ours = subst IsOurs (sym held) ours;
+      }
   hold_asks may may_leave version cred (ask.Hold id size mtype flags seconds) text before outcome given after included
       ours (inr (inr (can, came, granted, asked, receives, is, held))) = record {
-    grows = onward before.at granted after.at (grants cred id before.at (Ok tt) granted included asked)
-        (asks may may_leave version cred (ask.Rcv id size mtype flags) text granted came given after.at included
-        receives);
-    ours = subst IsOurs (sym held) (held_ours cred id seconds came given included);
-  }
+        grows = onward before.at granted after.at (grants cred id before.at (Ok tt) granted included asked)
+            (asks may may_leave version cred (ask.Rcv id size mtype flags) text granted came given after.at included
+            receives);
+        ours = subst IsOurs (sym held) (held_ours cred id seconds came given included);
+      }
   hold_asks may may_leave version cred ask.Done text before outcome given after included ours asked = record {
     grows = same before.at after.at (ap (λ (h : Holder Log). h.at) asked.0);
     ours = subst IsOurs (sym (ap (λ (h : Holder Log). h.message) asked.0)) tt;
@@ -175,9 +175,9 @@ module _ (callers : Callers) where
       same_held before after refused.1 ours
   hold_asks may may_leave version cred ask.Back text before outcome given after included ours
       (inr (message, is, came, sends, told, held, none)) = record {
-    grows = sends_again may may_leave message before.at came after.at (subst IsOurs is ours) sends;
-    ours = subst IsOurs (sym held) (kept_ours before.message came ours);
-  }
+        grows = sends_again may may_leave message before.at came after.at (subst IsOurs is ours) sends;
+        ours = subst IsOurs (sym held) (kept_ours before.message came ours);
+      }
   hold_asks may may_leave version cred a text before outcome given after included ours asked = record {
     grows = asks may may_leave version cred a text before.at outcome given after.at included asked.0;
     ours = subst IsOurs (sym asked.1) ours;

@@ -539,8 +539,7 @@ module _ {T : Type 0} (incoming outgoing : T → Option (List ℕ)) (callers : T
         ([], refl),
         leaves newest (means_for (callers origin)) SLOTS parked.cred parked.request waits.text [] client.dialogue
             (begun_with start) waits.settled now (incoming origin)
-            (prepend_known waits.later (incoming client.connection)) sent waits.asking
-            (
+            (prepend_known waits.later (incoming client.connection)) sent waits.asking (
               known_cred newest (callers origin) (incoming origin) client.dialogue.session.caller
                   waits.asking.asking.version parked.cred waits.asking.asking.caller waits.known,
               (waits.before, waits.lapsed, told, waits.late),

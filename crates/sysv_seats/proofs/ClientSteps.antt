@@ -842,9 +842,11 @@ module _ {T : Type 0} (incoming outgoing : T → Option (List ℕ)) (callers : T
         Sits incoming outgoing callers newest start origin last now
     answered_as version last true settled lapsed stands included answers =
         greeted version last settled lapsed stands
-        (subst (IsKnown newest (callers origin) (incoming origin)) (sym stands.greets.caller)
-        (included, stands.greets.known,
-        (prepend_known (drop size new.input) (incoming new.connection), stands.greets.reads))) answers
+        (subst (IsKnown newest (callers origin) (incoming origin)) (sym stands.greets.caller) (
+          included,
+          stands.greets.known,
+          (prepend_known (drop size new.input) (incoming new.connection), stands.greets.reads),
+        )) answers
     answered_as version last false settled lapsed stands included answers =
         denied version last settled lapsed stands included answers
 

@@ -640,7 +640,7 @@ impl<T: NonBlocking> Client<T> {
         let outcome = refusal(version, Op::Hello, Errno::EPERM);
         match self.conversation.put(version, outcome, &tools.given) {
             Ok(()) => self.stop(End::NoHello),
-            Err(why) => self.stop(why),
+            Err(_refused) => self.stop(End::NoMemory),
         }
     }
 

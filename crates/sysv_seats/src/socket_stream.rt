@@ -33,11 +33,7 @@ impl SocketStream {
     /// # Errors
     ///
     /// - The system's error if the stream cannot be made non-blocking. The stream is closed.
-    pub fn new(
-        stream: UnixStream,
-        limits: Limits,
-        callers: Callers,
-    ) -> io::Result<SocketStream>
+    pub fn new(stream: UnixStream, limits: Limits, callers: Callers) -> io::Result<SocketStream>
         ensures { IfOk result (λ socket. socket ≡ record {
           stream = stream;
           over = None;

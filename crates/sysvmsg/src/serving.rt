@@ -24,8 +24,8 @@ use sysv_connect::{FAULT, complain};
 use sysv_model::BLOCK_BYTES;
 use sysv_options::Serving;
 use sysv_server::{
-    Callers, Doors, Ended, Fates, Host, Hosted, Input, Listens, MAX_CLIENTS, Notice, Reading, Reason,
-    ServeFault, Sums, Terms, serve_from,
+    Callers, Doors, Ended, Fates, Host, Hosted, Input, Listens, MAX_CLIENTS, Notice, Reading,
+    Reason, ServeFault, Sums, Terms, serve_from,
 };
 use sysv_system::{Event, Watched, await_event};
 
@@ -145,7 +145,9 @@ impl<R: Eprint> Reporter<'_, R> {
         let path = socket.file.path;
         if let Callers::Only { uid, gid } = socket.callers {
             if takes_line() {
-                let _ = eprintln!(*self.rt; "sysvmsg: serving {path} for user {uid} with group {gid}");
+                let _ = eprintln!(*self.rt;
+                    "sysvmsg: serving {path} for user {uid} with group {gid}"
+                );
             }
         }
     }

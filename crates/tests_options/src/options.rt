@@ -6,8 +6,8 @@ use sysv_clients::{Form, Receipt, Target, Task};
 use sysv_connect::{How, Looking, Telling};
 use sysv_model::Cred;
 use sysv_options::{
-    Asked, Entrances, NoWords, Process, Serving, SocketFile, Surroundings, Who, credentials, no_text,
-    read_words, surroundings, telling,
+    Asked, Entrances, NoWords, Process, Serving, SocketFile, Surroundings, Who, credentials,
+    no_text, read_words, surroundings, telling,
 };
 use sysv_server::{MAX_CLIENTS, Patience, Terms};
 

@@ -1,14 +1,16 @@
 -- What was taken up is answered, or ends the session.
 use Rattle.std.proofs.Common.{◌≡◌, ◌∙◌, ℕ, List, ap, inl, subst, sym, false}
+use Rattle.std.specs.Prelude.{MatchBool}
 use Rattle.std.proofs.lemmas.List.{drop-drop}
 use Rattle.sysv_session.specs.declared.served.End.{End}
 use Rattle.sysv_session.specs.declared.session.TakenUp.TheVariants.{Hello, Request as Asked}
 use Rattle.sysv_seats.specs.Held.{holder_of}
 use Rattle.sysv_seats.specs.Holding.{timed}
-use Rattle.sysv_seats.specs.Sits.{GreetsAs, HasAsked, IsPending, ReadsNext, Sitting, is_early}
+use Rattle.sysv_seats.specs.Callers.{includes}
+use Rattle.sysv_seats.specs.Sits.{Denies, GreetsAs, HasAsked, IsPending, ReadsNext, Sitting, is_early}
 use Rattle.sysv_seats.proofs.ClientSteps.{asks_next, greets_next, ok_of, one_end, settled_late, stops_next}
 use Rattle.sysv_seats.proofs.ClientLemmas.{taken_cause}
-use Rattle.sysv_seats.proofs.Said.{said_greeted, said_read, said_stops, taken_no_reset}
+use Rattle.sysv_seats.proofs.Said.{said_answered, said_read, said_stops, taken_no_reset}
 use Rattle.sysv_seats.specs.Untold.{lets_in}
 use Rattle.sysv_seats.proofs.client.Client.take_up.Goals as goal
 
@@ -29,7 +31,7 @@ returns-in-Ok-Hello-clause-keeps g c = λ late newest start origin sits.
     let is = ok_of c.read_next-size.result.1 c.in-Ok-Hello.field-0 (Hello c.in-Ok-Hello.version) c.in-Ok-Hello.is
     (rw c.in-Ok-Hello.is at c.in-Ok-Hello.field-0-is) in
     let last = c.answer_hello.new.self in
-    let seat (l : List ℕ) : S = record {
+    let seat : List ℕ → S = λ l. record {
       connection = c.self.inside.connection;
       dialogue = c.self.inside.conversation;
       input = l;
@@ -43,7 +45,11 @@ returns-in-Ok-Hello-clause-keeps g c = λ late newest start origin sits.
     c.answer_hello.ensures.answers in
     greets_next t.incoming t.outgoing (lets_in t.closes) newest start (timed (holder_of c.args.handler.now) late) origin
     c.args.self.now _ c.read_next-size.result.0 c.read_next-size.result.1 c.read_next-size.new.text c.requires.free
-    reads sits c.in-Ok-Hello.version last c.lets_in-is_let_in.result is ? answers
+    reads sits c.in-Ok-Hello.version last c.lets_in-is_let_in.result is
+    (λ cred later fits encoded.
+    c.lets_in-is_let_in.ensures c.in-Ok-Hello.version cred later fits
+    (ap (λ (s : S). s.input) c.read_next-size.ensures.takes.same ∙ encoded)
+    ∙ ap (λ (s : S). includes (lets_in t.closes s.connection) cred) c.read_next-size.ensures.takes.same) answers
 
 pub returns-in-Ok-Request-clause-keeps : goal.returns-in-Ok-Request-clause-keeps
 returns-in-Ok-Request-clause-keeps g c = λ late newest start origin sits.
@@ -90,8 +96,8 @@ returns-in-Ok-Hello-clause-said g c = λ has.
     let same = c.self.view_is ∙ c.read_next-size.ensures.takes.same in
     let going = ap (λ (s : S). s.stopped) same ∙ c.requires.free.1 in
     let read = said_read t.closes c.args.self.now _ c.read_next-size.new.self.dialogue same has in
-    said_greeted t.closes _ c.greet.new.self c.in-Ok-Hello.version going c.greet.ensures.greets
-    (record { stops = read.stops })
+    said_answered t.closes _ c.answer_hello.new.self c.in-Ok-Hello.version c.lets_in-is_let_in.result going
+    c.answer_hello.ensures.answers (record { stops = read.stops })
 
 pub returns-in-Ok-Request-clause-said : goal.returns-in-Ok-Request-clause-said
 returns-in-Ok-Request-clause-said g c = λ has.
