@@ -1,6 +1,7 @@
 -- Each call of a session that is let in is made with the credentials of a caller who is let in: what makes a call with
 -- the credentials of the session, and what sends again a message that the session held.
-use Rattle.std.proofs.Common.{◌≡◌, ◌∙◌, ℕ, ℤ, List, [], ◌∷◌, ◌++◌, Option, None, Some, Result, true, refl, sym, ap, subst}
+use Rattle.std.proofs.Common.{◌≡◌, ◌∙◌, ℕ, ℤ, List, [], ◌∷◌, ◌++◌, Option, None, Some, Result, true, refl, sym, ap}
+use Rattle.std.proofs.Common.{subst}
 use Rattle.std.proofs.Common.{inl, inr, append-nil, append_assoc}
 use Rattle.std.specs.Prelude.{⊤, Ok, Err}
 use Rattle.std.specs.List.{AllByRecursion, FoldsTo, concat}

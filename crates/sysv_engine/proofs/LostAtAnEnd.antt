@@ -132,7 +132,8 @@ shift_loses : (newest : Version) (before : Pass) (dialogues : List Dialogue) (af
     FoldsTo (Converses newest) before dialogues after → AllByRecursion LosesNone (reports_of dialogues)
 shift_loses newest before [] after folds = tt
 shift_loses newest before (dialogue ∷ dialogues) after folds = (
-  dialogue_loses newest dialogue.callers dialogue.told before folds.1.0 dialogue.left dialogue.rest dialogue.taken dialogue.more
+  dialogue_loses newest dialogue.callers dialogue.told before folds.1.0 dialogue.left dialogue.rest dialogue.taken
+      dialogue.more
       folds.1.1.0,
   shift_loses newest folds.0 dialogues after folds.2,
 )

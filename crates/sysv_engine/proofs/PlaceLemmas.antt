@@ -106,7 +106,8 @@ module _ {T B C : Type 0} (incoming outgoing : T → Option (List ℕ)) (closes 
     pub rest : Option (List ℕ)
     pub kept : Option (List ℕ)
     pub more : Option (List ℕ)
-    pub dialogues : ConversesAs newest (lets_in closes connection) start told (incoming connection) rest (outgoing connection) more after
+    pub dialogues : ConversesAs newest (lets_in closes connection) start told (incoming connection) rest (outgoing
+        connection) more after
     pub behind : IsBehind rest kept
     pub closed : closes.leaves book kept more book'
     pub caused : MayTell (closes.breaks connection) told
@@ -531,15 +532,18 @@ module _ {T B : Type 0} (incoming outgoing : T → Option (List ℕ)) (closes : 
   -- A client without a parked call is one of the same session after that.
   lapsed : (newest : Version) (start : Pass) (origin : T) (client : Sitting T) (left : Timed Pass)
       (outcome : RequestOutcome) (next : Timed Pass) → client.parked ≡ None → Lapses zero_moment left outcome next →
-      Sits incoming outgoing (lets_in closes) newest start origin client left → Sits incoming outgoing (lets_in closes) newest start origin client next
+      Sits incoming outgoing (lets_in closes) newest start origin client left → Sits incoming outgoing (lets_in closes)
+      newest start origin client next
   lapsed newest start origin client left outcome next none lapse sits = record {
     sent = sits.sent;
     wrote = sits.wrote;
     same = sits.same;
-    at = subst (λ (p : Option Parked). IsAt incoming outgoing (lets_in closes) newest start origin client next sits.sent p
+    at = subst (λ (p : Option Parked). IsAt incoming outgoing (lets_in closes) newest start origin client next sits.sent
+        p
         client.stopped) (sym none)
         (lapsed_at newest start origin client left outcome next sits.sent client.stopped lapse
-        (subst (λ (p : Option Parked). IsAt incoming outgoing (lets_in closes) newest start origin client left sits.sent p
+        (subst (λ (p : Option Parked). IsAt incoming outgoing (lets_in closes) newest start origin client left sits.sent
+        p
         client.stopped) none sits.at));
   }
 

@@ -109,7 +109,8 @@ EachSessionIsLetIn may may_leave = (newest : Version) (callers : Callers) (start
     (serves : ServesHolding newest may may_leave served old new left rest taken more) →
     IsLetIn newest callers (holds_with may may_leave) served (begun_with old) serves.0 left rest taken more serves.1 →
     (calls : List Called) × Works start (made ++ calls) new.holder.at
-    × ServesLogFor newest callers may may_leave served (log old made) (timed_in (made ++ calls) new) left rest taken more
+    × ServesLogFor newest callers may may_leave served (log old made) (timed_in (made ++ calls) new) left rest taken
+    more
     × AllByRecursion (λ (call : Called). Rests call.state) calls
 
 -- So does what gives back the message that a session held at its end.

@@ -1,5 +1,6 @@
 -- The first and the last event of a client.
-use Rattle.std.proofs.Common.{◌≡◌, ◌≢◌, ◌∙◌, ℕ, List, [], ◌∷◌, ◌++◌, length, Option, None, Some, true, false, refl, sym, ap}
+use Rattle.std.proofs.Common.{◌≡◌, ◌≢◌, ◌∙◌, ℕ, List, [], ◌∷◌, ◌++◌, length, Option, None, Some, true, false, refl}
+use Rattle.std.proofs.Common.{sym, ap}
 use Rattle.std.proofs.Common.{ap₂, subst, arith, inl, inr, append-nil, length-append, Bool}
 use Rattle.std.specs.Prelude.{◌⊎◌}
 use Rattle.std.specs.Io.KnownBytes.{Appends, prepend_known}
@@ -33,14 +34,8 @@ use Rattle.sysv_seats.proofs.LetIn.{lets}
 ends_denied : (version : Version) (why : End) (sent bytes : List ℕ) → GathersDenial version why (sent ++ bytes) →
     EndsDenied version (reported why bytes) sent
 ends_denied version NoHello sent [] gathers = sym (append-nil sent) ∙ gathers
-ends_denied version NoHello sent (byte ∷ bytes) gathers = (
-  (byte ∷ bytes, sym gathers),
-  λ whole. absurd (omega (
-    arith,
-    ap (length {A = ℕ}) (gathers ∙ sym whole),
-    length-append sent (byte ∷ bytes),
-  )),
-)
+ends_denied version NoHello sent (byte ∷ bytes) gathers =
+    (byte ∷ bytes, gathers, λ none. absurd (omega (arith, ap (length {A = ℕ}) none)))
 ends_denied version NoMemory sent [] gathers = sym (append-nil sent) ∙ gathers
 ends_denied version NoMemory sent (byte ∷ bytes) gathers =
     absurd (omega (arith, ap (length {A = ℕ}) gathers, length-append sent (byte ∷ bytes)))
@@ -83,7 +78,8 @@ module _ {T : Type 0} (incoming outgoing : T → Option (List ℕ)) (callers : T
       IsAt incoming outgoing callers newest start origin client now sent parked stopped →
       HasStopped incoming outgoing callers newest start origin client now sent (end_at_close parked stopped)
       ⊎ HasDenied incoming outgoing callers newest start origin client now sent (end_at_close parked stopped)
-  closing_at newest start origin client now sent None None at = inl (read_at incoming outgoing callers newest start origin client now sent at)
+  closing_at newest start origin client now sent None None at = inl (read_at incoming outgoing callers newest start
+      origin client now sent at)
   closing_at newest start origin client now sent None (Some why) at = at
   closing_at newest start origin client now sent (Some parked) None at =
       inl (left_at incoming outgoing callers newest start origin client client.input now sent parked None at)

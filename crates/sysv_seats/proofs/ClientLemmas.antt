@@ -245,7 +245,8 @@ module _ {T : Type 0} (incoming outgoing : T → Option (List ℕ)) (callers : T
   -- One event after another.
   pub keeps_on : (old : Sitting T) (before : Holder Pass) (mid : Sitting T) (between : Holder Pass)
       (new : Sitting T) (after : Holder Pass) →
-      KeepsWith incoming outgoing callers old before mid between → KeepsWith incoming outgoing callers mid between new after →
+      KeepsWith incoming outgoing callers old before mid between → KeepsWith incoming outgoing callers mid between new
+      after →
       KeepsWith incoming outgoing callers old before new after
   keeps_on old before mid between new after first second =
       λ late newest start origin sits. second late newest start origin (first late newest start origin sits)
@@ -257,7 +258,8 @@ module _ {T : Type 0} (incoming outgoing : T → Option (List ℕ)) (callers : T
 
   pub keeps_with_from : (old client : Sitting T) (before : Holder Pass) (new : Sitting T) (after : Holder Pass) →
       client ≡ old →
-      KeepsWith incoming outgoing callers client before new after → KeepsWith incoming outgoing callers old before new after
+      KeepsWith incoming outgoing callers client before new after → KeepsWith incoming outgoing callers old before new
+      after
   keeps_with_from old client before new after is keeps =
       subst (λ (c : Sitting T). KeepsWith incoming outgoing callers c before new after) is keeps
 
@@ -265,7 +267,8 @@ module _ {T : Type 0} (incoming outgoing : T → Option (List ℕ)) (callers : T
       Keeps incoming outgoing callers old last
   keeps_to old new last is keeps = subst (Keeps incoming outgoing callers old) (sym is) keeps
 
-  pub keeps_then : (old mid new : Sitting T) → Keeps incoming outgoing callers old mid → Keeps incoming outgoing callers mid new →
+  pub keeps_then : (old mid new : Sitting T) → Keeps incoming outgoing callers old mid → Keeps incoming outgoing callers
+      mid new →
       Keeps incoming outgoing callers old new
   keeps_then old mid new first second = λ now. keeps_on old now mid now new now (first now) (second now)
 
@@ -276,7 +279,8 @@ module _ {T : Type 0} (incoming outgoing : T → Option (List ℕ)) (callers : T
       IsAt incoming outgoing callers newest start origin client now sent client.parked client.stopped →
       IsReady incoming outgoing callers newest start origin client now sent
   is_ready newest start origin client now sent free at =
-      subst₂ (λ (p : Option Parked) (s : Option End). IsAt incoming outgoing callers newest start origin client now sent p
+      subst₂ (λ (p : Option Parked) (s : Option End). IsAt incoming outgoing callers newest start origin client now sent
+      p
       s) free.0
       free.1 at
 
@@ -285,7 +289,8 @@ module _ {T : Type 0} (incoming outgoing : T → Option (List ℕ)) (callers : T
       IsReady incoming outgoing callers newest start origin client now sent →
       IsAt incoming outgoing callers newest start origin client now sent client.parked client.stopped
   is_at newest start origin client now sent free ready =
-      subst₂ (λ (p : Option Parked) (s : Option End). IsAt incoming outgoing callers newest start origin client now sent p s)
+      subst₂ (λ (p : Option Parked) (s : Option End). IsAt incoming outgoing callers newest start origin client now sent
+      p s)
       (sym free.0) (sym free.1) ready
 
   is_stopped : (newest : Version) (start : Pass) (origin : T) (client : Sitting T) (now : Timed Pass)
@@ -436,7 +441,8 @@ module _ {T : Type 0} (incoming outgoing : T → Option (List ℕ)) (callers : T
   pub arrives : (client new : Sitting T) (connection : T) (bytes : List ℕ) → IsFree client →
       Consumes (incoming client.connection) (incoming connection) bytes →
       (incoming client.connection ≡ None → incoming connection ≡ None) →
-      (outgoing connection ≡ outgoing client.connection) × (callers connection ≡ callers client.connection) → Arrives bytes (on connection client) new →
+      (outgoing connection ≡ outgoing client.connection) × (callers connection ≡ callers client.connection) → Arrives
+      bytes (on connection client) new →
       Keeps incoming outgoing callers client new
   arrives client new connection bytes free took none same (inl is) =
       subst (Keeps incoming outgoing callers client) (sym is) (arrives_more client connection bytes free took none same)
@@ -596,7 +602,8 @@ module _ {T : Type 0} (incoming outgoing : T → Option (List ℕ)) (callers : T
       inr (denied_same newest start origin client (on connection client) now sent why same refl at)
   turned_at newest start origin client connection now sent (Some parked) (Some why) same at = absurd at
 
-  pub turned : (client : Sitting T) (connection : T) → (incoming connection ≡ incoming client.connection) × (callers connection ≡ callers client.connection) →
+  pub turned : (client : Sitting T) (connection : T) → (incoming connection ≡ incoming client.connection) × (callers
+      connection ≡ callers client.connection) →
       KeepsBytes (outgoing client.connection) (outgoing connection) →
       Keeps incoming outgoing callers client (on connection client)
   turned client connection same kept = λ here late newest start origin sits.
@@ -612,7 +619,8 @@ module _ {T : Type 0} (incoming outgoing : T → Option (List ℕ)) (callers : T
   pub unread_still : (client : Sitting T) (connection : T) →
       KeepsBytes (incoming client.connection) (incoming connection) →
       (incoming client.connection ≡ None → incoming connection ≡ None) →
-      (outgoing connection ≡ outgoing client.connection) × (callers connection ≡ callers client.connection) → Keeps incoming outgoing callers client (on connection client)
+      (outgoing connection ≡ outgoing client.connection) × (callers connection ≡ callers client.connection) → Keeps
+      incoming outgoing callers client (on connection client)
   unread_still client connection kept none same =
       turned client connection (none_read (incoming client.connection) (incoming connection) kept none, same.1)
       (subst (λ (o : Option (List ℕ)). KeepsBytes (outgoing client.connection) o) (sym same.0)
@@ -622,8 +630,10 @@ module _ {T : Type 0} (incoming outgoing : T → Option (List ℕ)) (callers : T
   pub filled : (old client mid new : Sitting T) (connection : T) (bytes : List ℕ) (before after : Holder Pass) →
       client ≡ old → IsFree old → Consumes (incoming client.connection) (incoming connection) bytes →
       (incoming client.connection ≡ None → incoming connection ≡ None) →
-      (outgoing connection ≡ outgoing client.connection) × (callers connection ≡ callers client.connection) → Arrives bytes (on connection client) mid →
-      KeepsWith incoming outgoing callers mid before new after → KeepsWith incoming outgoing callers old before new after
+      (outgoing connection ≡ outgoing client.connection) × (callers connection ≡ callers client.connection) → Arrives
+      bytes (on connection client) mid →
+      KeepsWith incoming outgoing callers mid before new after → KeepsWith incoming outgoing callers old before new
+      after
   filled old client mid new connection bytes before after view free took none same arrived taken =
       keeps_with_from old client before new after view
       (keeps_on client before mid before new after
@@ -654,7 +664,8 @@ module _ {T : Type 0} (incoming outgoing : T → Option (List ℕ)) (callers : T
       (old client new : Sitting T) (connection : T) (now : Holder Pass) → client ≡ old → IsFree old →
       KeepsBytes (incoming client.connection) (incoming connection) →
       (incoming client.connection ≡ None → incoming connection ≡ None) →
-      (outgoing connection ≡ outgoing client.connection) × (callers connection ≡ callers client.connection) → new ≡ stopped_for why (on connection client) →
+      (outgoing connection ≡ outgoing client.connection) × (callers connection ≡ callers client.connection) → new ≡
+      stopped_for why (on connection client) →
       KeepsWith incoming outgoing callers old now new now
   filled_not why stops old client new connection now view free kept none same is =
       keeps_with_from old client now new now view
@@ -716,7 +727,8 @@ module _ {T : Type 0} (incoming outgoing : T → Option (List ℕ)) (callers : T
   drained_at newest start origin client connection n now sent None None fits same at = (
     at.0,
     at.1,
-    sends newest (means_for (callers origin)) SLOTS n client.dialogue (sent_on n client.dialogue) (begun_with start) at.0
+    sends newest (means_for (callers origin)) SLOTS n client.dialogue (sent_on n client.dialogue) (begun_with start)
+        at.0
         (incoming origin) (prepend_known client.input (incoming connection)) sent fits refl
         (subst (λ (o : Option (List ℕ)). Stands newest (means_for (callers origin)) SLOTS client.dialogue
         (begun_with start) at.0 (incoming origin) (prepend_known client.input o) sent) (sym same) at.2),
@@ -733,7 +745,8 @@ module _ {T : Type 0} (incoming outgoing : T → Option (List ℕ)) (callers : T
         (prepend_known at.later (incoming connection))
         sent
         fits refl
-        (subst (λ (o : Option (List ℕ)). StandsAsking newest (means_for (callers origin)) SLOTS parked.cred parked.request
+        (subst (λ (o : Option (List ℕ)). StandsAsking newest (means_for (callers origin)) SLOTS parked.cred
+        parked.request
         at.text client.dialogue (begun_with start) at.settled (incoming origin) (prepend_known at.later o) sent)
         (sym same)
         at.asking);

@@ -450,7 +450,8 @@ module _ {T : Type 0} (incoming outgoing : T → Option (List ℕ)) (callers : T
       client.stopped ≡ None → IsReady incoming outgoing callers newest start origin client now sent →
       IsAt incoming outgoing callers newest start origin client now sent client.parked client.stopped
   at_ready newest start origin client now sent parked stopped at =
-      subst₂ (λ (p : Option Parked) (s : Option End). IsAt incoming outgoing callers newest start origin client now sent p s)
+      subst₂ (λ (p : Option Parked) (s : Option End). IsAt incoming outgoing callers newest start origin client now sent
+      p s)
       (sym parked) (sym stopped) at
 
   at_stopped : (newest : Version) (start : Pass) (origin : T) (client : Sitting T) (now : Timed Pass)
@@ -459,7 +460,8 @@ module _ {T : Type 0} (incoming outgoing : T → Option (List ℕ)) (callers : T
       HasStopped incoming outgoing callers newest start origin client now sent why →
       IsAt incoming outgoing callers newest start origin client now sent client.parked client.stopped
   at_stopped newest start origin client now sent why parked stopped at =
-      subst₂ (λ (p : Option Parked) (s : Option End). IsAt incoming outgoing callers newest start origin client now sent p s)
+      subst₂ (λ (p : Option Parked) (s : Option End). IsAt incoming outgoing callers newest start origin client now sent
+      p s)
       (sym parked) (sym stopped) (inl at)
 
   at_denied : (newest : Version) (start : Pass) (origin : T) (client : Sitting T) (now : Timed Pass)
@@ -476,7 +478,8 @@ module _ {T : Type 0} (incoming outgoing : T → Option (List ℕ)) (callers : T
       IsWaiting incoming outgoing callers newest start origin client now sent parked →
       IsAt incoming outgoing callers newest start origin client now sent client.parked client.stopped
   at_waiting newest start origin client now sent parked parks stopped at =
-      subst₂ (λ (p : Option Parked) (s : Option End). IsAt incoming outgoing callers newest start origin client now sent p s)
+      subst₂ (λ (p : Option Parked) (s : Option End). IsAt incoming outgoing callers newest start origin client now sent
+      p s)
       (sym parks) (sym stopped) at
 
   -- ---- a request has an outcome, or waits
@@ -484,7 +487,8 @@ module _ {T : Type 0} (incoming outgoing : T → Option (List ℕ)) (callers : T
   module _ (newest : Version) (start : Pass) (before : Timed Pass) (now : Holder Pass) (origin : T)
       (old new : Sitting T)
       (cred : Cred) (request : Request)
-      (text : List ℕ) (size : ℕ) (asked : HasAsked incoming outgoing callers newest start origin old cred request text size
+      (text : List ℕ) (size : ℕ) (asked : HasAsked incoming outgoing callers newest start origin old cred request text
+      size
       before)
       (connection : new.connection ≡ old.connection) where
     wrote : Appends (outgoing origin) (outgoing new.connection) asked.sent
@@ -504,7 +508,8 @@ module _ {T : Type 0} (incoming outgoing : T → Option (List ℕ)) (callers : T
         (may : HoldProgress request.version request.ask came given) where
       means : means_for (callers origin) asked.settled cred request text outcome given (timed now before.late)
       means = (
-        known_cred newest (callers origin) (incoming origin) old.dialogue.session.caller asked.asking.asking.version cred
+        known_cred newest (callers origin) (incoming origin) old.dialogue.session.caller asked.asking.asking.version
+            cred
             asked.asking.asking.caller asked.known,
         (
           before,
@@ -552,7 +557,8 @@ module _ {T : Type 0} (incoming outgoing : T → Option (List ℕ)) (callers : T
           let after : Timed Pass = timed now before.late in
           let rest = prepend_known asked.later (incoming old.connection) in
           let stood =
-          put_ends newest (means_for (callers origin)) SLOTS cred request text outcome given old.dialogue (begun_with start) asked.settled
+          put_ends newest (means_for (callers origin)) SLOTS cred request text outcome given old.dialogue (begun_with
+          start) asked.settled
           after (incoming origin)
           rest asked.sent asked.asking means (answers request.version request.ask came given outcome is may) why
           new.dialogue put in
@@ -593,7 +599,8 @@ module _ {T : Type 0} (incoming outgoing : T → Option (List ℕ)) (callers : T
                 before = before;
                 lapsed = asked.lapsed;
                 later = asked.later;
-                asking = subst₂ (λ (k : Dialogue) (t : T). StandsAsking newest (means_for (callers origin)) SLOTS cred request text k
+                asking = subst₂ (λ (k : Dialogue) (t : T). StandsAsking newest (means_for (callers origin)) SLOTS cred
+                    request text k
                     (begun_with start) asked.settled
                     (incoming origin) (prepend_known asked.later (incoming t)) asked.sent) (sym dialogue)
                     (sym connection)
@@ -610,7 +617,8 @@ module _ {T : Type 0} (incoming outgoing : T → Option (List ℕ)) (callers : T
 
   parked_at : (newest : Version) (start : Pass) (origin : T) (client : Sitting T) (now : Timed Pass)
       (sent : List ℕ) (parked : Parked)
-      (stopped : Option End) → IsAt incoming outgoing callers newest start origin client now sent (Some parked) stopped →
+      (stopped : Option End) → IsAt incoming outgoing callers newest start origin client now sent (Some parked) stopped
+      →
       (stopped ≡ None) × IsWaiting incoming outgoing callers newest start origin client now sent parked
   parked_at newest start origin client now sent parked None at = (refl, at)
   parked_at newest start origin client now sent parked (Some why) at = absurd at
@@ -677,7 +685,8 @@ module _ {T : Type 0} (incoming outgoing : T → Option (List ℕ)) (callers : T
         reads.rest text
         (incoming old.connection) tt takes in
         let at = ready newest start origin old now free sits in
-        let stands = takes_request newest (means_for (callers origin)) SLOTS cred request old.dialogue new.dialogue (begun_with start)
+        let stands = takes_request newest (means_for (callers origin)) SLOTS cred request old.dialogue new.dialogue
+        (begun_with start)
         at.0 (incoming origin)
         (prepend_known old.input (incoming old.connection)) (prepend_known reads.rest (incoming old.connection))
         sits.sent text at.2 took_more reads.unsent in
@@ -688,7 +697,8 @@ module _ {T : Type 0} (incoming outgoing : T → Option (List ℕ)) (callers : T
           settled = at.0;
           lapsed = at.1;
           asking =
-              subst (λ (t : T). StandsAsking newest (means_for (callers origin)) SLOTS cred request text new.dialogue (begun_with start)
+              subst (λ (t : T). StandsAsking newest (means_for (callers origin)) SLOTS cred request text new.dialogue
+              (begun_with start)
               at.0 (incoming origin)
               (prepend_known reads.rest (incoming t)) sits.sent) (sym stays) stands;
           frame = ap (λ (s : Sitting T). s.input) reads.same ∙ takes.3.0;
@@ -707,7 +717,8 @@ module _ {T : Type 0} (incoming outgoing : T → Option (List ℕ)) (callers : T
         (incoming old.connection) settled (took (Err why) is) in
         let rest = prepend_known reads.rest (incoming old.connection) in
         let at = ready newest start origin old now free sits in
-        let stood = stops newest (means_for (callers origin)) SLOTS why old.dialogue new.dialogue (begun_with start) at.0 (incoming origin)
+        let stood = stops newest (means_for (callers origin)) SLOTS why old.dialogue new.dialogue (begun_with start)
+        at.0 (incoming origin)
         (prepend_known old.input (incoming old.connection)) rest sits.sent text at.2 took_more reads.unsent in
         let at_new : HasStopped incoming outgoing callers newest start origin (stopped_for why new) now sits.sent why = (
           rest,

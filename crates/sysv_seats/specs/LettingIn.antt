@@ -1,11 +1,10 @@
 -- Sessions on a connection that lets in some callers only (this project's profile). Each call of a session that is
 -- let in is made with the credentials of one of these callers. Any other hello is answered with EPERM, and that is all
 -- that its session does.
-use Rattle.std.specs.Prelude.{◌≡◌, ◌≢◌, ◌⊎◌, ⊤, ℕ, true, false, List, [], Option}
+use Rattle.std.specs.Prelude.{◌≡◌, ◌≢◌, ◌⊎◌, ⊤, ℕ, true, false, List, [], ◌++◌, Option}
 use Rattle.std.proofs.Common.{inl, inr}
 use Rattle.std.specs.Io.KnownBytes.{Appends, Consumes}
 use Rattle.sysv_keys.specs.declared.identifier.TheConstants.{SLOTS}
-use Rattle.sysv_lists.specs.Prefix.{IsPrefixOf}
 use Rattle.sysv_model.specs.declared.cred.Cred.{Cred}
 use Rattle.sysv_model.specs.declared.errno.Errno.TheVariants.{EPERM}
 use Rattle.sysv_session.specs.declared.served.End.{End}
@@ -40,8 +39,8 @@ denial_frame version = reply_encoding (denial version) []
 
 -- A session that reads versions up to the newest one, on a connection that lets in these callers.
 module _ (newest : Version) (callers : Callers) where
-  -- The session has no hello, or its hello states the credentials of a caller who is let in. All its calls are made with
-  -- these.
+  -- The session has no hello, or its hello states the credentials of a caller who is let in. All its calls are made
+  -- with these.
   abbrev pub IsLetIn : {K : Type 0} (Means : Meaning K) (served : Served) (old new : K)
       (left rest taken more : Option (List ℕ)) →
       ServesTogether newest Means SLOTS served old new left rest taken more → Type 0
@@ -52,14 +51,15 @@ module _ (newest : Version) (callers : Callers) where
   -- for this reason: all of them with `NoHello`, not all with `Write`, and none if memory was refused.
   abbrev pub EndsDenied : Version → End → List ℕ → Type 0
   EndsDenied version «end».NoHello sent = sent ≡ denial_frame version
-  EndsDenied version «end».Write sent = IsPrefixOf sent (denial_frame version) × (sent ≢ denial_frame version)
+  EndsDenied version «end».Write sent =
+      (later : List ℕ) × (sent ++ later ≡ denial_frame version) × (later ≢ [])
   EndsDenied version «end».NoMemory sent = sent ≡ []
   EndsDenied version why sent = ⊥
 
   -- The hello states the credentials of a caller who is not let in. No call was made, nothing more was read, and the
   -- hello was answered with EPERM, of which the connection took these bytes and no others.
-  pub record IsDenied {K : Type 0} (served : Served) (old : K) (new : Timed K) (left rest taken more : Option (List ℕ)) :
-      Type 0 where
+  pub record IsDenied {K : Type 0} (served : Served) (old : K) (new : Timed K)
+      (left rest taken more : Option (List ℕ)) : Type 0 where
     pub version : Version
     pub cred : Cred
     pub known : FitsHello newest version cred

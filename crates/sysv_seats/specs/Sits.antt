@@ -140,7 +140,8 @@ module _ {T : Type 0} (incoming outgoing : T → Option (List ℕ)) (callers : T
   HasStopped newest start origin client now sent why =
       (rest : Option (List ℕ)) × IsBehind rest (incoming client.connection)
       × (settled : Timed Pass) × LapsesTo zero_moment settled now
-      × Stopped newest (means_for (callers origin)) SLOTS why client.dialogue (begun_with start) settled (incoming origin)
+      × Stopped newest (means_for (callers origin)) SLOTS why client.dialogue (begun_with start) settled (incoming
+      origin)
       rest sent
       × IsKnown newest (callers origin) (incoming origin) client.dialogue.session.caller
 
@@ -290,8 +291,8 @@ module _ {T : Type 0} where
   GreetsAs version old new = (new ≡ conversing (gathered (with_frame (hello_frame version SLOTS)) old.dialogue) old)
       ⊎ (new ≡ stopped_for NoMemory old)
 
-  -- The answer to a hello of this version that is not let in was gathered, or memory for it was refused. Nothing more is
-  -- taken up.
+  -- The answer to a hello of this version that is not let in was gathered, or memory for it was refused. Nothing more
+  -- is taken up.
   abbrev pub Denies : Version → Sitting T → Sitting T → Type 0
   Denies version old new =
       (new ≡ stopped_for NoHello (conversing (gathered (with_frame (denial_frame version)) old.dialogue) old))

@@ -331,8 +331,8 @@ impl<T: NonBlocking> Client<T> {
     /// Takes up and answers what has arrived: a share of the requests that are there, or what one
     /// read returns.
     pub fn take_turn<R: Wait>(&mut self, handler: &mut Keeper<'_, Zero, R>, tools: &mut Tools)
-        ensures keeps { KeepsWith T.incoming T.outgoing (lets_in T.closes) self.old (holder_of handler.old)
-            self.new (holder_of handler.new) }
+        ensures keeps { KeepsWith T.incoming T.outgoing (lets_in T.closes) self.old
+            (holder_of handler.old) self.new (holder_of handler.new) }
         ensures handles { KeepsHandles handler.old.handler handler.new.handler }
         ensures breaks { T.closes.breaks self.new.connection
             ≡ T.closes.breaks self.old.connection }
@@ -348,8 +348,8 @@ impl<T: NonBlocking> Client<T> {
 
     /// Looks whether the parked call may go on, and continues it if so.
     pub fn go_on<R: Wait>(&mut self, handler: &mut Keeper<'_, Zero, R>, tools: &mut Tools)
-        ensures keeps { KeepsWith T.incoming T.outgoing (lets_in T.closes) self.old (holder_of handler.old)
-            self.new (holder_of handler.new) }
+        ensures keeps { KeepsWith T.incoming T.outgoing (lets_in T.closes) self.old
+            (holder_of handler.old) self.new (holder_of handler.new) }
         ensures handles { KeepsHandles handler.old.handler handler.new.handler }
         ensures breaks { T.closes.breaks self.new.connection
             ≡ T.closes.breaks self.old.connection }
@@ -383,8 +383,8 @@ impl<T: NonBlocking> Client<T> {
     pub fn close(self, book: &mut T::Book) -> Served
         ensures over { (newest : Known) (start : Pass) (now : Timed Pass) (origin : T) →
             Sits T.incoming T.outgoing (lets_in T.closes) newest start origin self now →
-            IsOver T.incoming T.outgoing (lets_in T.closes) T.closes newest start origin result now book.old
-            book.new }
+            IsOver T.incoming T.outgoing (lets_in T.closes) T.closes newest start origin result now
+            book.old book.new }
         ensures cause { is_finished self ≡ true
             → MayEnd (T.closes.breaks self.connection) result.«end» }
         ensures said { IsAsSaid T.closes self
@@ -478,8 +478,8 @@ impl<T: NonBlocking> Client<T> {
     /// Takes up a share of what has arrived, or what one read returns.
     fn take_some<R: Wait>(&mut self, handler: &mut Keeper<'_, Zero, R>, tools: &mut Tools)
         requires free { IsFree self.old }
-        ensures keeps { KeepsWith T.incoming T.outgoing (lets_in T.closes) self.old (holder_of handler.old)
-            self.new (holder_of handler.new) }
+        ensures keeps { KeepsWith T.incoming T.outgoing (lets_in T.closes) self.old
+            (holder_of handler.old) self.new (holder_of handler.new) }
         ensures handles { KeepsHandles handler.old.handler handler.new.handler }
         ensures breaks { T.closes.breaks self.new.connection
             ≡ T.closes.breaks self.old.connection }
@@ -495,8 +495,8 @@ impl<T: NonBlocking> Client<T> {
     /// Reads once, and takes up what has arrived.
     fn fill<R: Wait>(&mut self, handler: &mut Keeper<'_, Zero, R>, tools: &mut Tools)
         requires free { IsFree self.old }
-        ensures keeps { KeepsWith T.incoming T.outgoing (lets_in T.closes) self.old (holder_of handler.old)
-            self.new (holder_of handler.new) }
+        ensures keeps { KeepsWith T.incoming T.outgoing (lets_in T.closes) self.old
+            (holder_of handler.old) self.new (holder_of handler.new) }
         ensures handles { KeepsHandles handler.old.handler handler.new.handler }
         ensures breaks { T.closes.breaks self.new.connection
             ≡ T.closes.breaks self.old.connection }
@@ -535,8 +535,8 @@ impl<T: NonBlocking> Client<T> {
 
     /// Takes up a share of the requests in the input.
     fn take_share<R: Wait>(&mut self, handler: &mut Keeper<'_, Zero, R>, tools: &mut Tools)
-        ensures keeps { KeepsWith T.incoming T.outgoing (lets_in T.closes) self.old (holder_of handler.old)
-            self.new (holder_of handler.new) }
+        ensures keeps { KeepsWith T.incoming T.outgoing (lets_in T.closes) self.old
+            (holder_of handler.old) self.new (holder_of handler.new) }
         ensures handles { KeepsHandles handler.old.handler handler.new.handler }
         ensures breaks { T.closes.breaks self.new.connection
             ≡ T.closes.breaks self.old.connection }
@@ -567,8 +567,8 @@ impl<T: NonBlocking> Client<T> {
     )
         requires free { IsFree self.old }
         requires end { is_end ≡ true → IsAtEnd (T.incoming self.old.connection) }
-        ensures keeps { KeepsWith T.incoming T.outgoing (lets_in T.closes) self.old (holder_of handler.old)
-            self.new (holder_of handler.new) }
+        ensures keeps { KeepsWith T.incoming T.outgoing (lets_in T.closes) self.old
+            (holder_of handler.old) self.new (holder_of handler.new) }
         ensures handles { KeepsHandles handler.old.handler handler.new.handler }
         ensures breaks { T.closes.breaks self.new.connection
             ≡ T.closes.breaks self.old.connection }
@@ -671,8 +671,8 @@ impl<T: NonBlocking> Client<T> {
         requires pending { IsPending self.old }
         requires frame { size ≤ length self.old.input }
         ensures keeps { (late : List Answer) (newest : Known) (start : Pass) (origin : T) →
-            HasAsked T.incoming T.outgoing (lets_in T.closes) newest start origin self.old cred request tools.old.text
-            size (timed (holder_of handler.old) late) →
+            HasAsked T.incoming T.outgoing (lets_in T.closes) newest start origin self.old cred
+            request tools.old.text size (timed (holder_of handler.old) late) →
             Sits T.incoming T.outgoing (lets_in T.closes) newest start origin self.new
             (timed (holder_of handler.new) late) }
         ensures handles { KeepsHandles handler.old.handler handler.new.handler }
@@ -704,11 +704,12 @@ impl<T: NonBlocking> Client<T> {
         requires replied { IsReplied progress }
         ensures keeps { (newest : Known) (start : Pass) (before : Timed Pass) (now : Holder Pass)
             (origin : T) (text : List ℕ) →
-            HasAsked T.incoming T.outgoing (lets_in T.closes) newest start origin self.old cred request text size
-            before →
+            HasAsked T.incoming T.outgoing (lets_in T.closes) newest start origin self.old cred
+            request text size before →
             HoldBegun zero_moment request.version cred request.ask text before.holder progress
             tools.old.given now →
-            Sits T.incoming T.outgoing (lets_in T.closes) newest start origin self.new (timed now before.late) }
+            Sits T.incoming T.outgoing (lets_in T.closes) newest start origin self.new
+            (timed now before.late) }
         ensures notifications { KeepsNotification (notifications_of (told_of made.now progress))
             tools.old tools.new }
         ensures breaks { T.closes.breaks self.new.connection

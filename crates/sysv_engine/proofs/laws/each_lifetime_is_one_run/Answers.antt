@@ -19,4 +19,5 @@ returns-clause-none_held c =
 
 pub returns-clause-empty : goal.returns-clause-empty
 returns-clause-empty c =
-    each_empty c.each_session_makes_calls.ensures.callers c.each_return_makes_a_call.ensures c.every_stop_empties.ensures
+    each_empty c.each_session_makes_calls.ensures.callers c.each_return_makes_a_call.ensures
+    c.every_stop_empties.ensures

@@ -20,7 +20,8 @@ end-requires g c = record {
 
 pub returns-clause-over : goal.returns-clause-over
 returns-clause-over g c =
-    closed_over g.T.NonBlocking.incoming g.T.NonBlocking.outgoing (lets_in g.T.NonBlocking.closes) g.T.NonBlocking.closes _ _ _ _ _ _
+    closed_over g.T.NonBlocking.incoming g.T.NonBlocking.outgoing (lets_in g.T.NonBlocking.closes)
+    g.T.NonBlocking.closes _ _ _ _ _ _
     c.self.view_is c.closing_end.ensures c.end.ensures c.self.invariant.2.2 c.close.ensures
 
 pub returns-clause-cause : goal.returns-clause-cause

@@ -8,7 +8,8 @@ use Rattle.sysv_seats.proofs.client.Client.give_up.Goals as goal
 pub returns-clause-keeps : goal.returns-clause-keeps
 returns-clause-keeps g c =
     keeps_from g.T.NonBlocking.incoming g.T.NonBlocking.outgoing (lets_in g.T.NonBlocking.closes) _ _ _ c.self.view_is
-    (gives_up g.T.NonBlocking.incoming g.T.NonBlocking.outgoing (lets_in g.T.NonBlocking.closes) _ _ c.in-Some.parked c.in-Some.is)
+    (gives_up g.T.NonBlocking.incoming g.T.NonBlocking.outgoing (lets_in g.T.NonBlocking.closes) _ _ c.in-Some.parked
+    c.in-Some.is)
 
 pub returns-clause-said : goal.returns-clause-said
 returns-clause-said g c =

@@ -7,7 +7,8 @@ use Rattle.sysv_seats.proofs.client.Client.open.Goals as goal
 
 pub returns-clause-sits : goal.returns-clause-sits
 returns-clause-sits g c = λ pass.
-    opened g.T.NonBlocking.incoming g.T.NonBlocking.outgoing (lets_in g.T.NonBlocking.closes) _ c.args.newest pass c.open.ensures.newest
+    opened g.T.NonBlocking.incoming g.T.NonBlocking.outgoing (lets_in g.T.NonBlocking.closes) _ c.args.newest pass
+    c.open.ensures.newest
     c.open.ensures.caller c.open.ensures.tally c.open.ensures.count c.open.ensures.unsent c.new.ensures.items
     (refl, refl)
 

@@ -57,7 +57,8 @@ returns-in-Ok-Request-clause-keeps g c = λ late newest start origin sits.
     (Asked c.in-Ok-Request.cred c.in-Ok-Request.request) c.in-Ok-Request.is
     (rw c.in-Ok-Request.is at c.in-Ok-Request.field-0-is) in
     c.ask.ensures.keeps late newest start origin
-    (subst (λ (s : Sitting g.row.T.Denot). HasAsked g.T.NonBlocking.incoming g.T.NonBlocking.outgoing (lets_in g.T.NonBlocking.closes) newest start
+    (subst (λ (s : Sitting g.row.T.Denot). HasAsked g.T.NonBlocking.incoming g.T.NonBlocking.outgoing (lets_in
+    g.T.NonBlocking.closes) newest start
     origin s
     c.in-Ok-Request.cred c.in-Ok-Request.request c.read_next-size.new.text c.read_next-size.result.0
     (timed (holder_of c.args.handler.now) late)) (sym c.self.view_is)
