@@ -720,7 +720,8 @@ module _ {T : Type 0} (incoming outgoing : T → Option (List ℕ)) (callers : T
         let stood = stops newest (means_for (callers origin)) SLOTS why old.dialogue new.dialogue (begun_with start)
         at.0 (incoming origin)
         (prepend_known old.input (incoming old.connection)) rest sits.sent text at.2 took_more reads.unsent in
-        let at_new : HasStopped incoming outgoing callers newest start origin (stopped_for why new) now sits.sent why = (
+        let next = stopped_for why new in
+        let at_new : HasStopped incoming outgoing callers newest start origin next now sits.sent why = (
           rest,
           subst (λ (t : T). IsBehind rest (incoming t)) (sym stays)
               (behind reads.rest (incoming old.connection)),

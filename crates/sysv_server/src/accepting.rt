@@ -1,8 +1,9 @@
 //! A source of accepted connections.
-ghost use Rattle.std.specs.Prelude.{◌≡◌, ◌≢◌, ◌<◌, ◌≤◌, ◌-◌, ◌^◌, ◌∷◌, [], true, false, is_some, None, IfErr, IfOk, OnErr, OnOk};
+ghost use Rattle.std.specs.Prelude.{◌≡◌, ◌≢◌, ◌<◌, ◌≤◌, ◌-◌, ◌^◌, ◌∷◌, [], true, false, is_some, None, IfErr, IfOk, MatchResult, OnErr, OnOk};
 ghost use Rattle.sysv_engine.specs.Looks.{Looks};
 ghost use Rattle.sysv_seats.specs.Untold.{limits_of};
 ghost use Rattle.sysv_server.specs.Accepts.{EndsWait, HasEnded};
+ghost use Rattle.sysv_server.specs.Doors.{Came};
 ghost use Rattle.sysv_server.specs.Listening.{added, IsOver};
 
 use crate::desk::Desk;
@@ -150,6 +151,7 @@ impl<'a, L: Listens, I: Input + Drop, H: Host> Accepting<'a, L, I, H> {
         ensures err { OnErr result
             (L.listens self.new.listener.now ≡ L.listens self.old.listener.now) }
         ensures none { L.accepted self.new.listener.now ≡ L.accepted self.old.listener.now }
+        ensures came { Came L.steps self.old.listener.now [] self.new.listener.now }
         ensures same_reference { self.new.listener.ghost_name ≡ self.old.listener.ghost_name }
     {
         if self.stats {
@@ -173,6 +175,9 @@ impl<'a, L: Listens, I: Input + Drop, H: Host> Accepting<'a, L, I, H> {
         ensures limits { IfOk result (λ stream. limits_of stream ≡ self.old.limits) }
         ensures err { OnErr result
             (L.accepted self.new.listener.now ≡ L.accepted self.old.listener.now) }
+        ensures came { MatchResult result
+            (λ stream. Came L.steps self.old.listener.now (stream ∷ []) self.new.listener.now)
+            (λ why. Came L.steps self.old.listener.now [] self.new.listener.now) }
         ensures same_reference { self.new.listener.ghost_name ≡ self.old.listener.ghost_name }
         ensures looks { Looks rows.old rows.new }
     {
@@ -207,7 +212,7 @@ impl<'a, L: Listens, I: Input + Drop, H: Host> Accepting<'a, L, I, H> {
 impl<L: Listens, I: Input + Drop, H: Host> Arrivals<SocketStream> for Accepting<'_, L, I, H> {
     ghost use Rattle.sysv_server.specs.Accepts.{Accepts};
 
-    ghost gives = { Accepts L.accepted L.listens I.reads L.fails };
+    ghost gives = { Accepts L.accepted L.listens I.reads L.fails L.steps };
 
     #[tactic(auto, using(sysv_engine::proofs::Looking::looks_stay))]
     fn next<R: Wait>(&mut self, rows: &mut Rows<'_, R>) -> Option<SocketStream> {
@@ -274,6 +279,8 @@ impl<H: Host> Acceptor<'_, '_, H> {
             L.accepted listener.new ≡ added (L.accepted listener.old) (stream ∷ [])) }
         ensures limits { IfOk result (λ stream. limits_of stream ≡ self.now.limits) }
         ensures err { OnErr result (L.accepted listener.new ≡ L.accepted listener.old) }
+        ensures came { MatchResult result (λ stream. Came L.steps listener.old (stream ∷ []) listener.new)
+            (λ why. Came L.steps listener.old [] listener.new) }
         ensures same { L.listens listener.new ≡ L.listens listener.old }
         ensures looks { Looks rows.old rows.new }
     {

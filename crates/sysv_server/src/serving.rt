@@ -170,8 +170,9 @@ pub fn serve_from<L: Listens, I: Input + Drop, H: Host, R: Threads + Wait + Net 
     requires blocks { (MIN_BLOCKS ≤ terms.blocks) × (terms.blocks ≤ MAX_BLOCKS) }
     requires workers { (1 ≤ terms.workers) × (terms.workers ≤ MAX_WORKERS) }
     requires at_once { (1 ≤ terms.at_once) × (terms.at_once ≤ MAX_CLIENTS) }
-    ensures ok { IfOk result (λ ended. EndsFrom L.accepted L.listens terms.stats terms.blocks
-        terms.at_once terms.sessions (limits_in terms) listener.old ended listener.new) }
+    ensures ok { IfOk result (λ ended. EndsFrom L.accepted L.listens L.steps terms.stats
+        terms.blocks terms.at_once terms.sessions (limits_in terms) listener.old ended
+        listener.new) }
     ensures exact { IfOk result (λ ended. HasCause I.reads L.fails (is_some input)
         terms.sessions ended.sums.sessions reason.new) }
     ensures balance { IfOk result (λ ended. IsBalanced ended.sums) }
@@ -197,8 +198,9 @@ fn run<L: Listens, I: Input + Drop, H: Host, R: Threads + Wait + Net + Sync>(
     requires blocks { (MIN_BLOCKS ≤ terms.blocks) × (terms.blocks ≤ MAX_BLOCKS) }
     requires workers { (1 ≤ terms.workers) × (terms.workers ≤ MAX_WORKERS) }
     requires at_once { (1 ≤ terms.at_once) × (terms.at_once ≤ MAX_CLIENTS) }
-    ensures ok { IfOk result (λ ended. EndsFrom L.accepted L.listens terms.stats terms.blocks
-        terms.at_once terms.sessions (limits_in terms) listener.old ended listener.new) }
+    ensures ok { IfOk result (λ ended. EndsFrom L.accepted L.listens L.steps terms.stats
+        terms.blocks terms.at_once terms.sessions (limits_in terms) listener.old ended
+        listener.new) }
     ensures exact { IfOk result (λ ended. HasCause I.reads L.fails (is_some input)
         terms.sessions ended.sums.sessions reason.new) }
     ensures balance { IfOk result (λ ended. IsBalanced ended.sums) }

@@ -248,8 +248,8 @@ fn serve_at<
     screen: &mut S,
 ) -> ExitCode
     requires { HasLimits serving.now }
-    ensures { HasServedFrom L.accepted L.listens I.reads L.fails limit serving.now.until_eof
-        serving.now.terms result (S.contents screen.old) (S.contents screen.new)
+    ensures { HasServedFrom L.accepted L.listens I.reads L.fails L.steps limit
+        serving.now.until_eof serving.now.terms result (S.contents screen.old) (S.contents screen.new)
         listener.old listener.new }
 {
     let mut reason = None;
@@ -274,7 +274,7 @@ fn run_server<L: Listens, H: Host, I: Input + Drop, R: Net + Threads + Wait + Sy
     reason: &mut Option<Reason>,
 ) -> Result<Ended, ServeFault>
     requires { HasLimits serving.now }
-    ensures ends { IfOk result (λ ended. EndsFrom L.accepted L.listens serving.now.terms.stats
+    ensures ends { IfOk result (λ ended. EndsFrom L.accepted L.listens L.steps serving.now.terms.stats
         serving.now.terms.blocks (places_of limit serving.now.terms) serving.now.terms.sessions
         (limits_in serving.now.terms) listener.old ended listener.new) }
     ensures setting { IfOk result (λ ended. RanWithin limit serving.now.terms ended.setting) }
