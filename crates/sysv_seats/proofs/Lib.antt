@@ -1,6 +1,7 @@
 pub mod Sessions
 pub mod PieceAnswers
 pub mod SendFrame
+pub mod HelloFrame
 pub mod HeldPieces
 pub mod LetIn
 pub mod ClientLemmas

@@ -37,6 +37,15 @@ denial version = record { version = version; op = op_number op.Hello; result = c
 abbrev pub denial_frame : Version → List ℕ
 denial_frame version = reply_encoding (denial version) []
 
+-- So many bytes were sent of the answer to a hello of this version that was not let in, if its session ended
+-- for this reason: all of them with `NoHello`, not all with `Write`, and none if memory was refused.
+abbrev pub EndsDenied : Version → End → List ℕ → Type 0
+EndsDenied version «end».NoHello sent = sent ≡ denial_frame version
+EndsDenied version «end».Write sent =
+    (later : List ℕ) × (sent ++ later ≡ denial_frame version) × (later ≢ [])
+EndsDenied version «end».NoMemory sent = sent ≡ []
+EndsDenied version why sent = ⊥
+
 -- A session that reads versions up to the newest one, on a connection that lets in these callers.
 module _ (newest : Version) (callers : Callers) where
   -- The session has no hello, or its hello states the credentials of a caller who is let in. All its calls are made
@@ -46,15 +55,6 @@ module _ (newest : Version) (callers : Callers) where
       ServesTogether newest Means SLOTS served old new left rest taken more → Type 0
   IsLetIn Means served old new left rest taken more (inl stays) = ⊤
   IsLetIn Means served old new left rest taken more (inr converses) = includes callers converses.cred ≡ true
-
-  -- So many bytes were sent of the answer to a hello of this version that was not let in, if its session ended
-  -- for this reason: all of them with `NoHello`, not all with `Write`, and none if memory was refused.
-  abbrev pub EndsDenied : Version → End → List ℕ → Type 0
-  EndsDenied version «end».NoHello sent = sent ≡ denial_frame version
-  EndsDenied version «end».Write sent =
-      (later : List ℕ) × (sent ++ later ≡ denial_frame version) × (later ≢ [])
-  EndsDenied version «end».NoMemory sent = sent ≡ []
-  EndsDenied version why sent = ⊥
 
   -- The hello states the credentials of a caller who is not let in. No call was made, nothing more was read, and the
   -- hello was answered with EPERM, of which the connection took these bytes and no others.

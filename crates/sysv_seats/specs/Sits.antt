@@ -3,7 +3,7 @@
 -- that is parked, or has stopped: then it takes up no more, and the replies that were gathered are
 -- still given to its connection.
 use Rattle.std.specs.Prelude.{◌≡◌, ◌≤◌, ◌<◌, ◌+◌, ◌-◌, ◌⊎◌, ◌^◌, ◌||◌, ◌&&◌, ◌==◌, ⊤, ℕ, Bool, true, false, not, List}
-use Rattle.std.specs.Prelude.{◌++◌}
+use Rattle.std.specs.Prelude.{[], ◌++◌}
 use Rattle.std.specs.Prelude.{Option, None, Some, is_some, unwrap_or}
 use Rattle.std.specs.Prelude.{IfSome, Result, length}
 use Rattle.std.specs.Io.KnownBytes.{Appends, Consumes, prepend_known}

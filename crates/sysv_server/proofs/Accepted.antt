@@ -360,7 +360,8 @@ module _ {L I H : Type 0} (told : L → Option (List SocketStream)) (listens : L
           of (Ok ended) all =
               subst (λ k. EndsFrom told listens steps shows blocks workers m limits k ended l') before
               (subst (λ k. EndsFrom told listens steps shows blocks workers m limits s.listener.now ended k) after
-              (subst (λ k. EndsFrom told listens steps shows blocks workers m k s.listener.now ended s'.listener.now) held
+              (subst (λ k. EndsFrom told listens steps shows blocks workers m k s.listener.now ended s'.listener.now)
+              held
               (ends_from shows blocks workers m s s' books books' ended none same small counted all)))
           of (Err why) all = tt
 

@@ -129,7 +129,8 @@ module _ {L : Type 0} (told : L → Option (List SocketStream)) where
   -- closed. The listener has accepted the connections on which the sessions were, each once, and no
   -- others. `told` are the connections that the listener has accepted, if it tells them. `steps` are the steps that it
   -- may make, which state the callers that a connection lets in.
-  pub record EndsFrom (listens : L → Bool) (steps : L → Option SocketStream → L → Type 0) (shows : Bool) (blocks places most : ℕ) (limits : Limits) (before : L)
+  pub record EndsFrom (listens : L → Bool) (steps : L → Option SocketStream → L → Type 0) (shows : Bool) (blocks places
+      most : ℕ) (limits : Limits) (before : L)
       (ended : Ended)
       (after : L) : Type 0 where
     pub ends : EndsOn shows blocks places most limits ended
