@@ -1,12 +1,13 @@
 //! The request that a command line makes.
 
-ghost use Rattle.std.specs.Prelude.{◌≡◌, ◌≤◌, ◌⊎◌, ℕ, IfErr, IfOk, IfSome, MatchOption, OnOk, Some, codes, false, is_some, map, not, pos, true};
+ghost use Rattle.std.specs.Prelude.{◌≡◌, ◌≤◌, ◌+◌, ◌⊎◌, ℕ, IfErr, IfOk, IfSome, MatchOption, OnOk, Some, codes, cond, false, is_some, map, not, pos, slice_get, true};
 ghost use Rattle.clap.specs.Values.{kind_of};
 ghost use Rattle.clap.specs.Words.{app_of, subcommand_rows_of};
 ghost use Rattle.clap.specs.declared.error.kind.ErrorKind.TheVariants.{InvalidValue, OutOfMemory};
 ghost use Rattle.sysv_options.specs.Asked.{AreAtOnce, AreBlocks, AreTerms, AreWorkers, HasLimits, IsWithinLimits};
 ghost use Rattle.sysv_options.specs.Requests.{AreRefused, AsksFor, ClientAsks, IsAskedBy, IsMeant, IsRefused};
-ghost use Rattle.sysv_options.specs.Servers.{AsksForAtOnce, AsksForBlocks, AsksForFile, AsksForFileAt, AsksForTerms, AsksForWorkers, AsksToLook, AsksToServe, HasPath, MayAskForStats};
+ghost use Rattle.sysv_options.specs.Servers.{AsksForAtOnce, AsksForBlocks, AsksForFile, AsksForFileAt, AsksForOthers, AsksForTerms, AsksForWorkers, AsksToLook, AsksToServe, HasPath, IsEntrance, MayAskForStats};
+ghost use Rattle.sysv_options.specs.Sockets.{sockets_of};
 ghost use Rattle.sysv_options.specs.Tasks.{AsksToList, AsksToMake, AsksToReceive, AsksToRemove, AsksToSend, HasTask, HasHow, NamesTarget, IsAhead, Receives, ShowsIn, StatesWho, is_json};
 ghost use Rattle.sysv_options.specs.Words.{ArePartsOf, AreSeconds, Has, HasFlag, HasMaybe, HasOr, IsMode, IsOctalMode, IsOn, IsRead, IsThousandths, IsTime, IsUnsigned, WantsType, word_of, words_in};
 ghost use Rattle.sysv_connect.specs.Telling.{has_line, has_sentence};
@@ -15,7 +16,7 @@ ghost use Rattle.sysv_clients.specs.Run.{HasShortText};
 ghost use Rattle.sysv_clients.specs.Words.{IsKey, IsType};
 
 use crate::commands::{command, command_named, option_named};
-use crate::sockets::{Entrance, Entrances, SocketFile};
+use crate::sockets::{Entrance, Entrances, MAX_OTHERS, SocketFile};
 use crate::who::Who;
 use clap::error::ErrorKind;
 use clap::{ArgMatches, Command as CommandLine, Error};
@@ -70,7 +71,10 @@ pub struct Serving<'a> {
 
 impl<'a> Serving<'a> {
     /// Returns the number of sockets at which connections are accepted.
-    pub fn count(&self) -> usize {
+    pub fn count(&self) -> usize
+        ensures { self.now.others.count ≤ MAX_OTHERS →
+            result ≡ self.now.others.count + cond self.now.no_main 0 1 }
+    {
         if self.no_main {
             self.others.count()
         } else {
@@ -79,7 +83,9 @@ impl<'a> Serving<'a> {
     }
 
     /// Returns the socket of this number, if there is one. The one that lets in anyone is the first.
-    pub fn socket(&self, number: usize) -> Option<Entrance<'a>> {
+    pub fn socket(&self, number: usize) -> Option<Entrance<'a>>
+        ensures { result ≡ slice_get (sockets_of self.now) number }
+    {
         if self.no_main {
             return self.others.get(number);
         }
@@ -421,7 +427,9 @@ fn server<'a>(words: &ArgMatches<'a>) -> Result<Serving<'a>, Bad>
 }
 
 /// Returns the sockets that let in one user each.
-fn others_of<'a>(words: &ArgMatches<'a>) -> Result<Entrances<'a>, Bad> {
+fn others_of<'a>(words: &ArgMatches<'a>) -> Result<Entrances<'a>, Bad>
+    ensures { IsRead result (AsksForOthers (words_in words.now)) }
+{
     let mut others = Entrances::none();
     let Some(given) = words.get_strs("as") else {
         return Ok(others);
@@ -436,7 +444,9 @@ fn others_of<'a>(words: &ArgMatches<'a>) -> Result<Entrances<'a>, Bad> {
 
 /// Parses a socket that lets in one user: `SOCKET=UID:GID`. Only the last `=` and the `:` after it have
 /// this meaning.
-fn entrance_of<'a>(words: &ArgMatches<'a>, word: &'a str) -> Result<Entrance<'a>, Bad> {
+fn entrance_of<'a>(words: &ArgMatches<'a>, word: &'a str) -> Result<Entrance<'a>, Bad>
+    ensures { IsRead result (IsEntrance (words_in words.now) word.now) }
+{
     let Some((path, ids)) = word.rsplit_once('=') else {
         return Err(NO_ENTRANCE);
     };

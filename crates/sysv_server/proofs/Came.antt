@@ -1,8 +1,8 @@
 -- The steps of a listener, one after another.
 use Rattle.std.proofs.Common.{◌≡◌, ◌∙◌, List, [], ◌∷◌, ◌++◌, Option, None, Some, refl, sym, subst, append_assoc}
-use Rattle.std.proofs.Common.{append-nil}
+use Rattle.std.proofs.Common.{append-nil, ap, arith, length, ℕ, ◌+◌, ◌<◌, get_or, set}
 use Rattle.std.specs.Prelude.{⊤}
-use Rattle.std.specs.List.{FoldsTo, concat}
+use Rattle.std.specs.List.{concat}
 use Rattle.std.specs.Option.{option_to_list}
 use Rattle.sysv_seats.specs.declared.socket_stream.SocketStream.{SocketStream}
 use Rattle.sysv_server.specs.Doors as doors
@@ -35,3 +35,40 @@ module _ {L : Type 0} (steps : L → Option SocketStream → L → Type 0) where
   none_came (l ∷ ls) =
       let rest = none_came ls in
       ([] ∷ rest.0, (doors.begins, rest.1), rest.2)
+
+  -- Neither list has a value if both together have none.
+  nothing_of : (xs ys : List SocketStream) → xs ++ ys ≡ [] → (xs ≡ []) × (ys ≡ [])
+  nothing_of [] ys none = (refl, none)
+  nothing_of (x ∷ xs) ys none = absurd (cc none)
+
+  stepped : (before mid after : L) (accepted : List SocketStream) (step : Option SocketStream) →
+      Came steps before accepted mid → steps mid step after → Came steps before (accepted ++ option_to_list step) after
+  stepped before mid after accepted None one made =
+      subst (λ (l : List SocketStream). Came steps before l after) (sym (append-nil accepted))
+      (doors.quietly after one made)
+  stepped before mid after accepted (Some stream) one made = doors.accepts stream after one made
+
+  -- One of them makes one more step.
+  one_more : (ls : List L) (parts : List (List SocketStream)) (ms : List L) (n : ℕ) (m d : L)
+      (step : Option SocketStream) → EachCame steps ls parts ms → concat parts ≡ [] → n < length ms →
+      steps (get_or ms n d) step m → OneCame steps ls step (set ms n m)
+  one_more [] [] [] n m d step each none there made = absurd (omega (arith, there))
+  one_more [] [] (x ∷ ms) n m d step each none there made = absurd each
+  one_more [] (p ∷ ps) ms n m d step each none there made = absurd each
+  one_more (l ∷ ls) [] ms n m d step each none there made = absurd each
+  one_more (l ∷ ls) (p ∷ ps) [] n m d step each none there made = absurd each
+  one_more (l ∷ ls) (p ∷ ps) (x ∷ ms) zero m d step each none there made =
+      let no = nothing_of p (concat ps) none in (
+        (p ++ option_to_list step) ∷ ps,
+        (stepped l x m p step each.0 made, each.1),
+        ap (λ (k : List SocketStream). (p ++ option_to_list step) ++ k) no.1
+        ∙ (append-nil (p ++ option_to_list step) ∙ ap (λ (k : List SocketStream). k ++ option_to_list step) no.0),
+      )
+  one_more (l ∷ ls) (p ∷ ps) (x ∷ ms) (suc n) m d step each none there made =
+      let no = nothing_of p (concat ps) none in
+      let rest = one_more ls ps ms n m d step each.1 no.1 (omega (arith, there)) made in
+      (p ∷ rest.0, (each.0, rest.1), ap (λ (k : List SocketStream). k ++ concat rest.0) no.0 ∙ rest.2)
+
+  pub one_came : (ls ms : List L) (n : ℕ) (m d : L) (step : Option SocketStream) → OneCame steps ls None ms →
+      n < length ms → steps (get_or ms n d) step m → OneCame steps ls step (set ms n m)
+  one_came ls ms n m d step came there made = one_more ls came.0 ms n m d step came.1 came.2 there made

@@ -1,5 +1,9 @@
 //! Several sockets that connections are accepted from.
-ghost use Rattle.std.specs.Prelude.{◌≡◌, ◌<◌, ◌≤◌, vec_len};
+ghost use Rattle.std.specs.Prelude.{◌≡◌, ◌<◌, ◌+◌, ◌⊎◌, ◌||◌, List, None, Some, drop, false, take, true, vec_len};
+ghost use Rattle.std.specs.IoError.{raw_os_error};
+ghost use Rattle.std.specs.List.{list_any};
+ghost use Rattle.sysv_server.specs.Doors.{OneCame};
+ghost use Rattle.sysv_server.specs.Listening.{HasFailed};
 
 use crate::accepting::is_passing;
 use crate::host::{Host, Notice};
@@ -35,24 +39,32 @@ impl<'h, L: Listens, H: Host> Doors<'h, L, H> {
     }
 
     /// Returns whether another socket than the one of this number is open.
-    fn has_other(&self, number: usize) -> bool {
-        for (other, socket) in self.sockets.iter().enumerate() {
-            if other != number && socket.is_open() {
-                return true;
-            }
-        }
-        false
+    fn has_other(&self, number: usize) -> bool
+        requires { number < vec_len self.now.sockets }
+        ensures { result ≡ (list_any L.listens (take number self.now.sockets.items)
+            || list_any L.listens (drop (number + 1) self.now.sockets.items)) }
+    {
+        any_open(&self.sockets[..number]) || any_open(&self.sockets[number + 1..])
     }
 
     /// Returns the number after this one, or 0 after the last one.
-    fn after(&self, number: usize) -> usize {
+    fn after(&self, number: usize) -> usize
+        ensures { 0 < vec_len self.now.sockets → result < vec_len self.now.sockets }
+    {
         let next = number.saturating_add(1);
         if next < self.sockets.len() { next } else { 0 }
     }
 
     /// Gives up the socket of this number, at which an accept failed, unless it may be tried again or
     /// no other is open. Returns why nothing was accepted.
-    fn give_up(&mut self, number: usize, why: io::Error) -> io::Error {
+    fn give_up(&mut self, number: usize, why: io::Error) -> io::Error
+        requires { number < vec_len self.old.sockets }
+        ensures why { (result ≡ why) ⊎ (raw_os_error result ≡ Some 11) }
+        ensures same { list_any L.listens self.new.sockets.items
+            ≡ list_any L.listens self.old.sockets.items }
+        ensures came { OneCame L.steps self.old.sockets.items None self.new.sockets.items }
+        ensures next { self.new.next ≡ self.old.next }
+    {
         if is_passing(&why) || !self.has_other(number) {
             return why;
         }
@@ -64,7 +76,10 @@ impl<'h, L: Listens, H: Host> Doors<'h, L, H> {
     }
 
     /// Closes all sockets.
-    fn close_all(&mut self) {
+    fn close_all(&mut self)
+        ensures closed { list_any L.listens self.new.sockets.items ≡ false }
+        ensures came { OneCame L.steps self.old.sockets.items None self.new.sockets.items }
+    {
         for socket in self.sockets.iter_mut() {
             socket.close();
         }
@@ -72,25 +87,16 @@ impl<'h, L: Listens, H: Host> Doors<'h, L, H> {
 }
 
 impl<L: Listens, H: Host> Listens for Doors<'_, L, H> {
-    ghost use Rattle.std.specs.Prelude.{None, ◌⊎◌, ⊤};
-    ghost use Rattle.std.specs.List.{list_any};
-    ghost use Rattle.sysv_server.specs.Doors.{OneCame};
-
     ghost accepted = { λ _. None };
 
     ghost listens = { λ doors. list_any L.listens doors.sockets.items };
 
-    ghost fails = { λ _ _ _. ⊤ };
+    ghost fails = { λ _ why _. (raw_os_error why ≡ Some 11) ⊎ HasFailed L.fails why };
 
     ghost steps = { λ old step new. OneCame L.steps old.sockets.items step new.sockets.items };
 
     fn is_open(&self) -> bool {
-        for socket in self.sockets.iter() {
-            if socket.is_open() {
-                return true;
-            }
-        }
-        false
+        any_open(&self.sockets)
     }
 
     fn open(&mut self) -> io::Result<()> {
@@ -138,7 +144,16 @@ impl<L: Listens, H: Host> Listens for Doors<'_, L, H> {
     }
 }
 
+/// Returns whether one of these sockets is open.
+fn any_open<L: Listens>(sockets: &[L]) -> bool
+    ensures { result ≡ list_any L.listens sockets.now }
+{
+    sockets.iter().any(|socket| socket.is_open())
+}
+
 /// Returns the error that no client waits, which is tried again.
-fn none_waits() -> io::Error {
+fn none_waits() -> io::Error
+    ensures { raw_os_error result ≡ Some 11 }
+{
     io::Error::from_raw_os_error(EAGAIN)
 }
