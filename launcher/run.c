@@ -187,6 +187,7 @@ static void take_serving(struct run *run)
     keep(&run->stats);
     for (size_t i = 0; i < MOST_OTHERS; i++)
         keep(&run->others[i]);
+    users_give(&run->request->users);
     if (run->stopped_by != 0)
         return;
     notify("READY=1");
@@ -409,7 +410,18 @@ static int ended(const struct run *run)
     return run->request->command && status != NOT_UNDERSTOOD ? NOT_STARTED : status;
 }
 
-int run(const struct request *request)
+/* Makes the directories of the users. */
+static void begin_users(struct request *request)
+{
+    char why[WHY_BYTES];
+    if (users_make(&request->users, why))
+        return;
+    users_remove(&request->users);
+    fprintf(stderr, "sysvmsg-serve: %s\n", why);
+    exit(request->command ? NOT_STARTED : 1);
+}
+
+int run(struct request *request)
 {
     struct run state = {
         .request = request,
@@ -421,11 +433,13 @@ int run(const struct request *request)
     note_others(&state);
     begin_signals(&state);
     if (request->command) {
+        const char *own = users_own(&request->users);
         watch_parent(&state);
-        export_path(request->path);
+        export_path(own && has_option(request->options, "--no-main") ? own : request->path);
     } else {
         notify_begin();
     }
+    begin_users(request);
     begin_server(&state);
     while (state.server > 0 || state.command > 0 || !relay_is_over(&state.relay))
         step(&state);
@@ -433,5 +447,6 @@ int run(const struct request *request)
     remove_made(&state.stats);
     for (size_t i = 0; i < MOST_OTHERS; i++)
         remove_made(&state.others[i]);
+    users_remove(&request->users);
     return ended(&state);
 }

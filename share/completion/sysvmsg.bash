@@ -61,7 +61,7 @@ _sysvmsg_serve() {
     elif [[ $word == -* ]]; then
         case $COMP_CWORD in
         1) mapfile -t COMPREPLY < <(compgen -W "--with --help --version" -- "$word") ;;
-        *) mapfile -t COMPREPLY < <(compgen -W "$_sysvmsg_server" -- "$word") ;;
+        *) mapfile -t COMPREPLY < <(compgen -W "$_sysvmsg_server --users --run" -- "$word") ;;
         esac
     fi
 }

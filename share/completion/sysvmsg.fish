@@ -65,7 +65,10 @@ end
 
 complete -c sysvmsg-serve -e
 __sysvmsg_complete_server -c sysvmsg -n '__sysvmsg_is serve'
-__sysvmsg_complete_server -c sysvmsg-serve -n 'not __sysvmsg_has_words 1; and not __sysvmsg_is_in_command'
+set -l launcher -c sysvmsg-serve -n 'not __sysvmsg_has_words 1; and not __sysvmsg_is_in_command'
+__sysvmsg_complete_server $launcher
+complete $launcher -l users -x -a '(__fish_complete_groups)' -d 'Create a socket for each of these users'
+complete $launcher -l run -r -d 'The directory for the sockets of users'
 complete -c sysvmsg -n '__sysvmsg_is serve' -l until-eof -d 'End once standard input has ended'
 
 set -l snd -c sysvmsg -n '__sysvmsg_is snd'
