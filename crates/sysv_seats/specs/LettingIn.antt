@@ -56,8 +56,8 @@ module _ (newest : Version) (callers : Callers) where
   IsLetIn Means served old new left rest taken more (inl stays) = ⊤
   IsLetIn Means served old new left rest taken more (inr converses) = includes callers converses.cred ≡ true
 
-  -- The hello states the credentials of a caller who is not let in. No call was made, nothing more was taken up, and the
-  -- hello was answered with EPERM, of which the connection took these bytes and no others.
+  -- The hello states the credentials of a caller who is not let in. No call was made, nothing more was taken up, and
+  -- the hello was answered with EPERM, of which the connection took these bytes and no others.
   pub record IsDenied {K : Type 0} (served : Served) (old : K) (new : Timed K)
       (left rest taken more : Option (List ℕ)) : Type 0 where
     pub version : Version
