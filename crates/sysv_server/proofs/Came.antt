@@ -72,3 +72,31 @@ module _ {L : Type 0} (steps : L → Option SocketStream → L → Type 0) where
   pub one_came : (ls ms : List L) (n : ℕ) (m d : L) (step : Option SocketStream) → OneCame steps ls None ms →
       n < length ms → steps (get_or ms n d) step m → OneCame steps ls step (set ms n m)
   one_came ls ms n m d step came there made = one_more ls came.0 ms n m d step came.1 came.2 there made
+
+  -- They made one step that accepts nothing, or none, and then one more.
+  quiet_on : (as : List L) (ps : List (List SocketStream)) (bs : List L) (qs : List (List SocketStream)) (cs : List L) →
+      EachCame steps as ps bs → concat ps ≡ [] → EachCame steps bs qs cs → EachCame steps as qs cs
+  quiet_on [] [] [] [] [] one none two = tt
+  quiet_on [] [] [] [] (c ∷ cs) one none two = absurd two
+  quiet_on [] [] [] (q ∷ qs) cs one none two = absurd two
+  quiet_on [] [] (b ∷ bs) qs cs one none two = absurd one
+  quiet_on [] (p ∷ ps) bs qs cs one none two = absurd one
+  quiet_on (a ∷ as) [] bs qs cs one none two = absurd one
+  quiet_on (a ∷ as) (p ∷ ps) [] qs cs one none two = absurd one
+  quiet_on (a ∷ as) (p ∷ ps) (b ∷ bs) [] cs one none two = absurd two
+  quiet_on (a ∷ as) (p ∷ ps) (b ∷ bs) (q ∷ qs) [] one none two = absurd two
+  quiet_on (a ∷ as) (p ∷ ps) (b ∷ bs) (q ∷ qs) (c ∷ cs) one none two =
+      let no = nothing_of p (concat ps) none in (
+        subst (λ (k : List SocketStream). Came steps a (k ++ q) c) no.0 (came_on a b c p q one.0 two.0),
+        quiet_on as ps bs qs cs one.1 no.1 two.1,
+      )
+
+  pub one_after : (as bs cs : List L) (step : Option SocketStream) → OneCame steps as None bs →
+      OneCame steps bs step cs → OneCame steps as step cs
+  one_after as bs cs step one two =
+      (two.0, quiet_on as one.0 bs two.0 cs one.1 one.2 two.1, two.2)
+
+  -- One of them makes a step.
+  pub one_at : (ls : List L) (n : ℕ) (m d : L) (step : Option SocketStream) → n < length ls →
+      steps (get_or ls n d) step m → OneCame steps ls step (set ls n m)
+  one_at ls n m d step there made = one_came ls ls n m d step (none_came ls) there made

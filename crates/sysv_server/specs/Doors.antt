@@ -1,8 +1,11 @@
 -- What a listener has accepted, step by step, and several listeners together (this project's profile).
-use Rattle.std.specs.Prelude.{◌≡◌, ⊤, List, [], ◌∷◌, ◌++◌, Option, None, Some}
+use Rattle.std.specs.Prelude.{◌≡◌, ◌⊎◌, ⊤, List, [], ◌∷◌, ◌++◌, Option, None, Some}
+use Rattle.std.specs.declared.io.Error.{Error}
+use Rattle.std.specs.IoError.{raw_os_error}
 use Rattle.std.specs.List.{concat}
 use Rattle.std.specs.Option.{option_to_list}
 use Rattle.sysv_seats.specs.declared.socket_stream.SocketStream.{SocketStream}
+use Rattle.sysv_server.specs.Listening.{HasFailed}
 
 -- A listener made steps from this state on, in which it accepted these connections, in order. `steps` are the steps
 -- that it may make, each with the connection that it accepts.
@@ -30,3 +33,8 @@ module _ {L : Type 0} (steps : L → Option SocketStream → L → Type 0) where
   abbrev pub OneCame : List L → Option SocketStream → List L → Type 0
   OneCame before step after = (parts : List (List SocketStream)) × EachCame before parts after
       × (concat parts ≡ option_to_list step)
+
+-- Of several listeners no client waits at any, and the error is EAGAIN, or an accept at one of them has failed with this
+-- error. `fails` are the accepts of a listener that may fail.
+abbrev pub IsFailure : {L : Type 0} → (L → Error → L → Type 0) → Error → Type 0
+IsFailure fails why = (raw_os_error why ≡ Some 11) ⊎ HasFailed fails why

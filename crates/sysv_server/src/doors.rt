@@ -1,14 +1,15 @@
 //! Several sockets that connections are accepted from.
-ghost use Rattle.std.specs.Prelude.{◌≡◌, ◌<◌, ◌+◌, ◌⊎◌, ◌||◌, List, None, Some, drop, false, take, true, vec_len};
+ghost use Rattle.std.specs.Prelude.{◌≡◌, ◌<◌, ◌+◌, ◌⊎◌, ◌||◌, IfErr, IfOk, List, MatchResult, None, Some, drop, false, take, true, vec_len};
 ghost use Rattle.std.specs.IoError.{raw_os_error};
 ghost use Rattle.std.specs.List.{list_any};
-ghost use Rattle.sysv_server.specs.Doors.{OneCame};
-ghost use Rattle.sysv_server.specs.Listening.{HasFailed};
+ghost use Rattle.sysv_seats.specs.Untold.{limits_of};
+ghost use Rattle.sysv_server.specs.Doors.{IsFailure, OneCame};
 
 use crate::accepting::is_passing;
 use crate::host::{Host, Notice};
 use crate::listening::Listens;
 use std::io;
+use std::io::ErrorKind;
 use sysv_seats::{Limits, SocketStream};
 use sysv_system::{EAGAIN, Several};
 
@@ -48,11 +49,61 @@ impl<'h, L: Listens, H: Host> Doors<'h, L, H> {
     }
 
     /// Returns the number after this one, or 0 after the last one.
-    fn after(&self, number: usize) -> usize
-        ensures { 0 < vec_len self.now.sockets → result < vec_len self.now.sockets }
-    {
+    fn after(&self, number: usize) -> usize {
         let next = number.saturating_add(1);
         if next < self.sockets.len() { next } else { 0 }
+    }
+
+    /// Returns the number of the socket at which an accept is tried now. The next one is tried at the
+    /// socket after it.
+    fn turn(&mut self) -> usize
+        ensures { self.new.sockets ≡ self.old.sockets }
+    {
+        let number = self.next;
+        self.next = self.after(number);
+        number
+    }
+
+    /// Opens the socket of this number.
+    fn open_at(&mut self, number: usize) -> io::Result<()>
+        requires { number < vec_len self.old.sockets }
+        ensures came { OneCame L.steps self.old.sockets.items None self.new.sockets.items }
+        ensures length { vec_len self.new.sockets ≡ vec_len self.old.sockets }
+    {
+        self.sockets[number].open()
+    }
+
+    /// Closes the socket of this number.
+    fn close_at(&mut self, number: usize)
+        requires { number < vec_len self.old.sockets }
+        ensures came { OneCame L.steps self.old.sockets.items None self.new.sockets.items }
+        ensures open { list_any L.listens self.new.sockets.items
+            ≡ (list_any L.listens (take number self.old.sockets.items)
+            || list_any L.listens (drop (number + 1) self.old.sockets.items)) }
+        ensures closed { list_any L.listens (take (number + 1) self.new.sockets.items)
+            ≡ list_any L.listens (take number self.old.sockets.items) }
+        ensures length { vec_len self.new.sockets ≡ vec_len self.old.sockets }
+    {
+        self.sockets[number].close();
+    }
+
+    /// Accepts a connection at the socket of this number, whose client may be cut off under these
+    /// limits.
+    fn accept_at(&mut self, number: usize, limits: Limits) -> io::Result<SocketStream>
+        requires { number < vec_len self.old.sockets }
+        ensures came { MatchResult result
+            (λ stream. OneCame L.steps self.old.sockets.items (Some stream) self.new.sockets.items)
+            (λ why. OneCame L.steps self.old.sockets.items None self.new.sockets.items) }
+        ensures limits { IfOk result (λ stream. limits_of stream ≡ limits) }
+        ensures failed { IfErr result (IsFailure L.fails) }
+        ensures open { list_any L.listens self.new.sockets.items
+            ≡ list_any L.listens self.old.sockets.items }
+        ensures length { vec_len self.new.sockets ≡ vec_len self.old.sockets }
+    {
+        match self.sockets[number].accept(limits) {
+            Ok(stream) => Ok(stream),
+            Err(why) => Err(self.give_up(number, why)),
+        }
     }
 
     /// Gives up the socket of this number, at which an accept failed, unless it may be tried again or
@@ -60,17 +111,15 @@ impl<'h, L: Listens, H: Host> Doors<'h, L, H> {
     fn give_up(&mut self, number: usize, why: io::Error) -> io::Error
         requires { number < vec_len self.old.sockets }
         ensures why { (result ≡ why) ⊎ (raw_os_error result ≡ Some 11) }
-        ensures same { list_any L.listens self.new.sockets.items
-            ≡ list_any L.listens self.old.sockets.items }
         ensures came { OneCame L.steps self.old.sockets.items None self.new.sockets.items }
-        ensures next { self.new.next ≡ self.old.next }
+        ensures open { list_any L.listens self.new.sockets.items
+            ≡ list_any L.listens self.old.sockets.items }
+        ensures length { vec_len self.new.sockets ≡ vec_len self.old.sockets }
     {
         if is_passing(&why) || !self.has_other(number) {
             return why;
         }
-        if let Some(socket) = self.sockets.get_mut(number) {
-            socket.close();
-        }
+        self.close_at(number);
         self.host.note(Notice::Lost(number, why));
         none_waits()
     }
@@ -80,9 +129,19 @@ impl<'h, L: Listens, H: Host> Doors<'h, L, H> {
         ensures closed { list_any L.listens self.new.sockets.items ≡ false }
         ensures came { OneCame L.steps self.old.sockets.items None self.new.sockets.items }
     {
-        for socket in self.sockets.iter_mut() {
-            socket.close();
+        for number in 0..self.sockets.len() {
+            self.close_at(number);
         }
+    }
+
+    /// Opens all sockets, or returns why one of them could not be opened.
+    fn open_all(&mut self) -> io::Result<()>
+        ensures came { OneCame L.steps self.old.sockets.items None self.new.sockets.items }
+    {
+        for number in 0..self.sockets.len() {
+            self.open_at(number)?;
+        }
+        Ok(())
     }
 }
 
@@ -91,7 +150,7 @@ impl<L: Listens, H: Host> Listens for Doors<'_, L, H> {
 
     ghost listens = { λ doors. list_any L.listens doors.sockets.items };
 
-    ghost fails = { λ _ why _. (raw_os_error why ≡ Some 11) ⊎ HasFailed L.fails why };
+    ghost fails = { λ _ why _. IsFailure L.fails why };
 
     ghost steps = { λ old step new. OneCame L.steps old.sockets.items step new.sockets.items };
 
@@ -100,15 +159,19 @@ impl<L: Listens, H: Host> Listens for Doors<'_, L, H> {
     }
 
     fn open(&mut self) -> io::Result<()> {
-        for number in 0..self.sockets.len() {
-            if let Some(socket) = self.sockets.get_mut(number) {
-                if let Err(why) = socket.open() {
-                    self.close_all();
-                    return Err(why);
-                }
-            }
+        if self.is_open() {
+            return Ok(());
         }
-        Ok(())
+        let opened = self.open_all();
+        if opened.is_err() {
+            self.close_all();
+            return opened;
+        }
+        if self.is_open() {
+            Ok(())
+        } else {
+            Err(io::Error::from(ErrorKind::NotConnected))
+        }
     }
 
     fn watch(&self, listeners: &mut Several) {
@@ -123,17 +186,13 @@ impl<L: Listens, H: Host> Listens for Doors<'_, L, H> {
         let seen = listeners.looked_at();
         let mut failed = none_waits();
         for _ in 0..self.sockets.len() {
-            let number = self.next;
-            self.next = self.after(number);
-            if !seen.has_client(number) {
+            let number = self.turn();
+            if number >= self.sockets.len() || !seen.has_client(number) {
                 continue;
             }
-            let Some(socket) = self.sockets.get_mut(number) else {
-                continue;
-            };
-            match socket.accept(limits) {
+            match self.accept_at(number, limits) {
                 Ok(stream) => return Ok(stream),
-                Err(why) => failed = self.give_up(number, why),
+                Err(why) => failed = why,
             }
         }
         Err(failed)
