@@ -62,7 +62,7 @@ module _ {L : Type 0} (steps : L → Option SocketStream → L → Type 0) where
         (p ++ option_to_list step) ∷ ps,
         (stepped l x m p step each.0 made, each.1),
         ap (λ (k : List SocketStream). (p ++ option_to_list step) ++ k) no.1
-        ∙ (append-nil (p ++ option_to_list step) ∙ ap (λ (k : List SocketStream). k ++ option_to_list step) no.0),
+            ∙ (append-nil (p ++ option_to_list step) ∙ ap (λ (k : List SocketStream). k ++ option_to_list step) no.0),
       )
   one_more (l ∷ ls) (p ∷ ps) (x ∷ ms) (suc n) m d step each none there made =
       let no = nothing_of p (concat ps) none in
@@ -74,27 +74,27 @@ module _ {L : Type 0} (steps : L → Option SocketStream → L → Type 0) where
   one_came ls ms n m d step came there made = one_more ls came.0 ms n m d step came.1 came.2 there made
 
   -- They made one step that accepts nothing, or none, and then one more.
-  quiet_on : (as : List L) (ps : List (List SocketStream)) (bs : List L) (qs : List (List SocketStream)) (cs : List L) →
-      EachCame steps as ps bs → concat ps ≡ [] → EachCame steps bs qs cs → EachCame steps as qs cs
+  quiet_on : (xs : List L) (ps : List (List SocketStream)) (ys : List L) (qs : List (List SocketStream)) (zs : List L) →
+      EachCame steps xs ps ys → concat ps ≡ [] → EachCame steps ys qs zs → EachCame steps xs qs zs
   quiet_on [] [] [] [] [] one none two = tt
-  quiet_on [] [] [] [] (c ∷ cs) one none two = absurd two
-  quiet_on [] [] [] (q ∷ qs) cs one none two = absurd two
-  quiet_on [] [] (b ∷ bs) qs cs one none two = absurd one
-  quiet_on [] (p ∷ ps) bs qs cs one none two = absurd one
-  quiet_on (a ∷ as) [] bs qs cs one none two = absurd one
-  quiet_on (a ∷ as) (p ∷ ps) [] qs cs one none two = absurd one
-  quiet_on (a ∷ as) (p ∷ ps) (b ∷ bs) [] cs one none two = absurd two
-  quiet_on (a ∷ as) (p ∷ ps) (b ∷ bs) (q ∷ qs) [] one none two = absurd two
-  quiet_on (a ∷ as) (p ∷ ps) (b ∷ bs) (q ∷ qs) (c ∷ cs) one none two =
+  quiet_on [] [] [] [] (c ∷ zs) one none two = absurd two
+  quiet_on [] [] [] (q ∷ qs) zs one none two = absurd two
+  quiet_on [] [] (b ∷ ys) qs zs one none two = absurd one
+  quiet_on [] (p ∷ ps) ys qs zs one none two = absurd one
+  quiet_on (a ∷ xs) [] ys qs zs one none two = absurd one
+  quiet_on (a ∷ xs) (p ∷ ps) [] qs zs one none two = absurd one
+  quiet_on (a ∷ xs) (p ∷ ps) (b ∷ ys) [] zs one none two = absurd two
+  quiet_on (a ∷ xs) (p ∷ ps) (b ∷ ys) (q ∷ qs) [] one none two = absurd two
+  quiet_on (a ∷ xs) (p ∷ ps) (b ∷ ys) (q ∷ qs) (c ∷ zs) one none two =
       let no = nothing_of p (concat ps) none in (
         subst (λ (k : List SocketStream). Came steps a (k ++ q) c) no.0 (came_on a b c p q one.0 two.0),
-        quiet_on as ps bs qs cs one.1 no.1 two.1,
+        quiet_on xs ps ys qs zs one.1 no.1 two.1,
       )
 
-  pub one_after : (as bs cs : List L) (step : Option SocketStream) → OneCame steps as None bs →
-      OneCame steps bs step cs → OneCame steps as step cs
-  one_after as bs cs step one two =
-      (two.0, quiet_on as one.0 bs two.0 cs one.1 one.2 two.1, two.2)
+  pub one_after : (xs ys zs : List L) (step : Option SocketStream) → OneCame steps xs None ys →
+      OneCame steps ys step zs → OneCame steps xs step zs
+  one_after xs ys zs step one two =
+      (two.0, quiet_on xs one.0 ys two.0 zs one.1 one.2 two.1, two.2)
 
   -- One of them makes a step.
   pub one_at : (ls : List L) (n : ℕ) (m d : L) (step : Option SocketStream) → n < length ls →

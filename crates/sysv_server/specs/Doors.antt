@@ -34,7 +34,7 @@ module _ {L : Type 0} (steps : L → Option SocketStream → L → Type 0) where
   OneCame before step after = (parts : List (List SocketStream)) × EachCame before parts after
       × (concat parts ≡ option_to_list step)
 
--- Of several listeners no client waits at any, and the error is EAGAIN, or an accept at one of them has failed with this
--- error. `fails` are the accepts of a listener that may fail.
+-- Of several listeners no client waits at any, and the error is EAGAIN, or an accept at one of them has failed with
+-- this error. `fails` are the accepts of a listener that may fail.
 abbrev pub IsFailure : {L : Type 0} → (L → Error → L → Type 0) → Error → Type 0
 IsFailure fails why = (raw_os_error why ≡ Some 11) ⊎ HasFailed fails why
