@@ -65,6 +65,7 @@ impl<'h, L: Listens, H: Host> Doors<'h, L, H> {
     }
 
     /// Opens the socket of this number.
+    #[tactic(auto, using(crate::proofs::Came::one_at))]
     fn open_at(&mut self, number: usize) -> io::Result<()>
         requires { number < vec_len self.old.sockets }
         ensures came { OneCame L.steps self.old.sockets.items None self.new.sockets.items }
@@ -74,6 +75,7 @@ impl<'h, L: Listens, H: Host> Doors<'h, L, H> {
     }
 
     /// Closes the socket of this number.
+    #[tactic(auto, using(crate::proofs::Came::one_at))]
     fn close_at(&mut self, number: usize)
         requires { number < vec_len self.old.sockets }
         ensures came { OneCame L.steps self.old.sockets.items None self.new.sockets.items }
@@ -89,6 +91,7 @@ impl<'h, L: Listens, H: Host> Doors<'h, L, H> {
 
     /// Accepts a connection at the socket of this number, whose client may be cut off under these
     /// limits.
+    #[tactic(auto, using(crate::proofs::Came::one_at, crate::proofs::Came::one_after))]
     fn accept_at(&mut self, number: usize, limits: Limits) -> io::Result<SocketStream>
         requires { number < vec_len self.old.sockets }
         ensures came { MatchResult result
@@ -108,6 +111,7 @@ impl<'h, L: Listens, H: Host> Doors<'h, L, H> {
 
     /// Gives up the socket of this number, at which an accept failed, unless it may be tried again or
     /// no other is open. Returns why nothing was accepted.
+    #[tactic(auto, using(crate::proofs::Came::none_came))]
     fn give_up(&mut self, number: usize, why: io::Error) -> io::Error
         requires { number < vec_len self.old.sockets }
         ensures why { (result ≡ why) ⊎ (raw_os_error result ≡ Some 11) }
@@ -125,6 +129,7 @@ impl<'h, L: Listens, H: Host> Doors<'h, L, H> {
     }
 
     /// Closes all sockets.
+    #[tactic(auto, using(crate::proofs::Came::none_came, crate::proofs::Came::one_after))]
     fn close_all(&mut self)
         ensures closed { list_any L.listens self.new.sockets.items ≡ false }
         ensures came { OneCame L.steps self.old.sockets.items None self.new.sockets.items }
@@ -135,6 +140,7 @@ impl<'h, L: Listens, H: Host> Doors<'h, L, H> {
     }
 
     /// Opens all sockets, or returns why one of them could not be opened.
+    #[tactic(auto, using(crate::proofs::Came::none_came, crate::proofs::Came::one_after))]
     fn open_all(&mut self) -> io::Result<()>
         ensures came { OneCame L.steps self.old.sockets.items None self.new.sockets.items }
     {
@@ -158,6 +164,7 @@ impl<L: Listens, H: Host> Listens for Doors<'_, L, H> {
         any_open(&self.sockets)
     }
 
+    #[tactic(auto, using(crate::proofs::Came::none_came, crate::proofs::Came::one_after))]
     fn open(&mut self) -> io::Result<()> {
         if self.is_open() {
             return Ok(());
@@ -180,6 +187,7 @@ impl<L: Listens, H: Host> Listens for Doors<'_, L, H> {
         }
     }
 
+    #[tactic(auto, using(crate::proofs::Came::none_came, crate::proofs::Came::one_after))]
     fn accept(&mut self, limits: Limits) -> io::Result<SocketStream> {
         let mut listeners = Several::none();
         self.watch(&mut listeners);
