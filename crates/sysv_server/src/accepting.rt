@@ -143,6 +143,7 @@ impl<'a, L: Listens, I: Input + Drop, H: Host> Accepting<'a, L, I, H> {
 
     /// Has the host open the socket for readers of the server's state, if it is to be shown, and
     /// opens the listener.
+    #[tactic(auto, using(crate::proofs::Came::came_quiet, crate::proofs::Came::came_still))]
     fn open(&mut self) -> io::Result<()>
         ensures same { (self.new.most ≡ self.old.most) × (self.new.accepted ≡ self.old.accepted)
             × (self.new.reason ≡ self.old.reason) × (self.new.limits ≡ self.old.limits) }
@@ -161,7 +162,7 @@ impl<'a, L: Listens, I: Input + Drop, H: Host> Accepting<'a, L, I, H> {
     }
 
     /// Accepts the next connection. The error is why no more connections are to be accepted.
-    #[tactic(auto, using(sysv_engine::proofs::Looking::looks_stay))]
+    #[tactic(auto, using(sysv_engine::proofs::Looking::looks_stay, crate::proofs::Came::came_on, crate::proofs::Came::came_once, crate::proofs::Came::came_quiet, crate::proofs::Came::came_still))]
     fn accept<R: Wait>(&mut self, rows: &mut Rows<'_, R>) -> Result<SocketStream, Reason>
         ensures same { (self.new.most ≡ self.old.most) × (self.new.accepted ≡ self.old.accepted)
             × (self.new.reason ≡ self.old.reason) × (self.new.limits ≡ self.old.limits) }
@@ -214,7 +215,7 @@ impl<L: Listens, I: Input + Drop, H: Host> Arrivals<SocketStream> for Accepting<
 
     ghost gives = { Accepts L.accepted L.listens I.reads L.fails L.steps };
 
-    #[tactic(auto, using(sysv_engine::proofs::Looking::looks_stay))]
+    #[tactic(auto, using(sysv_engine::proofs::Looking::looks_stay, crate::proofs::Came::came_on, crate::proofs::Came::came_once, crate::proofs::Came::came_quiet, crate::proofs::Came::came_still))]
     fn next<R: Wait>(&mut self, rows: &mut Rows<'_, R>) -> Option<SocketStream> {
         if self.reason.is_some() {
             self.listener.close();
@@ -263,7 +264,7 @@ impl<H: Host> Acceptor<'_, '_, H> {
     /// Waits for a connection and accepts it. Until it comes, serves the desk. If the server
     /// `retries`, an accept that fails for want of something is tried again; the host is told so,
     /// and when it succeeds.
-    #[tactic(auto, using(sysv_engine::proofs::Looking::looks_stay, sysv_engine::proofs::Looking::looks_on))]
+    #[tactic(auto, using(sysv_engine::proofs::Looking::looks_stay, sysv_engine::proofs::Looking::looks_on, crate::proofs::Came::came_on, crate::proofs::Came::came_once, crate::proofs::Came::came_quiet, crate::proofs::Came::came_still))]
     fn accept_next<L: Listens, I: Input, R: Wait>(
         &self,
         listener: &mut L,
