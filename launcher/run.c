@@ -48,8 +48,8 @@ struct run {
     bool is_serving;
     struct made socket, stats;
     struct made others[MOST_OTHERS]; /* the sockets of --as */
-    int stopped_by;  /* the signal that ended the run, or 0 */
-    long ends_since; /* in milliseconds, once `input` is closed */
+    int stopped_by;                  /* the signal that ended the run, or 0 */
+    long ends_since;                 /* in milliseconds, once `input` is closed */
     bool is_killed;
     struct relay relay;
 };

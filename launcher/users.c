@@ -133,17 +133,15 @@ bool users_take(char ***options, struct users *users, char why[WHY_BYTES])
     for (size_t i = 0; i < users->count; i++) {
         const struct user *user = &users->all[i];
         *next++ = "--as";
-        if (asprintf(next++, "%s=%u:%u", user->socket, (unsigned)user->uid, (unsigned)user->gid) < 0)
+        if (asprintf(next++, "%s=%u:%u", user->socket, (unsigned)user->uid, (unsigned)user->gid)
+            < 0)
             return refuse(why, "%s", strerror(ENOMEM));
     }
     *options = words;
     return true;
 }
 
-static bool is_own(const struct user *user)
-{
-    return user->uid == geteuid();
-}
+static bool is_own(const struct user *user) { return user->uid == geteuid(); }
 
 /* Makes the directory of a user, or takes the one that is there if it is this user's or this
  * process's. */
@@ -151,7 +149,8 @@ static bool make(const struct users *users, struct user *user, char why[WHY_BYTE
 {
     struct stat found;
     if (!is_own(user) && geteuid() != 0)
-        return refuse(why, "--users: only root makes directories of other users, such as %s", user->name);
+        return refuse(
+            why, "--users: only root makes directories of other users, such as %s", user->name);
     if (mkdirat(users->parent, user->name, 0700) != 0 && errno != EEXIST)
         return refuse(why, "%s/%s: %s", users->run, user->name, strerror(errno));
     user->directory =
