@@ -19,7 +19,7 @@ sys.path.insert(0, os.path.join(TOP, "clients", "python"))
 import sysvmsg
 from sysvmsg import CREAT, EXCEPT, EXCL, GET, HELLO, NOERROR, NOWAIT, RCV, RM, ROW, SET, SND, STAT, Request, frame
 
-COMMANDS = ["serve", "snd", "rcv", "ipcs", "ipcrm", "ipcmk", "stats", "script"]
+COMMANDS = ["serve", "snd", "rcv", "ipcs", "ipcrm", "ipcmk", "save", "load", "stats", "script"]
 ABOUT = {"--help", "--version"}
 SLOTS = 256
 MOST_AT_ONCE = 16384

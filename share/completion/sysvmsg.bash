@@ -4,12 +4,14 @@
 # The options of a server with which sysvmsg-serve can be called too.
 _sysvmsg_server="--mode --replace --blocks --workers --at-once --sessions --idle --stall --drain --hold --stats"
 
-_sysvmsg_commands="serve snd rcv ipcs ipcrm ipcmk stats script"
+_sysvmsg_commands="serve snd rcv ipcs ipcrm ipcmk save load stats script"
 
 # Prints the options of a command, or the commands if the word is not a command.
 _sysvmsg_words() {
     local credentials="--stderr --me --uid --gid --pid"
     case $1 in
+    save) echo "--wait --me --uid --gid --pid --help --version" ;;
+    load) echo "--from --into --adopt --nowait --wait --me --uid --gid --pid --help --version" ;;
     stats) echo "--json --wait --stderr --help --version" ;;
     script) echo "--help --version" ;;
     serve) echo "$_sysvmsg_server --until-eof --help --version" ;;

@@ -33,14 +33,17 @@ complete $bare -a rcv -d 'Receive a message and print its body'
 complete $bare -a ipcs -d 'Print a table of the queues'
 complete $bare -a ipcrm -d 'Remove a queue, or all'
 complete $bare -a ipcmk -d 'Make a queue and print its identifier'
+complete $bare -a save -d 'Print all queues and take their messages'
+complete $bare -a load -d 'Make the queues that save printed'
 complete $bare -a stats -d 'Print the state of a server'
 complete $bare -a script -d 'Run the script on standard input'
 complete $bare -a help -d 'Print the help of a command'
 complete -c sysvmsg -n '__sysvmsg_is help' -f
-complete -c sysvmsg -n '__sysvmsg_is help; and __sysvmsg_has_words 2' -a 'serve snd rcv ipcs ipcrm ipcmk stats script'
+complete -c sysvmsg -n '__sysvmsg_is help; and __sysvmsg_has_words 2' -a 'serve snd rcv ipcs ipcrm ipcmk save load stats script'
 
-set -l clients -c sysvmsg -n '__sysvmsg_is snd rcv ipcs ipcrm ipcmk'
-complete $clients -l stderr -d 'Print errors on standard error'
+complete -c sysvmsg -n '__sysvmsg_is snd rcv ipcs ipcrm ipcmk' -l stderr -d 'Print errors on standard error'
+
+set -l clients -c sysvmsg -n '__sysvmsg_is snd rcv ipcs ipcrm ipcmk save load'
 complete $clients -l me -d 'Your own IDs by default'
 complete $clients -l uid -x -d "The caller's user ID"
 complete $clients -l gid -x -d "The caller's group ID"
@@ -107,6 +110,15 @@ complete -c sysvmsg -n '__sysvmsg_is ipcrm' -l wait -x -d 'Wait for each reply a
 complete -c sysvmsg -n '__sysvmsg_is ipcmk' -l mode -x -d 'The mode of the queue'
 complete -c sysvmsg -n '__sysvmsg_is ipcmk' -l qbytes -x -d 'The maximum number of queued bytes'
 complete -c sysvmsg -n '__sysvmsg_is ipcmk' -l wait -x -d 'Wait for each reply at most this time'
+
+complete -c sysvmsg -n '__sysvmsg_is save' -l wait -x -d 'Wait for each reply at most this time'
+
+set -l load -c sysvmsg -n '__sysvmsg_is load'
+complete $load -l from -x -d 'Begin at this line'
+complete $load -l into -d 'Use a queue that has the key already'
+complete $load -l adopt -d 'Make queues of other creators too'
+complete $load -l nowait -d 'Fail with EAGAIN if there is no room'
+complete $load -l wait -x -d 'Wait at most this time for room'
 
 complete -c sysvmsg -n '__sysvmsg_is stats' -l json -d 'Print a JSON object'
 complete -c sysvmsg -n '__sysvmsg_is stats' -l stderr -d 'Print errors on standard error'

@@ -35,7 +35,7 @@ pub record Clears (cred : Cred) (left rest taken more : Option (List ℕ)) (befo
   pub reports : reported ≡ before ++ refusals_of (first ∷ calls)
 
 -- An error has a number above 0.
-no_refusal : (why : Errno) → ¬ (error_number (content.Refused why) ≡ 0)
+pub no_refusal : (why : Errno) → ¬ (error_number (content.Refused why) ≡ 0)
 no_refusal error.EPERM is = absurd (omega (arith, is))
 no_refusal error.ENOENT is = absurd (omega (arith, is))
 no_refusal error.E2BIG is = absurd (omega (arith, is))

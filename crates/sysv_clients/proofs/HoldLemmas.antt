@@ -31,7 +31,7 @@ use Rattle.sysv_wire.specs.Replies.{reply_encoding}
 use Rattle.sysv_wire.specs.Requests.{request_encoding}
 
 -- The frame of a request with a body, as the code writes it.
-abbrev frame : Ask → List ℕ → List ℕ
+abbrev pub frame : Ask → List ℕ → List ℕ
 frame ask text = request_encoding (request_in Three ask) text
 
 -- A request that is this one.

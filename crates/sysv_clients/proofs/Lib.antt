@@ -4,6 +4,7 @@ pub mod WordLemmas
 pub mod Parses
 pub mod CallLemmas
 pub mod StreamLemmas
+pub mod WindowLemmas
 pub mod SendLemmas
 pub mod ClearLemmas
 mod RefusalLemmas
@@ -11,5 +12,9 @@ mod LineLemmas
 mod ObjectLemmas
 mod StatedLemmas
 mod HoldLemmas
+mod SaveLemmas
+mod SavedLemmas
+mod EntryLemmas
+mod LoadLemmas
 mod JsonLemmas
 mod CopyLemmas

@@ -30,7 +30,7 @@ use Rattle.sysv_wire.specs.declared.request.Ask.TheVariants.{Hello, Row}
 use Rattle.sysv_wire.specs.Frames.{op_number}
 use Rattle.sysv_wire.specs.Replies.{IsAnswer}
 use Rattle.sysv_wire.specs.Requests.{op_of, request_encoding}
-use Rattle.sysv_clients.proofs.SendLemmas.{between, between_first, between_second}
+use Rattle.sysv_clients.proofs.WindowLemmas.{between, between_first, between_second}
 use Rattle.sysv_clients.proofs.DialogueLemmas.{Conversing, blamed, breaks_ahead, finishes, goes_on, no_line_ahead}
 
 -- The request for the row of a slot is in its place.

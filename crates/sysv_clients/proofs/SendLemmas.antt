@@ -3,16 +3,17 @@ use Rattle.std.proofs.Common.{◌≡◌, ℕ, ℤ, pos, List, [], ◌∷◌, ◌
 use Rattle.std.proofs.Common.{w32, w64, of_z, to_z, FitsSigned}
 use Rattle.std.proofs.lemmas.Int.{to_z-of_z}
 use Rattle.std.proofs.Common.{Result, true, false, subst, ◌∙◌, length, suc, ◌+◌, ◌<◌, append_assoc}
-use Rattle.std.proofs.Common.{append-nil, arith}
+use Rattle.std.proofs.Common.{◌≤◌, append-nil, arith}
 use Rattle.std.proofs.lemmas.List.{length-append, map-append}
 use Rattle.std.proofs.lemmas.List.Concat.{flat_map-append}
-use Rattle.std.specs.Prelude.{⊤, ◌⊎◌, IfErr, Bool, if◌then◌else◌}
+use Rattle.std.specs.Prelude.{⊤, ◌⊎◌, IfErr, OnOk, Bool, if◌then◌else◌}
 use Rattle.sysv_clients.specs.declared.sending.TheConstants.{WINDOW}
 use Rattle.std.specs.declared.io.ErrorKind.{ErrorKind}
 use Rattle.std.specs.Io.KnownBytes.{Appends, Consumes, Keeps, append_known, prepend_known}
 use Rattle.std.proofs.KnownBytes.{Appends-nil, Appends-trans, Consumes-nil, Consumes-trans}
 use Rattle.sysv_clients.specs.declared.fault.ClientFault.{ClientFault}
 use Rattle.sysv_clients.specs.declared.fault.ClientFault.TheVariants.{Refused, NoReply, NoMemory}
+use Rattle.sysv_clients.specs.declared.sending.Cut.{Cut as ACut}
 use Rattle.sysv_clients.specs.declared.sending.Sending.{Sending}
 use Rattle.sysv_clients.specs.declared.sending.Unsent.{Unsent}
 use Rattle.sysv_clients.specs.declared.sending.Unsent.TheVariants.{Fault, Cut, Long, NoObject, Memory, Many, Input}
@@ -20,7 +21,7 @@ use Rattle.sysv_clients.specs.declared.sending.Window.{Window}
 use Rattle.sysv_clients.specs.declared.sending.Wording.{Wording}
 use Rattle.sysv_clients.specs.declared.input_lines.Fetched.{Fetched}
 use Rattle.sysv_clients.specs.declared.input_lines.Fetched.TheVariants.{Line, Last, Nothing}
-use Rattle.sysv_clients.specs.Asks.{request_of}
+use Rattle.sysv_clients.specs.Asks.{flags_to_wait, request_of}
 use Rattle.sysv_clients.specs.Calls.{BreaksPlan, Call, Each, IsCallDone, Made, id_in, read_by, written_by}
 use Rattle.sysv_clients.specs.Lines.{FailsBy, Fetches, HasNone, IsNext, is_line, is_nothing}
 use Rattle.sysv_clients.specs.Sending.{SendsAhead, AreDone, AreSends, EndsReplies, EndsSends, HasReply, IsNextSend}
@@ -28,8 +29,12 @@ use Rattle.sysv_clients.specs.Sending.{SendsAll, Sent, a_send, find_to_send, fra
 use Rattle.sysv_clients.specs.Sending.{window_of}
 use Rattle.sysv_clients.specs.Stated.{States, line_most}
 use Rattle.sysv_clients.specs.Dialogue.{Exchanges, HasNoReply, Hears, IsDone, id_after, reply_to}
-use Rattle.sysv_clients.specs.Window.{EndsCut, EndsLines, IsCut, Opens, ReadsMessage, Sends, lost}
-use Rattle.sysv_clients.proofs.CallLemmas.{call_of, done_more, none_made, read_more, written_more}
+use Rattle.sysv_clients.specs.Window.{AreSnds, Drains, EndsCut, EndsLines, HearsCut, HearsDone, HearsSends, IsCut}
+use Rattle.sysv_clients.specs.Window.{Opens, ReadsMessage, Sends, lost}
+use Rattle.sysv_clients.proofs.CallLemmas.{call_of, done_more, none_made}
+use Rattle.sysv_clients.proofs.WindowLemmas.{all_answered, between, between_first, between_second, cut_by, each_both}
+use Rattle.sysv_clients.proofs.WindowLemmas.{frames_both, frames_of_calls, length_sent, no_replies, read_both}
+use Rattle.sysv_clients.proofs.WindowLemmas.{sent_both, snds_after, written_both}
 use Rattle.sysv_model.specs.Writing.{AppendsPrefix}
 use Rattle.sysv_wire.specs.declared.reply.ReplyContent.{ReplyContent}
 use Rattle.sysv_wire.specs.declared.request.Ask.{Ask}
@@ -204,7 +209,7 @@ begins sending window left rest taken more fed (opened, made, found, is, none, f
 }
 
 -- The next line after nothing more was read.
-next_after : (most : ℕ) (text : List ℕ) (fed mid rest : Option (List ℕ)) → Consumes fed mid []
+pub next_after : (most : ℕ) (text : List ℕ) (fed mid rest : Option (List ℕ)) → Consumes fed mid []
     → IsNext most text mid rest → IsNext most text fed rest
 next_after most text fed mid rest none (is, inl whole) =
     (is, inl (Consumes-trans fed mid rest [] (text ++ 10 ∷ []) none whole))
@@ -273,220 +278,152 @@ sends_more sending one left rest taken more most fed unsent now window so_far ne
       few = omega (arith, room);
     }
 
-pub each_more : (Passes : Call → Type 0) (calls : List Call) (one : Call) → Each Passes calls → Passes one →
-    Each Passes (calls ++ one ∷ [])
-each_more Passes [] one each passes = (passes, tt)
-each_more Passes (first ∷ others) one each passes = (each.0, each_more Passes others one each.1 passes)
+-- Requests that the lines want are sends.
+are_snds : (sending : Sending) (found : ℤ) (sents : List Sent) (fed rest : Option (List ℕ))
+    → AreSends sending found sents fed rest → AreSnds sents
+are_snds sending found [] fed rest lines = tt
+are_snds sending found (first ∷ more) fed rest lines = (
+  (found, lines.1.mtype, flags_to_wait sending.nowait, lines.1.is),
+  are_snds sending found more lines.0 rest lines.2,
+)
 
--- The first of the sends on their way, and the others.
-pub record First (sents : List Sent) : Type 0 where
-  pub one : Sent
-  pub others : List Sent
-  pub split : sents ≡ one ∷ others
+-- Those on their way are.
+pub on_way : (sending : Sending) (left rest taken more fed unsent : Option (List ℕ)) (window : Window)
+    (so_far : Sends sending left rest taken more fed unsent window) → AreSnds so_far.waiting
+on_way sending left rest taken more fed unsent window so_far =
+    snds_after (sent_by so_far.sends) so_far.waiting
+    (are_snds sending (id_in so_far.opened) (sent_by so_far.sends ++ so_far.waiting) fed unsent so_far.lines)
 
-pub first_of : (sents : List Sent) (n : ℕ) → n ≡ length sents → 0 < n → First sents
-first_of [] n is some = absurd (omega (arith, is, some))
-first_of (one ∷ others) n is some = record { one = one; others = others; split = refl }
-
--- The request of a call.
-abbrev pub sent_of : Call → Sent
-sent_of call = record { ask = call.ask; text = call.text }
-
-pub sent_more : (sends : List Call) (one : Call) (others : List Sent) →
-    sent_by sends ++ sent_of one ∷ others ≡ sent_by (sends ++ one ∷ []) ++ others
-sent_more sends one others =
-    sym (append_assoc (sent_by sends) (sent_of one ∷ []) others)
-    ∙ ap (λ l. l ++ others) (sym (map-append (λ (c : Call). sent_of c) sends (one ∷ [])))
-
--- The frames of the calls with one more, and of the sends after it.
-pub written_so : (opened sends : List Call) (one : Call) (others : List Sent)
-    → written_by (opened ++ sends) ++ frames_of (sent_of one ∷ others)
-    ≡ written_by (opened ++ (sends ++ one ∷ [])) ++ frames_of others
-written_so opened sends one others =
-    sym (append_assoc (written_by (opened ++ sends)) (request_encoding (request_of one.ask) one.text)
-    (frames_of others))
+-- What was written, if some of the sends on their way have their replies.
+pub written_so : (opened sends calls : List Call) (waiting others : List Sent) → waiting ≡ sent_by calls ++ others
+    → written_by (opened ++ sends) ++ frames_of waiting
+    ≡ written_by (opened ++ (sends ++ calls)) ++ frames_of others
+written_so opened sends calls waiting others split =
+    ap (λ (l : List Sent). written_by (opened ++ sends) ++ frames_of l) split
+    ∙ ap (λ l. written_by (opened ++ sends) ++ l)
+    (frames_both (sent_by calls) others ∙ ap (λ l. l ++ frames_of others) (frames_of_calls calls))
+    ∙ sym (append_assoc (written_by (opened ++ sends)) (written_by calls) (frames_of others))
     ∙ ap (λ l. l ++ frames_of others)
-    (sym (written_more (opened ++ sends) one) ∙ ap written_by (append_assoc opened sends (one ∷ [])))
+    (sym (written_both (opened ++ sends) calls) ∙ ap written_by (append_assoc opened sends calls))
 
-pub read_so : (opened sends : List Call) (one : Call) →
-    read_by (opened ++ (sends ++ one ∷ []))
-    ≡ read_by (opened ++ sends) ++ reply_encoding (reply_to one.ask one.answer) one.given
-read_so opened sends one =
-    ap read_by (sym (append_assoc opened sends (one ∷ []))) ∙ read_more (opened ++ sends) one
+pub read_with : (opened sends calls : List Call) →
+    read_by (opened ++ (sends ++ calls)) ≡ read_by (opened ++ sends) ++ read_by calls
+read_with opened sends calls =
+    ap read_by (sym (append_assoc opened sends calls)) ∙ read_both (opened ++ sends) calls
 
--- A request that sends a message.
-pub record IsSend (ask : Ask) : Type 0 where
-  pub sending : Sending
-  pub found : ℤ
-  pub mtype : ℤ
-  pub is : ask ≡ send_ask sending found mtype
+-- The same requests, of which more have their replies.
+pub sent_with : (sends calls : List Call) (waiting others : List Sent) → waiting ≡ sent_by calls ++ others
+    → sent_by sends ++ waiting ≡ sent_by (sends ++ calls) ++ others
+sent_with sends calls waiting others split =
+    ap (λ (l : List Sent). sent_by sends ++ l) split
+    ∙ sym (append_assoc (sent_by sends) (sent_by calls) others)
+    ∙ ap (λ (l : List Sent). l ++ others) (sym (sent_both sends calls))
 
--- The request that the next line wants is a send.
-are_sends : (sending : Sending) (found : ℤ) (before : List Sent) (one : Sent) (others : List Sent)
-    (fed rest : Option (List ℕ)) → AreSends sending found (before ++ one ∷ others) fed rest → IsSend one.ask
-are_sends sending found [] one others fed rest lines =
-    record { sending = sending; found = found; mtype = lines.1.mtype; is = lines.1.is }
-are_sends sending found (first ∷ more) one others fed rest lines =
-    are_sends sending found more one others lines.0 rest lines.2
+-- Nothing more was written.
+pub same_written : (taken more most : Option (List ℕ)) (bytes : List ℕ) → Appends taken more bytes
+    → Appends more most [] → Appends taken most bytes
+same_written taken more most bytes wrote kept =
+    subst (Appends taken most) (append-nil bytes) (Appends-trans taken more most bytes [] wrote kept)
 
--- The first send on its way is a send.
-pub first_is : (sending : Sending) (found : ℤ) (sends : List Call) (waiting : List Sent) (first : First waiting)
-    (fed rest : Option (List ℕ)) → AreSends sending found (sent_by sends ++ waiting) fed rest → IsSend first.one.ask
-first_is sending found sends waiting first fed rest lines =
-    are_sends sending found (sent_by sends) first.one first.others fed rest
-    (subst (λ (l : List Sent). AreSends sending found (sent_by sends ++ l) fed rest) first.split lines)
-
--- The reply to a send is one to this send.
-pub replied_so : (ask : Ask) (answer : ReplyContent) (given : List ℕ) (left rest : Option (List ℕ)) → IsSend ask
-    → Consumes left rest (reply_encoding (reply_to a_send answer) given)
-    → Consumes left rest (reply_encoding (reply_to ask answer) given)
-replied_so ask answer given left rest send read =
-    subst (λ (a : Ask). Consumes left rest (reply_encoding (reply_to a answer) given)) (sym send.is) read
-
--- A send was done.
-pub done_so : (ask : Ask) (answer : ReplyContent) (given : List ℕ) → IsSend ask → IsDone a_send answer given
-    → IsDone ask answer given
-done_so ask answer given send done =
-    subst (λ (a : Ask). IsDone a answer given) (sym send.is)
-    (record { fits = done.fits; text = done.text; done = done.done })
-
--- One more reply was read.
-pub hears_more : (sending : Sending) (answer : ReplyContent) (given : List ℕ)
-    (left mid rest taken more fed unsent : Option (List ℕ)) (window : Window) (fewer : ℕ)
-    → Sends sending left mid taken more fed unsent window → window.waiting ≡ fewer + 1
-    → Hears a_send (Ok answer) mid rest given
-    → Sends sending left rest taken more fed unsent
-    (record { id = window.id; done = window.done + 1; waiting = fewer })
-hears_more sending answer given left mid rest taken more fed unsent window fewer so_far some heard =
+-- More replies were read.
+pub hears_sends : (sending : Sending) (left mid rest taken more most fed unsent : Option (List ℕ))
+    (before after : Window) (so_far : Sends sending left mid taken more fed unsent before)
+    → HearsDone so_far.waiting mid rest before after → Appends more most []
+    → Sends sending left rest taken most fed unsent after
+hears_sends sending left mid rest taken more most fed unsent before after so_far heard kept =
     let found = id_in so_far.opened in
-    let first = first_of so_far.waiting window.waiting so_far.waits (omega (arith, some)) in
-    let one = call_of first.one.ask first.one.text answer given in
-    let send = first_is sending found so_far.sends so_far.waiting first fed unsent so_far.lines in
-    let long : window.waiting ≡ suc (length first.others) =
-    so_far.waits ∙ ap (λ (l : List Sent). length l) first.split in
+    let parts = ap (λ (l : List Sent). length l) heard.split
+    ∙ length-append (sent_by heard.calls) heard.others in
     record {
       opened = so_far.opened;
-      sends = so_far.sends ++ one ∷ [];
-      waiting = first.others;
+      sends = so_far.sends ++ heard.calls;
+      waiting = heard.others;
       follows = so_far.follows;
       found = so_far.found;
-      id = so_far.id;
-      done = each_more IsCallDone so_far.sends one so_far.done (done_so first.one.ask answer given send heard.1);
-      reads = subst (Consumes left rest) (sym (read_so so_far.opened so_far.sends one))
-          (Consumes-trans left mid rest _ _ so_far.reads
-          (replied_so first.one.ask answer given mid rest send heard.0));
-      writes = subst (Appends taken more)
-          (ap (λ (l : List Sent). written_by (so_far.opened ++ so_far.sends) ++ frames_of l) first.split
-          ∙ written_so so_far.opened so_far.sends one first.others) so_far.writes;
+      id = heard.id ∙ so_far.id;
+      done = each_both IsCallDone so_far.sends heard.calls so_far.done heard.done;
+      reads = subst (Consumes left rest) (sym (read_with so_far.opened so_far.sends heard.calls))
+          (Consumes-trans left mid rest _ _ so_far.reads heard.reads);
+      writes = subst (Appends taken most)
+          (written_so so_far.opened so_far.sends heard.calls so_far.waiting heard.others heard.split)
+          (same_written taken more most _ so_far.writes kept);
       lines = subst (λ l. AreSends sending found l fed unsent)
-          (ap (λ (l : List Sent). sent_by so_far.sends ++ l) first.split
-          ∙ sent_more so_far.sends one first.others) so_far.lines;
-      many = ap (λ (n : ℕ). n + 1) so_far.many ∙ sym (length-append so_far.sends (one ∷ []));
-      waits = omega (arith, long, some);
-      few = omega (arith, so_far.few, some);
+          (sent_with so_far.sends heard.calls so_far.waiting heard.others heard.split) so_far.lines;
+      many = let both = length-append so_far.sends heard.calls in
+          omega (arith, both, heard.many, so_far.many);
+      waits = heard.waits;
+      few = omega (arith, parts, heard.waits, so_far.waits, so_far.few);
     }
 
--- What a writer had taken between two parts.
-abbrev pub between : Option (List ℕ) → List ℕ → Option (List ℕ)
-between taken first = append_known taken first
-
-pub between_first : (taken : Option (List ℕ)) (first : List ℕ) → Appends taken (between taken first) first
-between_first None first = tt
-between_first (Some bytes) first = refl
-
-pub between_second : (taken more : Option (List ℕ)) (first second : List ℕ) → Appends taken more (first ++ second) →
-    Appends (between taken first) more second
-between_second None more first second both = tt
-between_second (Some bytes) None first second both = absurd both
-between_second (Some bytes) (Some all) first second both = both ∙ sym (append_assoc bytes first second)
-
-pub all_answered : (sends : List Call) → Each IsCallDone sends → Each HasReply sends
-all_answered [] each = tt
-all_answered (one ∷ others) each = (inl each.0, all_answered others each.1)
-
--- The sends on their way have no reply.
-no_more_replies : (sending : Sending) (left mid rest taken more most fed unsent unfed : Option (List ℕ))
-    (window : Window) (so_far : Sends sending left mid taken more fed unsent window)
-    → 0 < window.waiting
-    → EndsReplies so_far.waiting mid rest
-    (between taken (written_by (so_far.opened ++ so_far.sends))) most
-    → SendsAll sending (Err (Cut (lost window))) left rest taken most fed unfed
-no_more_replies sending left mid rest taken more most fed unsent unfed window so_far some ends =
-    let calls = so_far.opened ++ so_far.sends in
+-- A send ends the session.
+pub cuts_sends : (sending : Sending) (left mid rest taken more most fed unsent : Option (List ℕ)) (before : Window)
+    (cut : ACut) (so_far : Sends sending left mid taken more fed unsent before)
+    → HearsCut so_far.waiting mid rest before cut → Appends more most []
+    → EndsCut sending (Cut cut) left rest taken most fed
+cuts_sends sending left mid rest taken more most fed unsent before cut so_far heard kept unfed =
+    let found = id_in so_far.opened in
+    let sends = so_far.sends ++ heard.calls in
+    let calls = so_far.opened ++ sends in
+    let parts = ap (λ (l : List Sent). length l) heard.split
+    ∙ length-append (sent_by heard.calls) heard.others in
+    let wrote : Appends taken most (written_by calls ++ frames_of heard.others) =
+    subst (Appends taken most)
+    (written_so so_far.opened so_far.sends heard.calls so_far.waiting heard.others heard.split)
+    (same_written taken more most _ so_far.writes kept) in
+    let later = between_second taken most (written_by calls) (frames_of heard.others) wrote in
     record {
       opened = so_far.opened;
-      sends = so_far.sends;
-      waiting = so_far.waiting;
-      unread = mid;
+      sends = sends;
+      waiting = heard.others;
+      unread = heard.unread;
       written = between taken (written_by calls);
       unsent = unsent;
       follows = so_far.follows;
-      answered = all_answered so_far.sends so_far.done;
-      few = omega (arith, so_far.few, so_far.waits);
-      reads = so_far.reads;
+      answered = each_both HasReply so_far.sends heard.calls (all_answered so_far.sends so_far.done) heard.answered;
+      few = omega (arith, parts, so_far.waits, so_far.few);
+      reads = subst (Consumes left heard.unread) (sym (read_with so_far.opened so_far.sends heard.calls))
+          (Consumes-trans left mid heard.unread _ _ so_far.reads heard.reads);
       writes = between_first taken (written_by calls);
-      lines = so_far.lines;
+      lines = subst (λ l. AreSends sending found l fed unsent)
+          (sent_with so_far.sends heard.calls so_far.waiting heard.others heard.split) so_far.lines;
       ends = record {
         found = so_far.found;
-        by = (so_far.done, so_far.many, refl, some);
-        unknown = so_far.waits;
-        ends = ends;
+        by = cut_by cut.fault cut so_far.sends heard.calls cut.before heard.own so_far.done
+            (omega (arith, heard.counted, so_far.many)) heard.by;
+        unknown = heard.unknown;
+        ends = no_replies heard.others heard.unread rest (between taken (written_by calls)) most heard.ends later;
       };
     }
 
--- What was read is no reply.
-pub loses_reply : (sending : Sending) (left mid rest taken more fed unsent : Option (List ℕ)) (window : Window)
-    → Sends sending left mid taken more fed unsent window → 0 < window.waiting
-    → HasNoReply a_send mid rest
-    → EndsCut sending (Cut (lost window)) left rest taken more fed
-loses_reply sending left mid rest taken more fed unsent window so_far some none unfed =
-    let calls = so_far.opened ++ so_far.sends in
-    no_more_replies sending left mid rest taken more more fed unsent unfed window so_far some
-    (inr (inr (between_second taken more (written_by calls) (frames_of so_far.waiting) so_far.writes, none)))
-
--- The writer failed as the sends were flushed.
-pub loses_flush : (sending : Sending) (left rest taken more most fed unsent : Option (List ℕ)) (window : Window)
-    → Sends sending left rest taken more fed unsent window → 0 < window.waiting → Appends more most []
-    → EndsCut sending (Cut (lost window)) left rest taken most fed
-loses_flush sending left rest taken more most fed unsent window so_far some kept unfed =
-    let calls = so_far.opened ++ so_far.sends in
-    let frames = frames_of so_far.waiting in
-    let wrote : Appends taken most (written_by calls ++ frames) =
-    subst (Appends taken most) (append-nil (written_by calls ++ frames))
-    (Appends-trans taken more most _ [] so_far.writes kept) in
-    no_more_replies sending left rest rest taken more most fed unsent unfed window so_far some
-    (inr (inl (
-      (frames, ([], sym (append-nil frames)), between_second taken most (written_by calls) frames wrote),
-      refl,
-    )))
-
--- The flush changes nothing.
-pub flushed : (sending : Sending) (left rest taken more most fed unsent : Option (List ℕ)) (window : Window)
-    → Sends sending left rest taken more fed unsent window → Appends more most []
-    → Sends sending left rest taken most fed unsent window
-flushed sending left rest taken more most fed unsent window so_far kept =
-    let calls = so_far.opened ++ so_far.sends in
-    record {
-      opened = so_far.opened;
-      sends = so_far.sends;
-      waiting = so_far.waiting;
-      follows = so_far.follows;
-      found = so_far.found;
-      id = so_far.id;
-      done = so_far.done;
-      reads = so_far.reads;
-      writes = subst (Appends taken most) (append-nil (written_by calls ++ frames_of so_far.waiting))
-          (Appends-trans taken more most _ [] so_far.writes kept);
-      lines = so_far.lines;
-      many = so_far.many;
-      waits = so_far.waits;
-      few = so_far.few;
-    }
-
-pub keeps_appends : (a b : Option (List ℕ)) → Keeps a b → Appends a b []
-keeps_appends None b kept = tt
-keeps_appends (Some bytes) None kept = absurd kept
-keeps_appends (Some bytes) (Some same) kept = kept ∙ sym (append-nil bytes)
+-- The replies to the sends on their way were read, as the window says.
+pub drains : (sending : Sending) (result : Result ⊤ Unsent) (keep : ℕ)
+    (left mid rest taken more most fed unsent : Option (List ℕ)) (before after : Window)
+    (so_far : Sends sending left mid taken more fed unsent before)
+    → HearsSends result so_far.waiting mid rest before after → Appends more most []
+    → OnOk result (after.waiting ≤ keep)
+    → Drains sending result keep left rest taken most fed unsent before after
+drains sending (Ok tt) keep left mid rest taken more most fed unsent before after so_far heard kept few =
+    let parts = ap (λ (l : List Sent). length l) heard.split
+    ∙ length-append (sent_by heard.calls) heard.others in
+    let same = length_sent heard.calls in (
+      hears_sends sending left mid rest taken more most fed unsent before after so_far heard kept,
+      few,
+      omega (arith, parts, same, heard.many, heard.waits, so_far.waits),
+    )
+drains sending (Err (Cut cut)) keep left mid rest taken more most fed unsent before after so_far heard kept few =
+    cuts_sends sending left mid rest taken more most fed unsent before cut so_far heard kept
+drains sending (Err (Fault why)) keep left mid rest taken more most fed unsent before after so_far heard kept few =
+    absurd heard
+drains sending (Err (Long lines)) keep left mid rest taken more most fed unsent before after so_far heard kept few =
+    absurd heard
+drains sending (Err (NoObject lines)) keep left mid rest taken more most fed unsent before after so_far heard kept few =
+    absurd heard
+drains sending (Err (Memory lines)) keep left mid rest taken more most fed unsent before after so_far heard kept few =
+    absurd heard
+drains sending (Err Many) keep left mid rest taken more most fed unsent before after so_far heard kept few =
+    absurd heard
+drains sending (Err (Input why)) keep left mid rest taken more most fed unsent before after so_far heard kept few =
+    absurd heard
 
 -- The writer failed in a send.
 pub loses_write : (sending : Sending) (one : Sent) (left rest taken more most fed unsent now : Option (List ℕ))

@@ -23,7 +23,7 @@ use Rattle.sysv_clients.specs.Taking.{Finds, IsTaken, MeetsFault, ShowsBut, Show
 use Rattle.sysv_clients.specs.Taking.{ended_by, first_fault}
 use Rattle.sysv_clients.specs.Dialogue.{Exchanges, HasNoReply, IsDone, id_after, reply_to}
 use Rattle.sysv_clients.proofs.CallLemmas.{call_of, done_more, none_made, written_more}
-use Rattle.sysv_clients.proofs.SendLemmas.{between, between_first, between_second, each_more, read_so}
+use Rattle.sysv_clients.proofs.WindowLemmas.{between, between_first, between_second, each_more, read_so}
 use Rattle.sysv_model.specs.declared.errno.Errno.{Errno}
 use Rattle.sysv_model.specs.Writing.{AppendsPrefix}
 use Rattle.sysv_wire.specs.declared.reply.ReplyContent.{ReplyContent}

@@ -24,3 +24,7 @@ pub mod Sending
 pub mod Window
 pub mod Clearing
 pub mod Copies
+pub mod Saved
+pub mod Saving
+pub mod Loading
+pub mod Loaded

@@ -20,3 +20,7 @@ IsHexKey word key = (digits : List ℕ) × (word ≡ 48 ∷ 120 ∷ digits) × I
 -- A key, in decimal or by its bits, but not key 0.
 abbrev pub IsKey : List ℕ → ℤ → Type 0
 IsKey word key = (IsId word key ⊎ IsHexKey word key) × (key ≢ pos 0)
+
+-- The mode of a queue, as its line in a table or a file has it: three octal digits.
+abbrev pub IsPerms : List ℕ → ℕ → Type 0
+IsPerms word mode = IsNumeral 8 word × (length word ≡ 3) × (mode ≡ digits_value 8 word)

@@ -77,7 +77,7 @@ impl Clearing {
 }
 
 /// Returns the identifier of the queue in a row, if there is one.
-fn id_of_row(answer: &ReplyContent) -> Option<i32>
+pub(crate) fn id_of_row(answer: &ReplyContent) -> Option<i32>
     ensures { result ≡ id_of_row answer.now }
 {
     match answer {
@@ -112,7 +112,7 @@ fn tried(
 }
 
 /// Appends a refusal, unless the queue is gone. Fails with `NoMemory` if allocation fails.
-fn report(refusals: &mut Vec<Refusal>, id: i32, error: Errno) -> Result<(), NoMemory>
+pub(crate) fn report(refusals: &mut Vec<Refusal>, id: i32, error: Errno) -> Result<(), NoMemory>
     ensures { OnOk result (refusals.new.items ≡ refusals.old.items ++ refusal_by id error) }
 {
     if is_gone(error) {

@@ -300,7 +300,7 @@ pub(crate) fn create_flags() -> Flags
 }
 
 /// Returns `IPC_CREAT` and `IPC_EXCL` with this mode.
-fn make_flags(mode: u32) -> Flags
+pub(crate) fn make_flags(mode: u32) -> Flags
     ensures { result ≡ flags_to_make mode }
 {
     Flags::IPC_CREAT

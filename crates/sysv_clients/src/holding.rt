@@ -23,7 +23,7 @@ use sysv_wire::{Ask, ReplyContent, Version};
 use thiserror::Error;
 
 /// The version of the frames in which messages can be held.
-const HELD: Version = Version::Three;
+pub(crate) const HELD: Version = Version::Three;
 
 /// Why a session of holds ends early.
 #[derive(Clone, Copy, PartialEq, Eq, Debug, Error)]

@@ -3,6 +3,7 @@
 ghost use Rattle.std.specs.Prelude.{◌≡◌, ◌+◌, ◌-◌, ◌≤◌, ◌<◌, [], ◌∷◌, ◌++◌, ℕ, codes, length, max};
 ghost use Rattle.sysv_clients.specs.Table.{column, glyph, hex_byte, key_text, mode_text, row_line};
 ghost use Rattle.sysv_clients.specs.Queue.{count_lines, field_line, id_line, json_counts, json_line, json_owner, owner_lines, stat_lines, time_lines};
+ghost use Rattle.sysv_clients.specs.Saved.{number_text, queue_text, saved_counts, saved_perm};
 
 use itoa::{Buffer, Integer};
 use std::marker::Model;
@@ -188,6 +189,59 @@ impl Line {
         self.put(b",\"messages\":");
         self.digits(row.qnum);
         self.put(b"}\n");
+    }
+
+    /// Writes the line of a queue in a file, and an LF, on an empty line.
+    #[tactic(auto, using(std::proofs::Common::append_assoc), unfolding(crate::specs::Saved::queue_text))]
+    pub(crate) fn saved(&mut self, id: i32, stat: &Stat)
+        requires { length self.old ≡ 0 }
+        ensures { self.new ≡ self.old ++ queue_text id stat.now }
+    {
+        self.put(b"{\"key\":\"");
+        self.key(stat.key);
+        self.put(b"\",\"msqid\":");
+        self.digits(id);
+        self.saved_perm(&stat.perm);
+        self.saved_counts(stat);
+    }
+
+    /// Appends the owner, the creator and the mode of a queue in a file.
+    #[tactic(auto, using(std::proofs::Common::append_assoc), unfolding(crate::specs::Saved::saved_perm))]
+    fn saved_perm(&mut self, perm: &Perm)
+        requires { length self.old + 87 ≤ MAX_LINE }
+        ensures after { self.new ≡ self.old ++ saved_perm perm.now }
+        ensures len { length self.new ≤ length self.old + 87 }
+    {
+        self.member(b",\"uid\":", perm.uid);
+        self.member(b",\"gid\":", perm.gid);
+        self.member(b",\"cuid\":", perm.cuid);
+        self.member(b",\"cgid\":", perm.cgid);
+        self.put(b",\"perms\":\"");
+        self.put(&octal_digits(perm.mode));
+    }
+
+    /// Appends the limit and the counts of a queue in a file, the end of its object and an LF.
+    #[tactic(auto, using(std::proofs::Common::append_assoc), unfolding(crate::specs::Saved::saved_counts))]
+    fn saved_counts(&mut self, stat: &Stat)
+        requires { length self.old + 66 ≤ MAX_LINE }
+        ensures after { self.new ≡ self.old ++ saved_counts stat.now }
+        ensures len { length self.new ≤ length self.old + 66 }
+    {
+        self.member(b"\",\"qbytes\":", stat.qbytes);
+        self.member(b",\"bytes\":", stat.cbytes);
+        self.member(b",\"messages\":", stat.qnum);
+        self.put(b"}\n");
+    }
+
+    /// Appends a member whose value is a number, from what is before it on.
+    #[tactic(auto, using(std::proofs::Common::append_assoc), unfolding(crate::specs::Saved::number_text))]
+    fn member<I: Integer>(&mut self, name: &[u8], number: I)
+        requires { length self.old + length name.now + I.MAX_STR_LEN ≤ MAX_LINE }
+        ensures after { self.new ≡ self.old ++ number_text name.now (I.text number) }
+        ensures len { length self.new ≤ length self.old + length name.now + I.MAX_STR_LEN }
+    {
+        self.put(name);
+        self.digits(number);
     }
 
     /// Writes an identifier and an LF on an empty line.

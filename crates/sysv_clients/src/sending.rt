@@ -1,7 +1,7 @@
 //! A `snd` of several messages: a session that sends the message that each line of an input states.
 
 ghost use Rattle.std.specs.Prelude.{◌≡◌, ◌⊎◌, ◌+◌, ◌<◌, ◌≤◌, ◌^◌, ℕ, List, Option, [], length, IfErr, IfOk, OnOk};
-ghost use Rattle.std.specs.Io.KnownBytes.{prepend_known};
+ghost use Rattle.std.specs.Io.KnownBytes.{Appends, prepend_known};
 ghost use Rattle.sysv_clients.specs.declared.sending.Heard.TheVariants as heards;
 ghost use Rattle.sysv_clients.specs.declared.sending.Sending.{Sending as ASending};
 ghost use Rattle.sysv_clients.specs.declared.line_text.TheConstants.{LINE_ROOM};
@@ -9,10 +9,10 @@ ghost use Rattle.sysv_clients.specs.declared.sending.TheConstants.{WINDOW};
 ghost use Rattle.sysv_clients.specs.declared.sending.Unsent.TheVariants as unsents;
 ghost use Rattle.sysv_clients.specs.Feed.{failure_of, feed_name, feed_stream};
 ghost use Rattle.sysv_clients.specs.Lines.{FailsBy, Fetches};
-ghost use Rattle.sysv_clients.specs.Sending.{IsNextSend, SendsAhead, SendsAll, a_send, find_to_send, send_ask, unsent_line, window_of};
+ghost use Rattle.sysv_clients.specs.Sending.{IsNextSend, SendsAhead, SendsAll, Sent, a_send, find_to_send, send_ask, unsent_line, window_of};
 ghost use Rattle.json.specs.Scratch.{room};
 ghost use Rattle.sysv_clients.specs.Stated.{line_most, strings_most};
-ghost use Rattle.sysv_clients.specs.Window.{Drains, EndsCut, EndsLines, IsCut, HearsSend, Opens, ReadsMessage, Sends, lost};
+ghost use Rattle.sysv_clients.specs.Window.{AreSnds, Drains, EndsLines, HearsCut, HearsSend, HearsSends, IsCut, Opens, PutsSend, ReadsMessage, Sends, empty, lost};
 ghost use Rattle.sysv_model.specs.Instrumented.{stream_name, stream_of};
 
 use crate::client::found;
@@ -159,7 +159,7 @@ impl Sending {
     }
 
     /// Returns the request that sends a message of this type to the queue with this identifier.
-    fn send(&self, id: i32, mtype: i64) -> Ask
+    pub(crate) fn send(&self, id: i32, mtype: i64) -> Ask
         ensures { result ≡ send_ask self.now id mtype }
     {
         Ask::Snd {
@@ -287,22 +287,22 @@ enum Heard {
 
 /// A client that sends several messages.
 #[derive(Drop)]
-struct Sender {
+pub(crate) struct Sender {
     /// The body that it sends.
-    text: Body,
+    pub(crate) text: Body,
     /// The body that it received last, which is not used.
-    given: Body,
+    pub(crate) given: Body,
     /// What it read of its input and has not sent.
-    chunk: Chunk,
+    pub(crate) chunk: Chunk,
     /// The line that it read last.
-    line: LineText,
+    pub(crate) line: LineText,
     /// The memory for the strings of an object.
-    scratch: Scratch,
+    pub(crate) scratch: Scratch,
 }
 
 impl Sender {
     /// Creates a client that has made no request. Fails with `NoMemory` if allocation fails.
-    fn open(alloc: Global, wording: Wording) -> Result<Sender, NoMemory>
+    pub(crate) fn open(alloc: Global, wording: Wording) -> Result<Sender, NoMemory>
         ensures { IfOk result (λ sender. (sender.text ≡ []) × (sender.chunk ≡ [])) }
     {
         Ok(Sender {
@@ -361,7 +361,7 @@ impl Sender {
     }
 
     /// Reads the next line, after this number of lines.
-    fn fetch<I: Read>(
+    pub(crate) fn fetch<I: Read>(
         &mut self,
         input: &mut Feed<'_, I>,
         wording: Wording,
@@ -430,7 +430,7 @@ impl Sender {
     }
 
     /// Writes this send, whose body was read, and flushes nothing.
-    fn send<W: Write>(
+    pub(crate) fn send<W: Write>(
         &mut self,
         writer: &mut Instrumented<'_, W>,
         window: &mut Window,
@@ -448,6 +448,9 @@ impl Sender {
               done = window.old.done;
               waiting = window.old.waiting + 1;
             }) window.new }
+        ensures puts { PutsSend result (record { ask = ask; text = self.old.text })
+            (W.contents (stream_of writer.old)) (W.contents (stream_of writer.new))
+            window.old window.new }
         ensures len { OnOk result ((window.new.waiting ≡ window.old.waiting + 1)
             × (window.new.done ≡ window.old.done)) }
         ensures cut { IfErr result IsCut }
@@ -463,7 +466,7 @@ impl Sender {
 
     /// Flushes the sends, and reads replies until no more than `keep` of the sends have none. If
     /// no more have none already, it does nothing.
-    fn drain<R: Read, W: Write>(
+    pub(crate) fn drain<R: Read, W: Write>(
         &mut self,
         reader: &mut Instrumented<'_, R>,
         writer: &mut Instrumented<'_, W>,
@@ -476,6 +479,12 @@ impl Sender {
             (W.contents (stream_of writer.old)) fed unsent window.old
             → Drains sending result keep left (R.remaining (stream_of reader.new)) taken
             (W.contents (stream_of writer.new)) fed unsent window.old window.new }
+        ensures hears { (waiting : List Sent) → AreSnds waiting
+            → window.old.waiting ≡ length waiting
+            → HearsSends result waiting (R.remaining (stream_of reader.old))
+            (R.remaining (stream_of reader.new)) window.old window.new }
+        ensures writes { Appends (W.contents (stream_of writer.old))
+            (W.contents (stream_of writer.new)) [] }
         ensures cut { IfErr result IsCut }
         ensures few { OnOk result (window.new.waiting ≤ keep) }
         ensures len { OnOk result (window.new.done + window.new.waiting
@@ -501,10 +510,10 @@ impl Sender {
         keep: u32,
     ) -> Result<(), Unsent>
         requires { window.old.done + window.old.waiting < 2 ^ 64 }
-        ensures drains { (sending : ASending) (left taken more fed unsent : Option (List ℕ)) →
-            Sends sending left (R.remaining (stream_of reader.old)) taken more fed unsent window.old
-            → Drains sending result keep left (R.remaining (stream_of reader.new)) taken more fed
-            unsent window.old window.new }
+        ensures hears { (waiting : List Sent) → AreSnds waiting
+            → window.old.waiting ≡ length waiting
+            → HearsSends result waiting (R.remaining (stream_of reader.old))
+            (R.remaining (stream_of reader.new)) window.old window.new }
         ensures cut { IfErr result IsCut }
         ensures few { OnOk result (window.new.waiting ≤ keep) }
         ensures len { OnOk result (window.new.done + window.new.waiting
@@ -551,11 +560,10 @@ impl Sender {
         error: Errno,
     ) -> Cut
         requires { 0 < window.now.waiting }
-        ensures ends { (sending : ASending) (left mid taken more fed unsent : Option (List ℕ)) →
-            Sends sending left mid taken more fed unsent window.now
-            → HearsSend (heards.Refused error) mid (R.remaining (stream_of reader.old))
-            → EndsCut sending (unsents.Cut result) left (R.remaining (stream_of reader.new))
-            taken more fed }
+        ensures ends { (waiting : List Sent) (left : Option (List ℕ)) → AreSnds waiting
+            → window.now.waiting ≡ length waiting
+            → HearsSend (heards.Refused error) left (R.remaining (stream_of reader.old))
+            → HearsCut waiting left (R.remaining (stream_of reader.new)) window.now result }
         ensures chunk { self.new.chunk ≡ self.old.chunk }
         ensures same_reader { stream_name reader.new ≡ stream_name reader.old }
     {
@@ -603,13 +611,26 @@ impl Sender {
 
 /// The sends of a session.
 #[derive(Clone, Copy)]
-struct Window {
+pub(crate) struct Window {
     /// The identifier of the queue.
-    id: i32,
+    pub(crate) id: i32,
     /// The number of sends that were done.
-    done: u64,
+    pub(crate) done: u64,
     /// The number of sends that were written and have no reply yet.
-    waiting: u32,
+    pub(crate) waiting: u32,
+}
+
+impl Window {
+    /// Returns a window without sends, to no queue yet.
+    pub(crate) fn empty() -> Window
+        ensures { result ≡ empty }
+    {
+        Window {
+            id: 0,
+            done: 0,
+            waiting: 0,
+        }
+    }
 }
 
 /// Returns how a session ends that has no reply to the sends on their way.
@@ -626,7 +647,7 @@ fn lost(window: &Window) -> Cut
 
 /// Returns how many sends may stay on their way once this number is: fewer than a window, and none
 /// if the next line was not read yet. If the window is full, half of it may.
-fn kept(sending: &Sending, waiting: u32, has_line: bool) -> u32
+pub(crate) fn kept(sending: &Sending, waiting: u32, has_line: bool) -> u32
     ensures { result < window_of sending.now }
 {
     if sending.nowait || !has_line {

@@ -102,7 +102,7 @@ fn members_in<'a>(reader: &mut Reader<'a>) -> Option<Members<'a>>
 }
 
 /// Returns whether an object begins next.
-fn opens(reader: &mut Reader<'_>) -> bool
+pub(crate) fn opens(reader: &mut Reader<'_>) -> bool
     ensures { MatchBool result (reader.old ≡ begin_object ∷ reader.new)
         ((rest : List AToken) → ¬ (reader.old ≡ begin_object ∷ rest)) }
 {
@@ -110,7 +110,7 @@ fn opens(reader: &mut Reader<'_>) -> bool
 }
 
 /// Returns whether an object ends next, and nothing follows.
-fn closes(reader: &mut Reader<'_>) -> bool
+pub(crate) fn closes(reader: &mut Reader<'_>) -> bool
     ensures { MatchBool result (reader.old ≡ end_object ∷ []) (¬ (reader.old ≡ end_object ∷ [])) }
 {
     matches!(reader.next(), Some(Token::EndObject)) && reader.next().is_none()

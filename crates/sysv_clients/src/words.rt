@@ -3,7 +3,7 @@
 ghost use Rattle.std.specs.Prelude.{◌≤◌, ℕ, ℤ, MatchOption, length};
 ghost use Rattle.std.specs.Option.{SomeIff};
 ghost use Rattle.std.specs.Str.Parse.{IsNumeral, digits_value};
-ghost use Rattle.sysv_clients.specs.Words.{IsId, IsKey, IsType};
+ghost use Rattle.sysv_clients.specs.Words.{IsHexKey, IsId, IsKey, IsPerms, IsType};
 
 use std::str;
 use sysv_words::Reads;
@@ -54,6 +54,30 @@ fn hex_number(digits: &[u8]) -> Option<u32>
     }
     match str::from_utf8(digits) {
         Ok(digits) => u32::from_str_radix(digits, 16).ok(),
+        Err(_) => None,
+    }
+}
+
+/// Parses a key as its 32 bits: `0x` and one to eight hexadecimal digits. Returns `None` for any
+/// other word.
+pub(crate) fn hex_key(word: &[u8]) -> Option<i32>
+    ensures { MatchOption result ((key : ℤ) → ¬ IsHexKey word.now key) (IsHexKey word.now) }
+{
+    match word {
+        [b'0', b'x', digits @ ..] => Some(hex_number(digits)?.cast_signed()),
+        _ => None,
+    }
+}
+
+/// Parses the mode of a queue: three octal digits. Returns `None` for any other word.
+pub(crate) fn perms_of(word: &[u8]) -> Option<u32>
+    ensures { MatchOption result ((mode : ℕ) → ¬ IsPerms word.now mode) (IsPerms word.now) }
+{
+    if word.len() != 3 || word.first() == Some(&b'+') {
+        return None;
+    }
+    match str::from_utf8(word) {
+        Ok(digits) => u32::from_str_radix(digits, 8).ok(),
         Err(_) => None,
     }
 }

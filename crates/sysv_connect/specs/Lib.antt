@@ -10,3 +10,4 @@ pub mod Telling
 pub mod Patience
 pub mod Purge
 pub mod Progress
+pub mod Files

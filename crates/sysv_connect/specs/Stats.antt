@@ -1,5 +1,5 @@
 -- What the client of `stats` does (this project's programs).
-use Rattle.std.specs.Prelude.{◌≡◌, ◌⊎◌, ℕ, Bool, true, false, List, codes, [], ◌∷◌, ◌++◌, Option}
+use Rattle.std.specs.Prelude.{◌≡◌, ◌≤◌, ◌⊎◌, ℕ, Bool, true, false, List, codes, [], ◌∷◌, ◌++◌, length, Option}
 use Rattle.std.specs.Io.KnownBytes.{Appends, Consumes, IsAtEnd}
 use Rattle.std.specs.declared.process.ExitCode.{ExitCode}
 use Rattle.sysv_connect.specs.Ends.{Fails, Succeeds}
@@ -10,12 +10,13 @@ abbrev pub asked_with : Bool → List ℕ
 asked_with true = codes "json" ++ 10 ∷ []
 asked_with false = 10 ∷ []
 
--- It asked the server, and printed all bytes that the server wrote, and nothing else.
+-- It asked the server, and printed all bytes that the server wrote, at least one, and nothing else.
 pub record PrintsState (json : Bool) (left rest taken more shown after : Option (List ℕ)) : Type 0 where
   pub bytes : List ℕ
   pub asks : Appends taken more (asked_with json)
   pub read : Consumes left rest bytes
   pub whole : IsAtEnd rest
+  pub some : 1 ≤ length bytes
   pub printed : Appends shown after bytes
 
 -- It asked the server no more than that. It printed nothing, or a prefix of all bytes that the server

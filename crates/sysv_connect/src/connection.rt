@@ -23,7 +23,7 @@ use crate::place::{Leave, Place};
 use crate::purge::purge_at;
 use crate::room::look;
 use crate::screen::{Screen, put};
-use crate::sentence::Detail;
+use crate::sentence::{Detail, Subject};
 use crate::teller::{Left, Teller};
 use std::alloc::Global;
 use std::io::{Eprint, Read, Write};
@@ -78,7 +78,7 @@ pub fn run_as<I: Read, P: Place, S: Write>(
 {
     let teller = Teller {
         path,
-        command: Some(command),
+        subject: Subject::Command(command),
         telling: how.telling,
     };
     let patience = Patience::of(&command.task, how.wait);
@@ -221,7 +221,7 @@ fn run_at<P: Place, S: Write>(
 {
     let teller = Teller {
         path: teller.path,
-        command: Some(command),
+        subject: Subject::Command(command),
         telling: teller.telling,
     };
     match linked(

@@ -85,7 +85,7 @@ fn hold_on<R: Leave, W: Write + Drop, S: Write>(
 }
 
 /// Tells why holds ended early, and what becomes of the message that was not done.
-fn tell<R: Leave, W: Write + Drop, S: Write>(
+pub(crate) fn tell<R: Leave, W: Write + Drop, S: Write>(
     rt: &(impl Eprint + AllocGlobal),
     link: &Link<R, W>,
     teller: &Teller<'_>,

@@ -60,15 +60,34 @@ impl fmt::Display for Sentence<'_> {
     }
 }
 
-/// What a sentence begins with: the command, and the key or the identifier of its queue. It is that
-/// of the client of `stats` if there is no command.
+/// What a client does.
 #[derive(Clone, Copy)]
-pub(crate) struct Head<'a>(pub(crate) Option<&'a Command<'a>>);
+pub(crate) enum Subject<'a> {
+    /// The task of a command.
+    Command(&'a Command<'a>),
+    /// What its name says, for no queue of its own.
+    Named(&'static str),
+}
+
+impl<'a> Subject<'a> {
+    /// Returns the command, if it is one with a task.
+    pub(crate) fn command(self) -> Option<&'a Command<'a>> {
+        match self {
+            Subject::Command(command) => Some(command),
+            Subject::Named(_) => None,
+        }
+    }
+}
+
+/// What a sentence begins with: the command, and the key or the identifier of its queue.
+#[derive(Clone, Copy)]
+pub(crate) struct Head<'a>(pub(crate) Subject<'a>);
 
 impl fmt::Display for Head<'_> {
     fn fmt<W: fmt::Write>(&self, f: &mut fmt::Formatter<W>) -> fmt::Result {
-        let Some(command) = self.0 else {
-            return write!(f, "stats");
+        let command = match self.0 {
+            Subject::Command(command) => command,
+            Subject::Named(name) => return write!(f, "{name}"),
         };
         match command.task {
             Task::List(_) => write!(f, "ipcs"),
@@ -145,7 +164,7 @@ impl Words<'_> {
     /// Says that something is refused to the caller, and who it is. `--me` is named if the caller
     /// has stated another user or group than its own.
     fn denied<W: fmt::Write>(&self, f: &mut fmt::Formatter<W>, what: &str) -> fmt::Result {
-        let Some(command) = self.head.0 else {
+        let Some(command) = self.head.0.command() else {
             return write!(f, "{what}");
         };
         let Cred { uid, gid, .. } = command.cred;
@@ -175,8 +194,14 @@ impl Words<'_> {
         }
     }
 
-    /// Says that a message does not fit.
+    /// Says that a message does not fit, or that a receiver may hold none.
     fn no_room<W: fmt::Write>(&self, f: &mut fmt::Formatter<W>) -> fmt::Result {
+        if let Some(Task::Receive(_)) = self.task() {
+            return write!(
+                f,
+                "the server can hold no more messages: it lacks a place (--at-once) or memory"
+            );
+        }
         match self.detail {
             Detail::Full(Room::Queue(stat)) => {
                 let Stat {
@@ -272,7 +297,7 @@ impl Words<'_> {
 
     /// Returns the task of the command.
     fn task(&self) -> Option<Task<'_>> {
-        self.head.0.map(|command| command.task)
+        self.head.0.command().map(|command| command.task)
     }
 }
 

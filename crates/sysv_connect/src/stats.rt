@@ -16,7 +16,7 @@ use crate::link::{Link, linked};
 use crate::patience::{Patience, REPLY_MILLIS};
 use crate::place::{Leave, Place};
 use crate::screen::{Screen, put};
-use crate::sentence::Detail;
+use crate::sentence::{Detail, Subject};
 use crate::silence::{LastRead, Silence};
 use crate::teller::Teller;
 use std::alloc::Global;
@@ -58,7 +58,7 @@ pub fn look_at<P: Place, S: Write>(
 {
     let teller = Teller {
         path: looking.path,
-        command: None,
+        subject: Subject::Named("stats"),
         telling: looking.telling,
     };
     let patience = Patience {

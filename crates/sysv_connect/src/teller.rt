@@ -6,7 +6,7 @@ use crate::ending::{FAULT, say};
 use crate::how::Telling;
 use crate::plain::{Reason, complain};
 use crate::screen::put;
-use crate::sentence::{Detail, Head, Sentence, name_in};
+use crate::sentence::{Detail, Head, Sentence, Subject, name_in};
 use std::io;
 use std::io::{Eprint, ErrorKind, Write};
 use std::process::ExitCode;
@@ -17,8 +17,8 @@ use sysv_clients::{ClientFault, Command, Refusal, Target, Task, Unshown};
 pub(crate) struct Teller<'a> {
     /// The path of the server's socket.
     pub(crate) path: &'a str,
-    /// The command of the client, or `None` if it prints the state of a server.
-    pub(crate) command: Option<&'a Command<'a>>,
+    /// What the client does.
+    pub(crate) subject: Subject<'a>,
     /// How a fault is told.
     pub(crate) telling: Telling,
 }
@@ -155,12 +155,16 @@ impl Teller<'_> {
     pub(crate) fn refusal(&self, rt: &impl Eprint, refusal: &Refusal) {
         let Refusal { id, error } = *refusal;
         let _ = if self.telling.has_sentence() {
-            let command = self.command.map(|command| Command {
+            let command = self.subject.command().map(|command| Command {
                 task: Task::Remove(Target::Id(id)),
                 ..*command
             });
+            let subject = match &command {
+                Some(command) => Subject::Command(command),
+                None => self.subject,
+            };
             let sentence = Sentence {
-                head: Head(command.as_ref()),
+                head: Head(subject),
                 name: name_in(ClientFault::Refused(error).line()),
                 detail: Detail::Plain,
             };
@@ -193,7 +197,7 @@ impl Teller<'_> {
 
     /// Returns what a sentence begins with.
     fn head(&self) -> Head<'_> {
-        Head(self.command)
+        Head(self.subject)
     }
 }
 

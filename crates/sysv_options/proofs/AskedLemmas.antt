@@ -7,7 +7,7 @@ use Rattle.clap.specs.declared.error.Error.{Error}
 use Rattle.clap.specs.declared.parser.matches.ArgMatches.{ArgMatches}
 use Rattle.sysv_clients.specs.declared.command.Task.{Task}
 use Rattle.sysv_options.specs.declared.asked.Asked.{Asked}
-use Rattle.sysv_options.specs.declared.asked.Asked.TheVariants.{Script, Serve, Look, Client}
+use Rattle.sysv_options.specs.declared.asked.Asked.TheVariants.{Script, Serve, Look, Save, Load, Client}
 use Rattle.sysv_options.specs.Requests.{AreRefused, AsksFor, ClientAsks, CommandAsks, IsAskedBy, IsMeant, IsRefused}
 use Rattle.sysv_options.specs.Tasks.{HasTask}
 use Rattle.sysv_options.specs.Words.{IsRead}
@@ -18,6 +18,8 @@ pub no_client : (name : List ℕ) (words : List Row) → ((task : Task) → ¬ H
 no_client name words none Script = λ h. h
 no_client name words none (Serve serving) = λ h. h
 no_client name words none (Look looking) = λ h. h
+no_client name words none (Save who saving) = λ h. h
+no_client name words none (Load who loading) = λ h. h
 no_client name words none (Client path who task how) = λ h. none task h.2
 
 to_command : (name : List ℕ) (words : List Row) (asked : Asked) → ClientAsks name words asked →
@@ -25,27 +27,37 @@ to_command : (name : List ℕ) (words : List Row) (asked : Asked) → ClientAsks
 to_command name words Script h = absurd h
 to_command name words (Serve serving) h = absurd h
 to_command name words (Look looking) h = absurd h
+to_command name words (Save who saving) h = absurd h
+to_command name words (Load who loading) h = absurd h
 to_command name words (Client path who task how) h = h
 
-to_client : (name : List ℕ) (words : List Row) → ¬ (name ≡ codes "script") → ¬ (name ≡ codes "serve") →
-    ¬ (name ≡ codes "stats") → (asked : Asked) → CommandAsks name words asked → ClientAsks name words asked
-to_client name words not_script not_serve not_stats Script h = not_script h
-to_client name words not_script not_serve not_stats (Serve serving) h = not_serve h.0
-to_client name words not_script not_serve not_stats (Look looking) h = not_stats h.0
-to_client name words not_script not_serve not_stats (Client path who task how) h = h
+-- The name is that of no command but a client's.
+pub record IsOther (name : List ℕ) : Type 0 where
+  pub not_script : ¬ (name ≡ codes "script")
+  pub not_serve : ¬ (name ≡ codes "serve")
+  pub not_stats : ¬ (name ≡ codes "stats")
+  pub not_save : ¬ (name ≡ codes "save")
+  pub not_load : ¬ (name ≡ codes "load")
 
--- A command that is none of `script`, `serve` and `stats` asks for what a client's command asks for.
+to_client : (name : List ℕ) (words : List Row) → IsOther name → (asked : Asked) → CommandAsks name words asked →
+    ClientAsks name words asked
+to_client name words is_other Script h = is_other.not_script h
+to_client name words is_other (Serve serving) h = is_other.not_serve h.0
+to_client name words is_other (Look looking) h = is_other.not_stats h.0
+to_client name words is_other (Save who saving) h = is_other.not_save h.0
+to_client name words is_other (Load who loading) h = is_other.not_load h.0
+to_client name words is_other (Client path who task how) h = h
+
+-- A command with another name asks for what a client's command asks for.
 pub as_command : {E : Type 0} (name : List ℕ) (words : List Row) (found : Option (List ℕ × List Row))
-    (r : Result Asked E) → found ≡ Some (name, words)
-    → ¬ (name ≡ codes "script") → ¬ (name ≡ codes "serve") → ¬ (name ≡ codes "stats") → IsRead r (ClientAsks name words)
+    (r : Result Asked E) → found ≡ Some (name, words) → IsOther name → IsRead r (ClientAsks name words)
     → IsRead r (AsksFor found)
-as_command name words found (Ok asked) is not_script not_serve not_stats h =
+as_command name words found (Ok asked) is is_other h =
     subst (λ (o : Option (List ℕ × List Row)). AsksFor o asked) (sym is) (to_command name words asked h)
-as_command name words found (Err bad) is not_script not_serve not_stats none =
+as_command name words found (Err bad) is is_other none =
     λ asked h.
     none asked
-    (to_client name words not_script not_serve not_stats asked
-    (subst (λ (o : Option (List ℕ × List Row)). AsksFor o asked) is h))
+    (to_client name words is_other asked (subst (λ (o : Option (List ℕ × List Row)). AsksFor o asked) is h))
 
 both_true : (one other : Bool) → one && other ≡ true → one ≡ true
 both_true true other both = refl

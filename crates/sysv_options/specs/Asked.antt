@@ -1,7 +1,7 @@
 -- The requests that a command line may make (this project's programs).
 use Rattle.std.specs.Prelude.{ℕ, ◌≤◌, ⊤}
 use Rattle.sysv_options.specs.declared.asked.Asked.{Asked}
-use Rattle.sysv_options.specs.declared.asked.Asked.TheVariants.{Script, Serve, Look, Client}
+use Rattle.sysv_options.specs.declared.asked.Asked.TheVariants.{Script, Serve, Look, Save, Load, Client}
 use Rattle.sysv_options.specs.declared.asked.Serving.{Serving}
 use Rattle.sysv_server.specs.declared.serving.TheConstants.{MAX_CLIENTS}
 use Rattle.sysv_server.specs.declared.terms.Terms.{Terms}
@@ -35,4 +35,6 @@ abbrev pub IsWithinLimits : Asked → Type 0
 IsWithinLimits Script = ⊤
 IsWithinLimits (Serve serving) = HasLimits serving
 IsWithinLimits (Look looking) = ⊤
+IsWithinLimits (Save who saving) = ⊤
+IsWithinLimits (Load who loading) = ⊤
 IsWithinLimits (Client path who task how) = HasShortText task

@@ -6,8 +6,8 @@ use Rattle.clap.specs.declared.error.Error.{Error}
 use Rattle.clap.specs.declared.error.kind.ErrorKind.TheVariants.{OutOfMemory}
 use Rattle.clap.specs.declared.parser.matches.ArgMatches.{ArgMatches}
 use Rattle.sysv_options.specs.declared.asked.Asked.{Asked}
-use Rattle.sysv_options.specs.declared.asked.Asked.TheVariants.{Script, Serve, Look, Client}
-use Rattle.sysv_options.specs.Servers.{AsksToLook, AsksToServe, HasPath}
+use Rattle.sysv_options.specs.declared.asked.Asked.TheVariants.{Script, Serve, Look, Save, Load, Client}
+use Rattle.sysv_options.specs.Servers.{AsksToLoad, AsksToLook, AsksToSave, AsksToServe, HasPath}
 use Rattle.sysv_options.specs.Tasks.{HasHow, HasTask, StatesWho}
 
 -- A client's command of this name with these words makes this request.
@@ -15,6 +15,8 @@ abbrev pub ClientAsks : List ℕ → List Row → Asked → Type 0
 ClientAsks name words Script = ⊥
 ClientAsks name words (Serve serving) = ⊥
 ClientAsks name words (Look looking) = ⊥
+ClientAsks name words (Save who saving) = ⊥
+ClientAsks name words (Load who loading) = ⊥
 ClientAsks name words (Client path who task how) =
     HasPath words path.now × StatesWho words who × HasTask name words task × HasHow words how
 
@@ -23,6 +25,10 @@ abbrev pub CommandAsks : List ℕ → List Row → Asked → Type 0
 CommandAsks name words Script = name ≡ codes "script"
 CommandAsks name words (Serve serving) = (name ≡ codes "serve") × AsksToServe words serving
 CommandAsks name words (Look looking) = (name ≡ codes "stats") × AsksToLook words looking
+CommandAsks name words (Save who saving) =
+    (name ≡ codes "save") × StatesWho words who × AsksToSave words saving
+CommandAsks name words (Load who loading) =
+    (name ≡ codes "load") × StatesWho words who × AsksToLoad words loading
 CommandAsks name words (Client path who task how) = ClientAsks name words (Client path who task how)
 
 -- A command line with this command makes this request. Without a command it makes none.

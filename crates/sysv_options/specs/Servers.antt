@@ -3,6 +3,8 @@ use Rattle.std.specs.Prelude.{◌≡◌, ◌≢◌, ◌≤◌, ⊤, ℕ, List, c
 use Rattle.clap.specs.Words.{Row}
 use Rattle.sysv_server.specs.declared.terms.Terms.{Terms}
 use Rattle.sysv_words.specs.Words.{IsNat32, IsNat64}
+use Rattle.sysv_connect.specs.declared.loads.Loading.{Loading}
+use Rattle.sysv_connect.specs.declared.saves.Saving.{Saving}
 use Rattle.sysv_connect.specs.declared.stats.Looking.{Looking}
 use Rattle.sysv_connect.specs.Telling.{has_line, has_sentence}
 use Rattle.sysv_options.specs.declared.asked.Serving.{Serving}
@@ -85,6 +87,24 @@ pub record AsksToLook (words : List Row) (looking : Looking) : Type 0 where
   pub wait : HasMaybe IsTime (word_of words (codes "wait")) looking.wait
   pub line : has_line looking.telling ≡ not (has_sentence looking.telling)
   pub stderr : HasFlag words (codes "stderr") (has_sentence looking.telling)
+
+-- A `save` with these words saves this.
+pub record AsksToSave (words : List Row) (saving : Saving) : Type 0 where
+  pub path : HasPath words saving.path.now
+  pub wait : HasMaybe IsTime (word_of words (codes "wait")) saving.wait
+
+-- The word is the number of a line, counted from 1.
+abbrev pub IsLineNumber : List ℕ → ℕ → Type 0
+IsLineNumber word line = IsNat64 word line × (1 ≤ line)
+
+-- A `load` with these words loads its input like this.
+pub record AsksToLoad (words : List Row) (loading : Loading) : Type 0 where
+  pub path : HasPath words loading.path.now
+  pub from : HasOr IsLineNumber 1 (word_of words (codes "from")) loading.from
+  pub into : HasFlag words (codes "into") loading.into
+  pub adopt : HasFlag words (codes "adopt") loading.adopt
+  pub nowait : HasFlag words (codes "nowait") loading.nowait
+  pub wait : HasMaybe IsTime (word_of words (codes "wait")) loading.wait
 
 -- A `serve` with these words is this one.
 pub record AsksToServe (words : List Row) (serving : Serving) : Type 0 where

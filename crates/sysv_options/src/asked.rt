@@ -6,7 +6,7 @@ ghost use Rattle.clap.specs.Words.{app_of, subcommand_rows_of};
 ghost use Rattle.clap.specs.declared.error.kind.ErrorKind.TheVariants.{InvalidValue, OutOfMemory};
 ghost use Rattle.sysv_options.specs.Asked.{AreAtOnce, AreBlocks, AreTerms, AreWorkers, HasLimits, IsWithinLimits};
 ghost use Rattle.sysv_options.specs.Requests.{AreRefused, AsksFor, ClientAsks, IsAskedBy, IsMeant, IsRefused};
-ghost use Rattle.sysv_options.specs.Servers.{AsksForAtOnce, AsksForBlocks, AsksForFile, AsksForFileAt, AsksForTerms, AsksForWorkers, AsksToLook, AsksToServe, HasPath, MayAskForStats};
+ghost use Rattle.sysv_options.specs.Servers.{AsksForAtOnce, AsksForBlocks, AsksForFile, AsksForFileAt, AsksForTerms, AsksForWorkers, AsksToLoad, AsksToLook, AsksToSave, AsksToServe, HasPath, IsLineNumber, MayAskForStats};
 ghost use Rattle.sysv_options.specs.Tasks.{AsksToList, AsksToMake, AsksToReceive, AsksToRemove, AsksToSend, HasTask, HasHow, NamesTarget, IsAhead, Receives, ShowsIn, StatesWho, is_json};
 ghost use Rattle.sysv_options.specs.Words.{ArePartsOf, AreSeconds, Has, HasFlag, HasMaybe, HasOr, IsMode, IsOctalMode, IsOn, IsRead, IsThousandths, IsTime, IsUnsigned, WantsType, word_of, words_in};
 ghost use Rattle.sysv_connect.specs.Telling.{has_line, has_sentence};
@@ -23,7 +23,7 @@ use std::convert::AsStr;
 use sysv_clients::{
     Form, Format, MAX_AHEAD, Making, Receipt, Target, Task, id_of, key_of, type_of,
 };
-use sysv_connect::{How, Looking, Telling};
+use sysv_connect::{How, Loading, Looking, Saving, Telling};
 use sysv_model::{BODY_ROOM, MAX_BLOCKS, MIN_BLOCKS};
 use sysv_server::{MAX_CLIENTS, Patience, Terms};
 use sysv_words::{Reads, one_split, split_at_mark};
@@ -37,6 +37,10 @@ pub enum Asked<'a> {
     Serve(Serving<'a>),
     /// Show the state of a server.
     Look(Looking<'a>),
+    /// Save all queues of a server.
+    Save(Who, Saving<'a>),
+    /// Load a file of queues into a server.
+    Load(Who, Loading<'a>),
     /// Run a task of a client at the server at `path`.
     Client {
         /// The path of the server's socket.
@@ -125,6 +129,8 @@ const SECONDS: &str = "a whole number of seconds is 0 to 4294967295";
 const MODE: &str = "a mode is 0 to 777 in octal";
 
 const SESSIONS: &str = "the number of sessions is 0 to 18446744073709551615";
+
+const LINE: &str = "the number of a line is 1 to 18446744073709551615";
 
 const COUNT: &str = "a number of messages or bytes is 0 to 4294967295";
 
@@ -257,6 +263,8 @@ fn task_of<'a>(matches: &ArgMatches<'a>) -> Result<Asked<'a>, Bad>
         "script" => Ok(Asked::Script),
         "serve" => Ok(Asked::Serve(server(words)?)),
         "stats" => Ok(Asked::Look(look_of(words)?)),
+        "save" => Ok(Asked::Save(who_of(words)?, saving_of(words)?)),
+        "load" => Ok(Asked::Load(who_of(words)?, loading_of(words)?)),
         _ => client(name, words),
     }
 }
@@ -271,6 +279,43 @@ fn look_of<'a>(words: &ArgMatches<'a>) -> Result<Looking<'a>, Bad>
         wait: time_if(words, "wait")?,
         telling: telling_of(words),
     })
+}
+
+/// Returns what a `save` saves.
+fn saving_of<'a>(words: &ArgMatches<'a>) -> Result<Saving<'a>, Bad>
+    ensures { IsRead result (AsksToSave (words_in words.now)) }
+{
+    Ok(Saving {
+        path: path_of(words)?,
+        wait: time_if(words, "wait")?,
+    })
+}
+
+/// Returns how a `load` loads its input.
+fn loading_of<'a>(words: &ArgMatches<'a>) -> Result<Loading<'a>, Bad>
+    ensures { IsRead result (AsksToLoad (words_in words.now)) }
+{
+    Ok(Loading {
+        path: path_of(words)?,
+        from: first_line(words)?,
+        into: has_flag(words, "into"),
+        adopt: has_flag(words, "adopt"),
+        nowait: has_flag(words, "nowait"),
+        wait: time_if(words, "wait")?,
+    })
+}
+
+/// Returns the number of the first line that a `load` loads, 1 without an option.
+fn first_line(words: &ArgMatches<'_>) -> Result<u64, Bad>
+    ensures { IsRead result (HasOr IsLineNumber 1 (word_of (words_in words.now) (codes "from"))) }
+{
+    match word_in(words, "from") {
+        Some(word) => match u64::read(word.as_bytes()) {
+            Some(line) if line >= 1 => Ok(line),
+            _ => Err(invalid("from", LINE)),
+        },
+        None => Ok(1),
+    }
 }
 
 /// Returns the request of a client's command.

@@ -112,7 +112,9 @@ const KEY: Argument = ("key", Form::Word("KEY"), KEY_HELP);
 const KEY_HELP: &str = "1 to 2147483647, or 0x and 1 to 8 hexadecimal digits, not 0";
 
 /// All commands, in the order of the help.
-const COMMANDS: [Known; 8] = [SERVE, SND, RCV, IPCS, IPCRM, IPCMK, STATS, SCRIPT];
+const COMMANDS: [Known; 10] = [
+    SERVE, SND, RCV, IPCS, IPCRM, IPCMK, SAVE, LOAD, STATS, SCRIPT,
+];
 
 const SERVE: Known = Known {
     name: "serve",
@@ -500,6 +502,61 @@ Example:
         PROCESS,
     ],
     groups: &[],
+    usage: None,
+};
+
+const SAVE: Known = Known {
+    name: "save",
+    about: "Prints all queues and takes their messages; the server needs --hold",
+    example: "\
+Each queue is a JSON object, followed by its messages as `rcv --json` prints
+them. A message is taken only once it is printed whole.
+
+Example:
+  $ sysvmsg save ./q --uid 0 > queues",
+    arguments: &[SERVER, WAIT, ME, USER, GROUP, PROCESS],
+    groups: &[],
+    usage: None,
+};
+
+const LOAD: Known = Known {
+    name: "load",
+    about: "Makes the queues that `save` printed, and sends their messages",
+    example: "\
+Example:
+  $ sysvmsg load ./q --uid 0 --adopt < queues",
+    arguments: &[
+        SERVER,
+        ("from", Form::Value("N"), "Begins at line N [default: 1]"),
+        (
+            "into",
+            Form::Flag,
+            "Uses a queue that has the key, and sets its attributes",
+        ),
+        (
+            "adopt",
+            Form::Flag,
+            "Makes queues of other creators too, as the caller",
+        ),
+        (
+            "nowait",
+            Form::Flag,
+            "Fails with EAGAIN if there is no room (IPC_NOWAIT)",
+        ),
+        (
+            "wait",
+            Form::Value("SECONDS"),
+            "Waits at most that long per message, else EAGAIN",
+        ),
+        ME,
+        USER,
+        GROUP,
+        PROCESS,
+    ],
+    groups: &[Group {
+        of: &["nowait", "wait"],
+        required: false,
+    }],
     usage: None,
 };
 

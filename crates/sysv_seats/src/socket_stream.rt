@@ -3,7 +3,7 @@
 ghost use Rattle.std.specs.Prelude.{◌≡◌, None, false, IfOk};
 ghost use Rattle.std.specs.Io.{ReadsAtMost, WritesAtMost};
 ghost use Rattle.std.specs.Net.Unix.{unix_stream_raw_fd};
-ghost use Rattle.sysv_seats.specs.Sockets.{filled_of};
+ghost use Rattle.sysv_seats.specs.Sockets.{drained_of, filled_of};
 
 use crate::limits::{Limit, Limits};
 use crate::non_blocking::{Drained, Filled, NonBlocking, Over};
@@ -122,13 +122,12 @@ impl NonBlocking for SocketStream {
         if bytes.is_empty() {
             return Drained::NothingNow;
         }
-        match self.write_now(bytes) {
-            Ok(count) if count > 0 => return Drained::Took(count),
-            Err(why) if why.kind() == ErrorKind::WouldBlock => return Drained::NothingNow,
-            _ => {}
+        let outcome = self.write_now(bytes);
+        let drained = drained_by(&outcome);
+        if let Drained::Failed = drained {
+            self.refuses = true;
         }
-        self.refuses = true;
-        Drained::Failed
+        drained
     }
 
     fn may_leave(&self) -> bool {
@@ -153,6 +152,20 @@ fn filled_by(outcome: &io::Result<usize>) -> Filled
             ErrorKind::WouldBlock => Filled::NothingNow,
             ErrorKind::ConnectionReset => Filled::Over(Over::Reset),
             _ => Filled::Over(Over::Failed),
+        },
+    }
+}
+
+/// Returns what a write of some bytes to a stream means, which returned this.
+fn drained_by(outcome: &io::Result<usize>) -> Drained
+    ensures { result ≡ drained_of outcome.now }
+{
+    match outcome {
+        Ok(0) => Drained::Failed,
+        Ok(count) => Drained::Took(*count),
+        Err(why) => match why.kind() {
+            ErrorKind::WouldBlock => Drained::NothingNow,
+            _ => Drained::Failed,
         },
     }
 }

@@ -8,19 +8,21 @@ use Rattle.clap.specs.declared.error.Error.{Error as CommandError}
 use Rattle.clap.specs.declared.error.kind.ErrorKind.{ErrorKind}
 use Rattle.clap.specs.declared.error.kind.ErrorKind.TheVariants.{DisplayHelp, DisplayVersion}
 use Rattle.sysv_clients.specs.declared.command.Task.{Task}
+use Rattle.sysv_clients.specs.declared.loading.Loading.{Loading as Load}
 use Rattle.sysv_connect.specs.declared.contact.Contact.{Contact}
 use Rattle.sysv_connect.specs.declared.contact.Contact.TheVariants.{Unused}
 use Rattle.sysv_connect.specs.declared.how.How.{How}
 use Rattle.sysv_connect.specs.declared.link.Link.{Link}
 use Rattle.sysv_connect.specs.Clients.{IsDone, IsUnmade}
 use Rattle.sysv_connect.specs.Ends.{Fails, Succeeds}
+use Rattle.sysv_connect.specs.Files.{Loads, Saves, loading_of}
 use Rattle.sysv_connect.specs.Links.{left_by, taken_by}
 use Rattle.sysv_connect.specs.Several.{way_by}
 use Rattle.sysv_connect.specs.Stats.{HasLooked}
 use Rattle.sysv_connect.specs.Visits.{Visited}
 use Rattle.sysv_model.specs.declared.cred.Cred.{Cred}
 use Rattle.sysv_options.specs.declared.asked.Asked.{Asked}
-use Rattle.sysv_options.specs.declared.asked.Asked.TheVariants.{Script, Serve, Look, Client}
+use Rattle.sysv_options.specs.declared.asked.Asked.TheVariants.{Script, Serve, Look, Save, Load as ToLoad, Client}
 use Rattle.sysv_options.specs.declared.process.NoWords.{NoWords}
 use Rattle.sysv_options.specs.declared.who.Surroundings.{Surroundings}
 use Rattle.sysv_options.specs.Process.{AreTold, Told, Unread, Words}
@@ -56,6 +58,23 @@ module _ {P R W : Type 0} (remaining : R → Option (List ℕ)) (contents : W �
       (λ link. HasLooked json exit (incoming place path) (left_by remaining link) (outgoing place path)
       (taken_by contents link) shown after) contact
 
+  -- All queues of the server at this path were saved, over at most one connection.
+  abbrev pub SavesQueues : (path : List ℕ) → Cred → ExitCode → (shown after : Option (List ℕ)) →
+      Contact P (Link R W) → Type 0
+  SavesQueues path cred exit shown after contact =
+      Visited (Refuses place path) place (Fails exit × (after ≡ shown))
+      (λ link. Saves cred exit (incoming place path) (left_by remaining link) (outgoing place path)
+      (taken_by contents link) shown after) contact
+
+  -- The input was loaded into the server at this path, over at most one connection. Nothing is on the screen.
+  abbrev pub LoadsQueues : (path : List ℕ) → Load → ExitCode → (fed shown after : Option (List ℕ)) →
+      Contact P (Link R W) → Type 0
+  LoadsQueues path loading exit fed shown after contact =
+      (unfed : Option (List ℕ)) × (after ≡ shown)
+      × Visited (Refuses place path) place (Fails exit × (unfed ≡ fed))
+      (λ link. Loads loading exit (incoming place path) (left_by remaining link) (outgoing place path)
+      (taken_by contents link) fed unfed) contact
+
   -- What is asked for was done. A client states the credentials of its words, and for the others those
   -- that its surroundings have for them.
   abbrev pub Answers : Asked → ExitCode → (fed shown after : Option (List ℕ)) → Contact P (Link R W) → Type 0
@@ -65,6 +84,10 @@ module _ {P R W : Type 0} (remaining : R → Option (List ℕ)) (contents : W �
       × HasServedAll around.open_files serving.until_eof serving.terms exit shown after
   Answers (Look looking) exit fed shown after contact =
       ShowsState looking.path.now looking.json exit shown after contact
+  Answers (Save who saving) exit fed shown after contact =
+      SavesQueues saving.path.now (stated_by who around) exit shown after contact
+  Answers (ToLoad who loading) exit fed shown after contact =
+      LoadsQueues loading.path.now (loading_of (stated_by who around) loading) exit fed shown after contact
   Answers (Client path who task how) exit fed shown after contact =
       RunsClient path.now (stated_by who around) task (how_in how around) exit fed shown after contact
 

@@ -18,7 +18,8 @@ use std::sync::Wait;
 use std::thread::Threads;
 use sysv_clients::Command;
 use sysv_connect::{
-    Contact, How, Link, Looking, Place, Progress, Screen, Telling, Visit, look_at, run_as, say,
+    Contact, How, Link, Looking, Place, Progress, Screen, Telling, Visit, load_at, look_at, run_as,
+    save_at, say,
 };
 use sysv_options::{
     Asked, NoWords, Process, Surroundings, credentials, no_text, read_words, surroundings, telling,
@@ -150,6 +151,13 @@ fn answer<
                 ..looking
             };
             look_at(rt, place, &looking, screen)
+        }
+        Asked::Save(who, saving) => {
+            save_at(rt, place, credentials(&who, around), &saving, screen)
+        }
+        Asked::Load(who, loading) => {
+            let mut input = input;
+            load_at(rt, &mut input, place, credentials(&who, around), &loading)
         }
         Asked::Client {
             path,

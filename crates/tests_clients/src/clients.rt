@@ -1,6 +1,7 @@
 //! Clients over bytes that were worked out by hand.
 mod ahead;
 mod connecting;
+mod files;
 mod growths;
 mod holding;
 mod objects;

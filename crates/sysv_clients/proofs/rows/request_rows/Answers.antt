@@ -2,7 +2,7 @@ use Rattle.std.proofs.Common.{ℕ, ap, arith, refl, true, ◌∙◌}
 use Rattle.std.proofs.lemmas.Result.{err_from_is_err_and}
 use Rattle.sysv_model.specs.Instrumented.{failures_after}
 use Rattle.sysv_clients.proofs.RowLemmas.{starts_writing, writes_more, wrote_all, wrote_part, wrote_whole}
-use Rattle.sysv_clients.proofs.SendLemmas.{keeps_appends}
+use Rattle.sysv_clients.proofs.WindowLemmas.{keeps_appends}
 use Rattle.sysv_clients.proofs.rows.request_rows.Goals as goal
 
 pub loop-slot-init : goal.loop-slot-init

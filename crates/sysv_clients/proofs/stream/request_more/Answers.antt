@@ -1,7 +1,7 @@
 use Rattle.std.proofs.Common.{arith, refl, ◌∙◌}
 use Rattle.std.proofs.lemmas.Result.{err_from_is_err_and}
 use Rattle.std.proofs.KnownBytes.{Appends-nil}
-use Rattle.sysv_clients.proofs.SendLemmas.{keeps_appends}
+use Rattle.sysv_clients.proofs.WindowLemmas.{keeps_appends}
 use Rattle.sysv_clients.proofs.StreamLemmas.{one_more_wrote, whole_prefix, wrote_all, wrote_part}
 use Rattle.sysv_clients.proofs.stream.request_more.Goals as goal
 

@@ -1,9 +1,11 @@
 -- What each request asks for is what its callee did.
-use Rattle.std.proofs.Common.{ap, subst, sym}
+use Rattle.std.proofs.Common.{◌≡◌, ap, refl, subst, sym}
 use Rattle.std.specs.Prelude.{ℕ, List, Option}
 use Rattle.std.specs.declared.process.ExitCode.{ExitCode}
 use Rattle.sysv_connect.specs.Clients.{IsDone, IsUnmade}
 use Rattle.sysv_connect.specs.declared.how.Telling.{Telling}
+use Rattle.sysv_connect.specs.Ends.{Fails}
+use Rattle.sysv_connect.specs.Files.{Loads, Saves, loading_of}
 use Rattle.sysv_connect.specs.Links.{left_by, taken_by}
 use Rattle.sysv_connect.specs.Several.{way_by}
 use Rattle.sysv_connect.specs.Visits.{Visited}
@@ -62,4 +64,37 @@ returns-in-Client g c =
           (left_by g.P.Input.Read.remaining link) (g.P.Place.outgoing c.args.place path)
           (taken_by g.P.Output.Write.contents link) fed unfed shown after) c.run_as.result.contact)
           (ap g.I.Read.remaining c.new-input.ensures) c.run_as.ensures)),
+    )
+
+pub returns-in-Save : goal.returns-in-Save
+returns-in-Save g c =
+    let path = c.in-Save.saving.path.now in
+    let exit = c.save_at.result.exit in
+    let shown = g.S.Write.contents c.args.screen.now.writer in
+    let after = g.S.Write.contents c.save_at.new.screen.writer in
+    rw c.in-Save.is
+    (subst (λ (cred : Cred).
+    Visited (g.P.Place.refuses c.args.place path) c.args.place (Fails exit × (after ≡ shown))
+    (λ link.
+    Saves cred exit (g.P.Place.incoming c.args.place path) (left_by g.P.Input.Read.remaining link)
+    (g.P.Place.outgoing c.args.place path) (taken_by g.P.Output.Write.contents link) shown after)
+    c.save_at.result.contact)
+    c.credentials-in-Save.ensures c.save_at.ensures)
+
+pub returns-in-Load : goal.returns-in-Load
+returns-in-Load g c =
+    let path = c.in-Load.loading.path.now in
+    let exit = c.load_at.result.exit in
+    let fed = g.I.Read.remaining c.args.input in
+    let unfed = g.I.Read.remaining c.load_at.new.input in
+    rw c.in-Load.is (
+      unfed,
+      refl,
+      subst (λ (cred : Cred).
+          Visited (g.P.Place.refuses c.args.place path) c.args.place (Fails exit × (unfed ≡ fed))
+          (λ link.
+          Loads (loading_of cred c.in-Load.loading) exit (g.P.Place.incoming c.args.place path)
+          (left_by g.P.Input.Read.remaining link) (g.P.Place.outgoing c.args.place path)
+          (taken_by g.P.Output.Write.contents link) fed unfed) c.load_at.result.contact)
+          c.credentials-in-Load.ensures c.load_at.ensures,
     )

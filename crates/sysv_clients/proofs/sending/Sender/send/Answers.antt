@@ -15,3 +15,9 @@ returns-in-Err-clause-sends g c = λ sending left rest taken fed unsent unfed so
     rw c.lost.ensures
     (loses_write sending (record { ask = c.args.ask; text = c.args.self.now.text }) left rest taken _ _ fed unsent
     unfed c.args.window.now so_far next room c.in-Err.ensures.err unread)
+
+pub returns-in-Ok-clause-puts : goal.returns-in-Ok-clause-puts
+returns-in-Ok-clause-puts g c = (c.in-Ok.ensures.ok, refl)
+
+pub returns-in-Err-clause-puts : goal.returns-in-Err-clause-puts
+returns-in-Err-clause-puts g c = (c.in-Err.ensures.err, c.lost.ensures)

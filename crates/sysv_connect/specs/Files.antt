@@ -1,0 +1,36 @@
+-- Clients that save and load files of queues (this project's programs), however they ended.
+use Rattle.std.specs.Prelude.{◌≡◌, ⊤, ℕ, List, [], Option, Result, Ok}
+use Rattle.std.specs.declared.process.ExitCode.{ExitCode}
+use Rattle.sysv_clients.specs.declared.clearing.Refusal.{Refusal}
+use Rattle.sysv_clients.specs.declared.holding.Unheld.{Unheld}
+use Rattle.sysv_clients.specs.declared.loading.Loading.{Loading as ALoad}
+use Rattle.sysv_clients.specs.declared.loading.Unloaded.{Unloaded}
+use Rattle.sysv_clients.specs.Loading.{LoadsAhead}
+use Rattle.sysv_clients.specs.Saving.{SavesAll}
+use Rattle.sysv_connect.specs.declared.loads.Loading.{Loading}
+use Rattle.sysv_connect.specs.Ends.{SucceedsIf}
+use Rattle.sysv_model.specs.declared.cred.Cred.{Cred}
+
+-- A client saved all queues, and the program succeeds exactly if that had no fault and no queue was refused.
+abbrev pub Saves : Cred → ExitCode → (left rest taken more shown after : Option (List ℕ)) → Type 0
+Saves cred exit left rest taken more shown after =
+    (ended : Result ⊤ Unheld) × (refusals : List Refusal)
+    × SavesAll cred ended left rest taken more shown after [] refusals
+    × SucceedsIf ((ended ≡ Ok tt) × (refusals ≡ [])) exit
+
+-- The load of a client with these credentials and these options.
+abbrev pub loading_of : Cred → Loading → ALoad
+loading_of cred loading =
+    record {
+      cred = cred;
+      from = loading.from;
+      into = loading.into;
+      adopt = loading.adopt;
+      nowait = loading.nowait;
+    }
+
+-- A client loaded its input, and the program succeeds exactly if that had no fault.
+abbrev pub Loads : ALoad → ExitCode → (left rest taken more fed unfed : Option (List ℕ)) → Type 0
+Loads loading exit left rest taken more fed unfed =
+    (ended : Result ⊤ Unloaded) × LoadsAhead loading ended left rest taken more fed unfed
+    × SucceedsIf (ended ≡ Ok tt) exit

@@ -1,0 +1,100 @@
+//! The client that saves all queues.
+ghost use Rattle.std.specs.Prelude.{◌≡◌};
+ghost use Rattle.sysv_connect.specs.Ends.{Fails};
+ghost use Rattle.sysv_connect.specs.Files.{Saves};
+ghost use Rattle.sysv_connect.specs.Links.{left_by, taken_by};
+ghost use Rattle.sysv_connect.specs.Visits.{Visited};
+
+use crate::connection::no_link;
+use crate::contact::{Contact, Visit};
+use crate::ending::FAULT;
+use crate::holds::tell;
+use crate::how::Telling;
+use crate::link::{Link, linked};
+use crate::patience::{Patience, REPLY_MILLIS};
+use crate::place::{Leave, Place};
+use crate::screen::Screen;
+use crate::sentence::Subject;
+use crate::teller::Teller;
+use std::io::{Eprint, Write};
+use std::process::ExitCode;
+use sysv_clients::{Refusal, save_all};
+use sysv_model::Cred;
+
+/// The server whose queues are saved.
+#[derive(Clone, Copy, PartialEq, Eq, Debug)]
+pub struct Saving<'a> {
+    /// The path of its socket.
+    pub path: &'a str,
+    /// The number of milliseconds that each reply is waited for at most, if that is stated.
+    pub wait: Option<u64>,
+}
+
+/// Writes all queues of the server at the path of the options to the screen, and takes their
+/// messages. Each queue that is refused is named on standard error, and the status is that of a
+/// fault then. Faults are reported there too. It makes at most one connection, and returns it.
+pub fn save_at<P: Place, S: Write>(
+    rt: &(impl Print + Eprint + AllocGlobal),
+    place: P,
+    cred: Cred,
+    saving: &Saving<'_>,
+    screen: &mut Screen<S>,
+) -> Visit<P, Link<P::Input, P::Output>>
+    ensures { Visited (P.refuses place saving.now.path.now) place
+        (Fails result.exit
+        × (S.contents screen.new.writer ≡ S.contents screen.old.writer))
+        (λ link. Saves cred result.exit
+        (P.incoming place saving.now.path.now) (left_by P.Input.remaining link)
+        (P.outgoing place saving.now.path.now) (taken_by P.Output.contents link)
+        (S.contents screen.old.writer) (S.contents screen.new.writer)) result.contact }
+{
+    let teller = Teller {
+        path: saving.path,
+        subject: Subject::Named("save"),
+        telling: Telling::Sentence,
+    };
+    let patience = Patience {
+        limit: Some(saving.wait.unwrap_or(REPLY_MILLIS)),
+        may_leave: false,
+    };
+    match linked(rt.alloc(), place, saving.path, patience) {
+        Ok(mut link) => Visit {
+            exit: save_on(rt, &mut link, &teller, cred, screen),
+            contact: Contact::Made(link),
+        },
+        Err(unlinked) => no_link(rt, &teller, unlinked),
+    }
+}
+
+/// Saves queues over a connection like `save_at`.
+fn save_on<R: Leave, W: Write + Drop, S: Write>(
+    rt: &(impl Print + Eprint + AllocGlobal),
+    link: &mut Link<R, W>,
+    teller: &Teller<'_>,
+    cred: Cred,
+    screen: &mut Screen<S>,
+) -> ExitCode
+    ensures { Saves cred result
+        (left_by R.remaining link.old) (left_by R.remaining link.new)
+        (taken_by W.contents link.old) (taken_by W.contents link.new)
+        (S.contents screen.old.writer) (S.contents screen.new.writer) }
+{
+    let mut refusals = Vec::new(rt.alloc());
+    let outcome = save_all(
+        rt.alloc(),
+        cred,
+        &mut link.reader,
+        &mut link.writer,
+        screen,
+        &mut refusals,
+    );
+    for refusal in &refusals {
+        let Refusal { id, error } = *refusal;
+        let _ = eprintln!(rt; "sysvmsg: save: queue {id}: {error}");
+    }
+    match outcome {
+        Ok(()) if refusals.is_empty() => ExitCode::SUCCESS,
+        Ok(()) => ExitCode::from(FAULT),
+        Err(unheld) => tell(rt, link, teller, unheld, screen),
+    }
+}
