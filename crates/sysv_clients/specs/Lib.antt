@@ -28,3 +28,4 @@ pub mod Saved
 pub mod Saving
 pub mod Loading
 pub mod Loaded
+pub mod Restored

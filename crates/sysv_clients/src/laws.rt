@@ -1,7 +1,9 @@
 //! Laws about the definitions.
-ghost use Rattle.std.specs.Prelude.{◌≡◌, ◌+◌, List, ℕ};
+ghost use Rattle.std.specs.Prelude.{◌≡◌, ◌+◌, List, ℕ, ℤ};
 ghost use Rattle.sysv_clients.specs.Copies.{AreCopied, AreMessages, IsMessage, IsReadBack, Message, StatesOne};
+ghost use Rattle.sysv_clients.specs.Restored.{AreKept, IsQueueReadBack, IsServed, Kept, RestoresFile, RestoresSaved, SavesFile, StatesOneEntry};
 ghost use Rattle.sysv_clients.specs.declared.command.TheConstants.{MAX_REQUESTS, MAX_ROWS};
+ghost use Rattle.sysv_model.specs.declared.attributes.Stat.{Stat as Attributes};
 
 /// States the maximum number of rows that `ipcs` requests. With the hello before them they are the
 /// maximum number of requests of a command.
@@ -21,4 +23,25 @@ pub fn objects_read_back()
 /// messages, in order, and all of them if it reads to the end.
 pub fn queue_is_copied()
     ensures { (messages : List Message) → AreMessages messages → AreCopied messages }
+{}
+
+/// States that what `save` writes of a queue is a line in which `load` reads this very queue, and
+/// that no line of a file states two things.
+pub fn saved_lines_read_back()
+    ensures written { (id : ℤ) (stat : Attributes) → IsServed id stat → IsQueueReadBack id stat }
+    ensures one { (line : List ℕ) → StatesOneEntry line }
+{}
+
+/// States that a `load` of a file of queues makes these queues, in order, and sends their messages,
+/// in order: its requests are the first of those that do that, and all of them if it ends without
+/// an error.
+pub fn saved_queues_are_loaded()
+    ensures { (queues : List Kept) → AreKept queues → RestoresFile queues }
+{}
+
+/// States that a `save` whose screen did not fail has written a file of the queues that it was
+/// given, and that a `load` of this file makes these queues and sends their messages.
+pub fn loading_repeats_what_was_saved()
+    ensures written { SavesFile }
+    ensures repeated { RestoresSaved }
 {}
