@@ -22,3 +22,5 @@ mod QueueLineLemmas
 mod OneEntryLemmas
 mod RestoreLemmas
 mod FileLemmas
+mod RefillLemmas
+mod WorkedFile

@@ -930,8 +930,8 @@ find_stops loading (Line lines why) mtype line body left mid rest taken more mos
     )
   where
     unfound : (loading : Loading) (why : Unfit) (mtype : ℤ) (line body : List ℕ) (unloaded unfed : Option (List ℕ))
-        (place : Place) → StatesEntry line (entry.Message mtype) body → IsNext OBJECT_BYTES line unloaded unfed → IsUnfound loading place why
-        → IsUnfit loading place why unloaded unfed
+        (place : Place) → StatesEntry line (entry.Message mtype) body → IsNext OBJECT_BYTES line unloaded unfed
+        → IsUnfound loading place why → IsUnfit loading place why unloaded unfed
     unfound loading unfit.NoQueue mtype line body unloaded unfed place states next is =
         (line, next, mtype, body, states, is)
     unfound loading unfit.Private mtype line body unloaded unfed place states next is =

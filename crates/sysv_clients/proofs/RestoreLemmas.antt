@@ -1,7 +1,7 @@
 -- A load of a file of queues makes these queues, and sends their messages.
 use Rattle.std.proofs.Common.{◌≡◌, ◌≢◌, ◌<◌, ◌≤◌, ◌+◌, ◌∙◌, ◌⊎◌, ℕ, zero, suc, ℤ, pos, true, false, List, [], ◌∷◌, ◌++◌}
 use Rattle.std.proofs.Common.{length, map, flat_map, Option, None, Some, Result, Ok, Err, OnOk, inl, inr, refl, sym, ap}
-use Rattle.std.proofs.Common.{ap₂, subst, arith, append_assoc, append-nil, length-append, codes}
+use Rattle.std.proofs.Common.{ap₂, subst, arith, append_assoc, append-nil, bit_or, codes, if◌then◌else◌}
 use Rattle.std.proofs.lemmas.Fmt.{decimal_digit}
 use Rattle.std.proofs.lemmas.List.Elements.{All-head, All-tail}
 use Rattle.std.specs.Prelude.{⊤}
@@ -24,21 +24,27 @@ use Rattle.sysv_clients.specs.declared.saved.Entry.TheVariants as entry
 use Rattle.sysv_clients.specs.declared.saved.SavedQueue.{SavedQueue}
 use Rattle.sysv_clients.specs.declared.sending.Cut.{Cut as ACut}
 use Rattle.sysv_clients.specs.declared.stated.TheConstants.{OBJECT_BYTES}
+use Rattle.sysv_clients.specs.Asks.{flags_to_make}
 use Rattle.sysv_clients.specs.Calls.{Call}
 use Rattle.sysv_clients.specs.Copies.{AreMessages, IsMessage, Message, objects_of}
+use Rattle.sysv_clients.specs.Dialogue.{id_after}
 use Rattle.sysv_clients.specs.Lines.{HasNoEnd, HasNone, IsNext, IsText, IsTooLong}
 use Rattle.sysv_clients.specs.Loading.{AreTaken, Asks, EndsAtQueue, EndsLoad, IsLoaded, IsUnfit, LoadsAll, MayLoad}
-use Rattle.sysv_clients.specs.Loading.{Step, Takes, Wants, WantsOfQueue, asks_in, is_own, line_calls, make_ask, outset}
-use Rattle.sysv_clients.specs.Loading.{plain, send_of, set_ask}
+use Rattle.sysv_clients.specs.Loading.{NamesFound, NamesQueue, Step, Takes, Wants, WantsOfQueue, asks_in, line_calls}
+use Rattle.sysv_clients.specs.Loading.{make_ask, outset, plain, send_of, set_ask}
 use Rattle.sysv_clients.specs.Object.{object_line}
 use Rattle.sysv_clients.specs.Restored.{AreKept, IsKept, IsNoLine, IsRestored, Kept, MayAllLoad, RestoresFile, file_of}
-use Rattle.sysv_clients.specs.Restored.{kept_text, load_of, loads_of, saved_of}
+use Rattle.sysv_clients.specs.Restored.{found_by, found_ids, kept_text, load_of, loads_of, saved_of}
 use Rattle.sysv_clients.specs.Saved.{IsFormatLine, IsQueueLine, StatesEntry, format_line, format_tokens, queue_text}
 use Rattle.sysv_clients.specs.Sending.{Sent, sent_by}
 use Rattle.sysv_clients.proofs.CopyLemmas.{next_is, no_next, read_back}
 use Rattle.sysv_clients.proofs.OneEntryLemmas.{one_entry}
 use Rattle.sysv_clients.proofs.QueueLineLemmas.{are_mild, mild_end, queue_back}
+use Rattle.sysv_model.specs.declared.attributes.SetTo.{SetTo}
+use Rattle.sysv_model.specs.declared.flags.Flags.{Flags}
+use Rattle.sysv_model.specs.declared.flags.TheConstants.Flags.{IPC_CREAT}
 use Rattle.sysv_wire.specs.declared.request.Ask.{Ask}
+use Rattle.sysv_wire.specs.declared.request.Ask.TheVariants.{Get, Set, Snd}
 
 -- ---- the first line
 
@@ -284,15 +290,15 @@ may_at loading place queue is may other same =
 of_message : (loading : Loading) (before : Place) (mtype : ℤ) (body : List ℕ) (id : ℤ) (asks : List Sent)
     (after : Place) → before.found ≡ Some id → Asks loading before (entry.Message mtype) body asks after
     → OfMessage loading before mtype body id asks after
-of_message loading before mtype body id asks after opened (queue, found, at, may, then, finds, inl is) =
+of_message loading before mtype body id asks after opened (queue, found, at, may, stays, finds, inl is) =
     let same : found ≡ id = some_same found id (sym is.0 ∙ opened) in record {
       asked = subst (λ (i : ℤ). asks ≡ send_of loading i mtype body ∷ []) same is.1;
       found = finds ∙ ap Some same;
       queue = queue;
-      at = then;
-      may = may_at loading after queue then may;
+      at = stays;
+      may = may_at loading after queue stays may;
     }
-of_message loading before mtype body id asks after opened (queue, found, at, may, then, finds, inr is) =
+of_message loading before mtype body id asks after opened (queue, found, at, may, stays, finds, inr is) =
     none_some _ id (sym is.0 ∙ opened)
 
 -- The line that was taken is the next one of the file, and is loaded.
@@ -436,7 +442,8 @@ ahead_of loading place id (message ∷ messages) ids queues each are kept lines 
       more = rest_text messages queues;
       id = id;
       line = subst (λ (l : List ℕ). IsLineOf l (entry.Message message.mtype) message.body (rest_text messages queues))
-          (sym (append_assoc (object_line message.mtype message.body) (objects_of messages) (flat_map kept_text queues)))
+          (sym (append_assoc (object_line message.mtype message.body) (objects_of messages)
+          (flat_map kept_text queues)))
           (message_line message (rest_text messages queues) are.0);
       found = opened.0;
       queue = opened.1;
@@ -517,7 +524,7 @@ wants_more loading place may asks text line mid partial ask (inl at) next wants 
 wants_more loading place may asks text line mid partial ask (inr (inl at)) next (queue, loads, inl (is, of)) =
     queue_as_format _ line queue [] (this_line text entry.Format [] at.more line mid at.line next).states is
 wants_more loading place may asks text line mid partial ask (inr (inl at)) next
-    (queue, loads, inr (mtype, body, states, there)) =
+    (queue, loads, inr (mtype, body, states, there, none, partly, asked)) =
     message_as_format _ line mtype [] body (this_line text entry.Format [] at.more line mid at.line next).states states
 wants_more loading place may asks text line mid partial ask (inr (inr (inl at))) next (queue, loads, inl (is, of)) =
     queue_as_message _ line queue at.message.mtype at.message.body
@@ -530,7 +537,7 @@ wants_more loading place may asks text line mid partial ask (inr (inr (inr at)))
     let this = this_line text (entry.Queue own) [] at.more line mid at.line next in
     queue_more loading queue own at.id at.others asks partial ask (same_queue line queue own is this.states) at.wants of
 wants_more loading place may asks text line mid partial ask (inr (inr (inr at))) next
-    (queue, loads, inr (mtype, body, states, there)) =
+    (queue, loads, inr (mtype, body, states, there, none, partly, asked)) =
     let own = saved_of at.kept.id at.kept.stat in
     let this = this_line text (entry.Queue own) [] at.more line mid at.line next in
     queue_as_message _ line own mtype body states this.states
@@ -670,12 +677,13 @@ has_queue P loading place may asks text line mid mtype body (inr (inr (inr at)))
 is_format : (P : Type 0) (loading : Loading) (place : Place) (may : Type 0) (asks : List Sent) (text line : List ℕ)
     (mid : Option (List ℕ)) → Ahead loading place may asks text → place.lines ≡ 0
     → IsNext OBJECT_BYTES line (Some text) mid → ¬ IsFormatLine line → P
-is_format P loading place may asks text line mid (inl at) at_first next no = absurd (omega (arith, at_first, at.lines))
-is_format P loading place may asks text line mid (inr (inl at)) at_first next no =
-    absurd (no (this_line text entry.Format [] at.more line mid at.line next).states)
-is_format P loading place may asks text line mid (inr (inr (inl at))) at_first next no =
+is_format P loading place may asks text line mid (inl at) at_first next denied =
     absurd (omega (arith, at_first, at.lines))
-is_format P loading place may asks text line mid (inr (inr (inr at))) at_first next no =
+is_format P loading place may asks text line mid (inr (inl at)) at_first next denied =
+    absurd (denied (this_line text entry.Format [] at.more line mid at.line next).states)
+is_format P loading place may asks text line mid (inr (inr (inl at))) at_first next denied =
+    absurd (omega (arith, at_first, at.lines))
+is_format P loading place may asks text line mid (inr (inr (inr at))) at_first next denied =
     absurd (omega (arith, at_first, at.lines))
 
 has_format : (P : Type 0) (loading : Loading) (place : Place) (may : Type 0) (asks : List Sent) (text : List ℕ)
@@ -683,8 +691,10 @@ has_format : (P : Type 0) (loading : Loading) (place : Place) (may : Type 0) (as
 has_format P loading place may asks text mid (inl at) at_first none = absurd (omega (arith, at_first, at.lines))
 has_format P loading place may asks text mid (inr (inl at)) at_first none =
     has_line P text entry.Format [] at.more mid at.line none
-has_format P loading place may asks text mid (inr (inr (inl at))) at_first none = absurd (omega (arith, at_first, at.lines))
-has_format P loading place may asks text mid (inr (inr (inr at))) at_first none = absurd (omega (arith, at_first, at.lines))
+has_format P loading place may asks text mid (inr (inr (inl at))) at_first none =
+    absurd (omega (arith, at_first, at.lines))
+has_format P loading place may asks text mid (inr (inr (inr at))) at_first none =
+    absurd (omega (arith, at_first, at.lines))
 
 -- No line ends the load.
 no_line : (loading : Loading) (place : Place) (may : Type 0) (asks : List Sent) (text : List ℕ) (mid : Option (List ℕ))
@@ -697,8 +707,8 @@ no_line loading place may asks text mid before unfit.Nothing ahead all at (lines
     let own = stated loading place may asks text line mid ahead next in none own.own own.body own.states
 no_line loading place may asks text mid before unfit.Format ahead all at (at_first, inl none) =
     has_format _ loading place may asks text mid ahead at_first none
-no_line loading place may asks text mid before unfit.Format ahead all at (at_first, inr (line, next, no)) =
-    is_format _ loading place may asks text line mid ahead at_first next no
+no_line loading place may asks text mid before unfit.Format ahead all at (at_first, inr (line, next, denied)) =
+    is_format _ loading place may asks text line mid ahead at_first next denied
 no_line loading place may asks text mid before unfit.Private ahead all at (line, next, queue, is, at_first) =
     (may_queue loading place may asks text line mid queue ahead all at next is).0 at_first
 no_line loading place may asks text mid before (unfit.Creator uid gid) ahead all at
@@ -757,10 +767,20 @@ ends loading place may (Err (Cut cut)) asks text steps calls partial waiting lef
       readable = λ all. tt;
     }
 
+-- The requests are those of the queues.
+record Restores (loading : Loading) (queues : List Kept) (ended : Result ⊤ Unloaded) (sents : List Sent) :
+    Type 0 where
+  ids : List ℤ
+  later : List Sent
+  each : length ids ≡ length queues
+  requests : loads_of loading ids queues ≡ sents ++ later
+  all : OnOk ended (later ≡ [])
+  readable : MayAllLoad loading queues → IsNoLine ended
+
 restored_by : (loading : Loading) (queues : List Kept) (ended : Result ⊤ Unloaded) (sents asks left partial : List Sent)
     (ids : List ℤ) → length ids ≡ length queues → loads_of loading ids queues ≡ asks ++ left
     → sents ≡ asks ++ partial → Ends loading (MayAllLoad loading queues) ended left partial
-    → IsRestored loading queues ended sents
+    → Restores loading queues ended sents
 restored_by loading queues ended sents asks left partial ids each splits made how = record {
   ids = ids;
   later = how.more.0;
@@ -784,7 +804,7 @@ after_steps : (loading : Loading) (queues : List Kept) (ended : Result ⊤ Unloa
     → AreKept queues → loading.from ≤ 2 → AreTaken loading outset steps (Some (file_of queues)) unloaded place
     → sents ≡ asks_in steps ++ partial
     → EndsLoad loading ended place steps calls partial waiting left rest taken more unloaded unfed
-    → IsRestored loading queues ended sents
+    → Restores loading queues ended sents
 after_steps loading queues ended [] place calls sents partial waiting None left rest taken more unfed kept from
     (read, same) made end = absurd read
 after_steps loading queues ended [] place calls sents partial waiting (Some text) left rest taken more unfed kept from
@@ -823,15 +843,152 @@ after_steps loading queues ended (step ∷ steps) place calls sents partial wait
     (subst (λ (m : Option (List ℕ)).
     EndsLoad loading ended place (step ∷ steps) calls partial waiting left rest taken more m unfed) so_far.left end)))
 
+-- ---- the identifiers
+
+-- The calls that made these requests.
+record AreMadeBy (first : Sent) (more : List Sent) (calls : List Call) : Type 0 where
+  call : Call
+  later : List Call
+  are : calls ≡ call ∷ later
+  asked : call.ask ≡ first.ask
+  others : sent_by later ≡ more
+
+made_by : (first : Sent) (more : List Sent) (calls : List Call) → sent_by calls ≡ first ∷ more
+    → AreMadeBy first more calls
+made_by first more [] same = no_sent first more same
+  where
+    no_sent : (first : Sent) (more : List Sent) → [] ≡ first ∷ more → AreMadeBy first more []
+    no_sent first more same = absurd (cc same)
+made_by first more (call ∷ later) same = record {
+  call = call;
+  later = later;
+  are = refl;
+  asked = first_ask (record { ask = call.ask; text = call.text }) first (sent_by later) more same;
+  others = others_same (record { ask = call.ask; text = call.text }) first (sent_by later) more same;
+}
+  where
+    first_ask : (a b : Sent) (x y : List Sent) → a ∷ x ≡ b ∷ y → a.ask ≡ b.ask
+    first_ask a b x y same = let whole : a ≡ b = cc same in ap (λ (s : Sent). s.ask) whole
+    others_same : (a b : Sent) (x y : List Sent) → a ∷ x ≡ b ∷ y → x ≡ y
+    others_same a b x y same = cc same
+
+-- A request for a queue names its identifier.
+named_id : (found id : ℤ) (to : SetTo) (next : Ask) → next ≡ Set id to → NamesQueue found next → found ≡ id
+named_id found id to next is (inl (other, same)) = one_id found id other to (sym same ∙ is)
+  where
+    one_id : (a b : ℤ) (x y : SetTo) → Set a x ≡ Set b y → a ≡ b
+    one_id a b x y same = cc same
+named_id found id to next is (inr (mtype, flags, same)) = no_set found id mtype flags to (sym same ∙ is)
+  where
+    no_set : (a b : ℤ) (mtype : ℤ) (flags : Flags) (y : SetTo) → Snd a mtype flags ≡ Set b y → a ≡ b
+    no_set a b mtype flags y same = absurd (cc same)
+
+-- The sends of a queue find none.
+after_sends : (loading : Loading) (id : ℤ) (messages : List Message) (more : List Sent) (calls : List Call)
+    → sent_by calls ≡ map (λ (m : Message). send_of loading id m.mtype m.body) messages ++ more
+    → NamesFound calls []
+    → (later : List Call) × (sent_by later ≡ more) × NamesFound later [] × (found_ids calls ≡ found_ids later)
+after_sends loading id [] more calls same named = (calls, same, named, refl)
+after_sends loading id (message ∷ messages) more calls same named =
+    let made = made_by (send_of loading id message.mtype message.body)
+    (map (λ (m : Message). send_of loading id m.mtype m.body) messages ++ more) calls same in
+    let rest = after_sends loading id messages more made.later made.others
+    (subst (λ (l : List Call). NamesFound l []) made.are named).1 in (
+      rest.0,
+      rest.1,
+      rest.2,
+      ap found_ids made.are
+          ∙ ap (λ (a : Ask). found_by a made.call.answer ++ found_ids made.later) made.asked ∙ rest.3,
+    )
+
+-- The queue of a msgget and a msgctl.
+found_queue : (queue : SavedQueue) (id : ℤ) (name : ℤ) (flags : Flags) (more : List Sent) (first : Call)
+    (later : List Call) → first.ask ≡ Get name flags → sent_by later ≡ plain (set_ask queue id) ∷ more
+    → NamesFound (first ∷ later) [] → id_after (pos 0) first.answer ≡ id
+found_queue queue id name flags more first [] asked same named =
+    no_sent (id_after (pos 0) first.answer) id (plain (set_ask queue id)) more same
+  where
+    no_sent : (a b : ℤ) (s : Sent) (more : List Sent) → [] ≡ s ∷ more → a ≡ b
+    no_sent a b s more same = absurd (cc same)
+found_queue queue id name flags more first (second ∷ later) asked same named =
+    named_id (id_after (pos 0) first.answer) id
+    (record { uid = queue.uid; gid = queue.gid; mode = queue.mode; qbytes = queue.qbytes }) second.ask
+    (second_ask (record { ask = second.ask; text = second.text }) (plain (set_ask queue id)) (sent_by later) more same)
+    (named.0 name flags asked)
+  where
+    second_ask : (a b : Sent) (x y : List Sent) → a ∷ x ≡ b ∷ y → a.ask ≡ b.ask
+    second_ask a b x y same = let whole : a ≡ b = cc same in ap (λ (s : Sent). s.ask) whole
+
+-- The flags of a msgget that makes this queue.
+abbrev flags_to_load : Loading → SavedQueue → Flags
+flags_to_load loading queue =
+    if loading.into then record { 0 = bit_or IPC_CREAT.0 queue.mode } else flags_to_make queue.mode
+
+ids_returned : (loading : Loading) (ids : List ℤ) (queues : List Kept) (calls : List Call)
+    → length ids ≡ length queues → sent_by calls ≡ loads_of loading ids queues → NamesFound calls []
+    → ids ≡ found_ids calls
+ids_returned loading [] [] [] each same named = refl
+ids_returned loading [] [] (call ∷ calls) each same named =
+    no_call (record { ask = call.ask; text = call.text }) (sent_by calls) _ _ same
+  where
+    no_call : (s : Sent) (more : List Sent) (x y : List ℤ) → s ∷ more ≡ [] → x ≡ y
+    no_call s more x y same = absurd (cc same)
+ids_returned loading (id ∷ ids) [] calls each same named = absurd (omega (arith, each))
+ids_returned loading [] (kept ∷ queues) calls each same named = absurd (omega (arith, each))
+ids_returned loading (id ∷ ids) (kept ∷ queues) calls each same named =
+    let queue = saved_of kept.id kept.stat in
+    let more = loads_of loading ids queues in
+    let sends = map (λ (m : Message). send_of loading id m.mtype m.body) kept.messages ++ more in
+    let one = made_by (plain (make_ask loading queue)) (plain (set_ask queue id) ∷ sends) calls same in
+    let first = subst (λ (l : List Call). NamesFound l []) one.are named in
+    let two = made_by (plain (set_ask queue id)) sends one.later one.others in
+    let second = subst (λ (l : List Call). NamesFound l []) two.are first.1 in
+    let found = found_queue queue id queue.key (flags_to_load loading queue) sends one.call one.later one.asked
+    one.others first in
+    let rest = after_sends loading id kept.messages more two.later two.others second.1 in
+    let later = ids_returned loading ids queues rest.0 (omega (arith, each)) rest.1 rest.2 in
+    ap₂ (λ (i : ℤ) (l : List ℤ). i ∷ l) (sym found) (later ∙ sym rest.3)
+    ∙ sym (ap found_ids one.are
+    ∙ ap₂ (λ (a : Ask) (l : List Call). found_by a one.call.answer ++ found_ids l) one.asked two.are
+    ∙ ap (λ (a : Ask).
+    id_after (pos 0) one.call.answer ∷ (found_by a two.call.answer ++ found_ids two.later)) two.asked)
+
+all_returned : (loading : Loading) (queues : List Kept) (ended : Result ⊤ Unloaded) (place : Place) (steps : List Step)
+    (calls every : List Call) (partial waiting : List Sent) (left rest taken more fed unfed : Option (List ℕ))
+    (restores : Restores loading queues ended (sent_by calls ++ waiting)) → NamesFound calls waiting
+    → EndsLoad loading ended place steps every partial waiting left rest taken more fed unfed
+    → OnOk ended (restores.ids ≡ found_ids calls)
+all_returned loading queues (Ok done) place steps calls every partial waiting left rest taken more fed unfed restores
+    named end =
+    let none = end.0.none in
+    let same : sent_by calls ≡ loads_of loading restores.ids queues =
+    sym (restores.requests ∙ ap (λ (l : List Sent). (sent_by calls ++ waiting) ++ l) restores.all
+    ∙ append-nil (sent_by calls ++ waiting) ∙ ap (λ (l : List Sent). sent_by calls ++ l) none
+    ∙ append-nil (sent_by calls)) in
+    ids_returned loading restores.ids queues calls restores.each same
+    (subst (λ (l : List Sent). NamesFound calls l) none named)
+all_returned loading queues (Err why) place steps calls every partial waiting left rest taken more fed unfed restores
+    named end = tt
+
 pub restores_text : (queues : List Kept) (bytes : List ℕ) → bytes ≡ file_of queues → AreKept queues
     → (loading : Loading) (ended : Result ⊤ Unloaded) (left rest taken more unfed : Option (List ℕ))
     (load : LoadsAll loading ended left rest taken more (Some bytes) unfed) → loading.from ≤ 2
-    → IsRestored loading queues ended (sent_by (line_calls load.calls) ++ load.waiting)
+    → IsRestored loading queues ended (line_calls load.calls) load.waiting
 restores_text queues bytes is kept loading ended left rest taken more unfed load from =
-    after_steps loading queues ended load.steps load.place load.calls (sent_by (line_calls load.calls) ++ load.waiting)
+    let calls = line_calls load.calls in
+    let so = after_steps loading queues ended load.steps load.place load.calls (sent_by calls ++ load.waiting)
     load.partial load.waiting load.unloaded load.unread rest load.written more unfed kept from
     (subst (λ (t : List ℕ). AreTaken loading outset load.steps (Some t) load.unloaded load.place) is load.lines)
-    load.made load.ends
+    load.made load.ends in record {
+      ids = so.ids;
+      later = so.later;
+      each = so.each;
+      requests = so.requests;
+      all = so.all;
+      returned = all_returned loading queues ended load.place load.steps calls load.calls load.partial load.waiting
+          load.unread rest load.written more load.unloaded unfed so load.named load.ends;
+      readable = so.readable;
+    }
 
 pub restores : (queues : List Kept) → AreKept queues → RestoresFile queues
 restores queues kept loading ended left rest taken more unfed load from =

@@ -29,3 +29,5 @@ pub mod Saving
 pub mod Loading
 pub mod Loaded
 pub mod Restored
+pub mod Refilled
+pub mod WorkedFile

@@ -19,6 +19,7 @@ use Rattle.sysv_clients.specs.declared.saved.SavedQueue.{SavedQueue}
 use Rattle.sysv_clients.specs.declared.stated.TheConstants.{OBJECT_BYTES}
 use Rattle.sysv_clients.specs.Calls.{Call}
 use Rattle.sysv_clients.specs.Copies.{AreMessages, Message, objects_of}
+use Rattle.sysv_clients.specs.Dialogue.{id_after}
 use Rattle.sysv_clients.specs.Lines.{IsText}
 use Rattle.sysv_clients.specs.Loading.{LoadsAll, MayLoad, line_calls, make_ask, plain, send_of, set_ask}
 use Rattle.sysv_clients.specs.Saved.{IsQueueLine, StatesEntry, format_line, queue_text}
@@ -173,15 +174,35 @@ IsNoLine (Err Many) = ⊤
 IsNoLine (Err (Input why)) = ⊤
 IsNoLine (Ok done) = ⊤
 
--- The requests of a load after its hello are the first of those that make these queues and send their messages, and
--- all of them if it ended without an error. No line of the file ends it if each queue may be loaded.
-pub record IsRestored (loading : Loading) (queues : List Kept) (ended : Result ⊤ Unloaded) (sents : List Sent) :
-    Type 0 where
+-- The identifiers that the msggets of these calls returned, in order.
+abbrev pub found_by : Ask → ReplyContent → List ℤ
+found_by (Get name flags) answer = id_after (pos 0) answer ∷ []
+found_by (Hello cred) answer = []
+found_by (Snd id mtype flags) answer = []
+found_by (Rcv id size mtype flags) answer = []
+found_by (Stat id) answer = []
+found_by (Set id to) answer = []
+found_by (Rm id) answer = []
+found_by (Row slot) answer = []
+found_by (Hold id size mtype flags seconds) answer = []
+found_by Done answer = []
+found_by Back answer = []
+
+abbrev pub found_ids : List Call → List ℤ
+found_ids calls = flat_map (λ call. found_by call.ask call.answer) calls
+
+-- The requests of a load after its hello, of which these calls have a reply and the others have none, are the first of
+-- those that make these queues and send their messages. If the load ended without an error they are all of them, and
+-- each queue was set and filled under the identifier that its msgget returned. No line of the file ends the load if
+-- each queue may be loaded.
+pub record IsRestored (loading : Loading) (queues : List Kept) (ended : Result ⊤ Unloaded) (calls : List Call)
+    (waiting : List Sent) : Type 0 where
   pub ids : List ℤ
   pub later : List Sent
   pub each : length ids ≡ length queues
-  pub requests : loads_of loading ids queues ≡ sents ++ later
+  pub requests : loads_of loading ids queues ≡ (sent_by calls ++ waiting) ++ later
   pub all : OnOk ended (later ≡ [])
+  pub returned : OnOk ended (ids ≡ found_ids calls)
   pub readable : MayAllLoad loading queues → IsNoLine ended
 
 -- A load of a file of these queues, from its first line on, restores them.
@@ -189,7 +210,7 @@ abbrev pub RestoresFile : List Kept → Type 0
 RestoresFile queues =
     (loading : Loading) (ended : Result ⊤ Unloaded) (left rest taken more unfed : Option (List ℕ))
     (load : LoadsAll loading ended left rest taken more (Some (file_of queues)) unfed) → loading.from ≤ 2
-    → IsRestored loading queues ended (sent_by (line_calls load.calls) ++ load.waiting)
+    → IsRestored loading queues ended (line_calls load.calls) load.waiting
 
 -- The screen of a save did not fail.
 abbrev pub HasScreen : Result ⊤ Unheld → Type 0
@@ -220,4 +241,4 @@ RestoresSaved =
     → save.calls ≢ [] → AreOfServer (queues_of save.calls)
     → (loading : Loading) (ended : Result ⊤ Unloaded) (unheard unread untaken written unfed : Option (List ℕ))
     (load : LoadsAll loading ended unheard unread untaken written (Some bytes) unfed) → loading.from ≤ 2
-    → IsRestored loading (queues_of save.calls) ended (sent_by (line_calls load.calls) ++ load.waiting)
+    → IsRestored loading (queues_of save.calls) ended (line_calls load.calls) load.waiting

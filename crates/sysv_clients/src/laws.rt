@@ -1,7 +1,9 @@
 //! Laws about the definitions.
 ghost use Rattle.std.specs.Prelude.{◌≡◌, ◌+◌, List, ℕ, ℤ};
 ghost use Rattle.sysv_clients.specs.Copies.{AreCopied, AreMessages, IsMessage, IsReadBack, Message, StatesOne};
+ghost use Rattle.sysv_clients.specs.Refilled.{Refills};
 ghost use Rattle.sysv_clients.specs.Restored.{AreKept, IsQueueReadBack, IsServed, Kept, RestoresFile, RestoresSaved, SavesFile, StatesOneEntry};
+ghost use Rattle.sysv_clients.specs.WorkedFile.{WorkedFile};
 ghost use Rattle.sysv_clients.specs.declared.command.TheConstants.{MAX_REQUESTS, MAX_ROWS};
 ghost use Rattle.sysv_model.specs.declared.attributes.Stat.{Stat as Attributes};
 
@@ -32,16 +34,23 @@ pub fn saved_lines_read_back()
     ensures one { (line : List ℕ) → StatesOneEntry line }
 {}
 
-/// States that a `load` of a file of queues makes these queues, in order, and sends their messages,
-/// in order: its requests are the first of those that do that, and all of them if it ends without
-/// an error.
-pub fn saved_queues_are_loaded()
-    ensures { (queues : List Kept) → AreKept queues → RestoresFile queues }
-{}
-
 /// States that a `save` whose screen did not fail has written a file of the queues that it was
-/// given, and that a `load` of this file makes these queues and sends their messages.
+/// given, with their messages in order, and that a `load` of such a file makes these queues and
+/// sends their messages, in the same order: its requests are the first of those that do that, and
+/// all of them if it ends without an error.
 pub fn loading_repeats_what_was_saved()
     ensures written { SavesFile }
+    ensures loaded { (queues : List Kept) → AreKept queues → RestoresFile queues }
     ensures repeated { RestoresSaved }
+{}
+
+/// States that turns of a slot which carry out the requests of a `load` for a queue leave this
+/// queue, with its attributes and its messages, if the slot had no queue before.
+pub fn loaded_queues_are_the_saved_ones()
+    ensures { Refills }
+{}
+
+/// States the file of two queues with three messages, and the requests of a `load` for it.
+pub fn worked_file()
+    ensures { WorkedFile }
 {}

@@ -33,7 +33,10 @@ pub use command::{Command, Form, Format, Making, Receipt, Target, Task};
 pub use fault::ClientFault;
 pub use feed::Feed;
 pub use holding::{Unheld, hold_all, hold_instrumented};
-pub use laws::{numerals_of_commands, objects_read_back, queue_is_copied};
+pub use laws::{
+    loaded_queues_are_the_saved_ones, loading_repeats_what_was_saved, numerals_of_commands,
+    objects_read_back, queue_is_copied, saved_lines_read_back, worked_file,
+};
 pub use loading::{Loading, Unfit, Unloaded, load_feed, load_lines};
 pub use read_ahead::ReadAhead;
 pub use saved::SavedQueue;
