@@ -1,4 +1,5 @@
 pub mod SessionMakesCalls
+pub mod CallsLetIn
 pub mod SessionsPerConnection
 pub mod SumsOfSessions
 pub mod FatesOfSessions

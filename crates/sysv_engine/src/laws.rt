@@ -1,6 +1,7 @@
 //! Laws about the definitions.
 ghost use Rattle.std.specs.Prelude.{⊤};
-ghost use Rattle.sysv_engine.specs.Made.{EachReturnMakesACall, EachSessionMakesCalls};
+ghost use Rattle.sysv_engine.specs.LetIn.{EachCallIsLetIn};
+ghost use Rattle.sysv_engine.specs.Made.{EachReturnMakesACall, EachSessionIsLetIn, EachSessionMakesCalls};
 ghost use Rattle.sysv_engine.specs.OneRun.{EachLifetimeEndsEmpty, EachLifetimeIsOneRun, EachLifetimeLeavesThePoolWhole, NoLifetimeLeavesAGateHeld};
 
 use sysv_seats::ZERO;
@@ -14,9 +15,11 @@ use sysv_thread_laws::{
 ///
 /// It makes one call for each request, except for a request for a row, for a done, and for a hold
 /// or a back that is refused, which are no calls. Each request is answered as its call ended, or
-/// its call was left and has no reply. The session makes no other call with its pass.
+/// its call was left and has no reply. The session makes no other call with its pass. If its hello
+/// is one that is let in, it makes the calls of one that is let in.
 pub fn each_session_makes_calls<C: Clock>(clock: &C)
-    ensures { EachSessionMakesCalls (C.may clock.now) ⊤ }
+    ensures calls { EachSessionMakesCalls (C.may clock.now) ⊤ }
+    ensures callers { EachSessionIsLetIn (C.may clock.now) ⊤ }
 {
     every_service_obeys(clock);
 }
@@ -28,6 +31,12 @@ pub fn each_return_makes_a_call()
 {
     every_service_obeys(&ZERO);
 }
+
+/// States that a server makes each call of a session with the credentials of a caller whom the
+/// connection of the session lets in, also the calls that give back what the session held.
+pub fn each_call_is_let_in()
+    ensures { EachCallIsLetIn }
+{}
 
 /// States that the sessions of a server are one run of its service, if fewer than 2^62 turns were
 /// made at each object.
