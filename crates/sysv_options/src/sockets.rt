@@ -48,7 +48,7 @@ pub struct Entrances<'a> {
 impl<'a> Entrances<'a> {
     /// Returns no socket.
     pub fn none() -> Entrances<'a>
-        ensures { listed result ≡ [] }
+        ensures sockets { listed result ≡ [] }
         ensures count { result.count ≡ 0 }
     {
         Entrances {
