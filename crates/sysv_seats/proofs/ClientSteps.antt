@@ -428,7 +428,7 @@ nothing_yet sent dialogue replies none gathers =
 unlapsed_by : (start : Pass) (settled now : Timed Pass) (outcomes : List RequestOutcome) → settled ≡ begun_with start →
     FoldsTo (Lapses zero_moment) settled outcomes now → now ≡ begun_with start
 unlapsed_by start settled now [] is same = sym same ∙ is
-unlapsed_by start settled now (outcome ∷ outcomes) is (mid, (message, some, more), rest) =
+unlapsed_by start settled now (outcome ∷ outcomes) is (mid, (message, some, limited, sends, held, late), rest) =
     let no : None ≡ Some message = sym (ap (λ (t : Timed Pass). t.holder.message) is) ∙ some in absurd (cc no)
 
 unlapsed : (start : Pass) (settled now : Timed Pass) → settled ≡ begun_with start → LapsesTo zero_moment settled now →

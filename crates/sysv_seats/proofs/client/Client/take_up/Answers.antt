@@ -31,6 +31,7 @@ returns-in-Ok-Hello-clause-keeps g c = λ late newest start origin sits.
     let is = ok_of c.read_next-size.result.1 c.in-Ok-Hello.field-0 (Hello c.in-Ok-Hello.version) c.in-Ok-Hello.is
     (rw c.in-Ok-Hello.is at c.in-Ok-Hello.field-0-is) in
     let last = c.answer_hello.new.self in
+    let same = c.self.view_is ∙ c.read_next-size.ensures.takes.same in
     let seat : List ℕ → S = λ l. record {
       connection = c.self.inside.connection;
       dialogue = c.self.inside.conversation;
@@ -48,8 +49,8 @@ returns-in-Ok-Hello-clause-keeps g c = λ late newest start origin sits.
     reads sits c.in-Ok-Hello.version last c.lets_in-is_let_in.result is
     (λ cred later fits encoded.
     c.lets_in-is_let_in.ensures c.in-Ok-Hello.version cred later fits
-    (ap (λ (s : S). s.input) c.read_next-size.ensures.takes.same ∙ encoded)
-    ∙ ap (λ (s : S). includes (lets_in t.closes s.connection) cred) c.read_next-size.ensures.takes.same) answers
+    (ap (λ (s : S). s.input) same ∙ encoded)
+    ∙ ap (λ (s : S). includes (lets_in t.closes s.connection) cred) same) answers
 
 pub returns-in-Ok-Request-clause-keeps : goal.returns-in-Ok-Request-clause-keeps
 returns-in-Ok-Request-clause-keeps g c = λ late newest start origin sits.
