@@ -1,5 +1,5 @@
 -- The first and the last event of a client.
-use Rattle.std.proofs.Common.{◌≡◌, ◌≢◌, ◌∙◌, ℕ, List, [], ◌∷◌, ◌++◌, length, Option, None, Some, true, false, refl}
+use Rattle.std.proofs.Common.{◌≡◌, ◌∙◌, ℕ, List, [], ◌∷◌, ◌++◌, length, Option, None, Some, true, false, refl}
 use Rattle.std.proofs.Common.{sym, ap}
 use Rattle.std.proofs.Common.{ap₂, subst, arith, inl, inr, append-nil, length-append, Bool}
 use Rattle.std.specs.Prelude.{◌⊎◌}
@@ -8,8 +8,7 @@ use Rattle.std.proofs.KnownBytes.{Appends-nil, prepend_known-nil}
 use Rattle.sysv_keys.specs.declared.identifier.TheConstants.{SLOTS}
 use Rattle.sysv_queue.specs.Tally.{Tallied}
 use Rattle.sysv_session.specs.declared.served.End.{End}
-use Rattle.sysv_session.specs.declared.served.End.TheVariants.{Ended, NoMemory, NoHello, Fault, Write, Bound, Left}
-use Rattle.sysv_session.specs.declared.served.End.TheVariants.{Reset}
+use Rattle.sysv_session.specs.declared.served.End.TheVariants.{NoMemory, NoHello}
 use Rattle.sysv_session.specs.declared.served.Served.{Served}
 use Rattle.sysv_session.specs.Conversation.{Dialogue, report, reported}
 use Rattle.sysv_session.specs.Failing.{is_reset}

@@ -2,30 +2,28 @@
 use Rattle.std.proofs.Common.{◌≡◌, ◌≢◌, ◌≤◌, ◌<◌, ℕ, List, [], ◌∷◌, ◌++◌}
 use Rattle.std.proofs.Common.{length, take, Bool, Option, Result, Err}
 use Rattle.std.proofs.Common.{None, Some, refl, sym, ap, ap₂, subst, subst₂, ◌∙◌, arith, inl, inr, append_assoc}
-use Rattle.std.proofs.Common.{append-nil, drop, length-append}
+use Rattle.std.proofs.Common.{drop}
 use Rattle.std.proofs.lemmas.List.{take-append-drop}
-use Rattle.std.specs.Prelude.{◌==◌, ◌||◌, ◌&&◌, ◌⊎◌, ⊤, IfSome, true, false, is_some, unwrap_or}
+use Rattle.std.specs.Prelude.{◌==◌, ◌||◌, ◌&&◌, ⊤, IfSome, true, false, is_some, unwrap_or}
 use Rattle.std.specs.Io.KnownBytes.{Appends, Consumes, Keeps as KeepsBytes, prepend_known}
 use Rattle.std.proofs.lemmas.Bool.{ne_eqb}
-use Rattle.std.proofs.KnownBytes.{Appends-kept, Appends-nil, Appends-trans, Keeps-refl, prepend_known-nil}
+use Rattle.std.proofs.KnownBytes.{Appends-kept, Appends-trans, Keeps-refl}
 use Rattle.sysv_keys.specs.declared.identifier.TheConstants.{SLOTS}
 use Rattle.sysv_model.specs.declared.cred.Cred.{Cred}
 use Rattle.sysv_session.specs.declared.served.End.{End}
 use Rattle.sysv_session.specs.declared.served.End.TheVariants.{Ended, NoMemory, NoHello, Fault, Write, Bound, Left}
 use Rattle.sysv_session.specs.declared.served.End.TheVariants.{Reset}
-use Rattle.sysv_session.specs.declared.served.Served.{Served}
 use Rattle.sysv_session.specs.declared.handler.RequestOutcome.{RequestOutcome}
 use Rattle.sysv_session.specs.declared.handler.RequestOutcome.TheVariants.{Left as WasLeft}
 use Rattle.sysv_session.specs.declared.session.Session.{Session}
 use Rattle.sysv_session.specs.declared.session.TakenUp.{TakenUp}
 use Rattle.sysv_session.specs.Answers.{IsReplied}
 use Rattle.sysv_queue.specs.Tally.{Tallied}
-use Rattle.sysv_session.specs.Conversation.{HasRoom, Puts, Dialogue, report, reported, sent_on}
-use Rattle.sysv_session.specs.Failing.{is_reset}
-use Rattle.sysv_session.specs.Outbox.{Mark, at_end, beyond, more_written, passed}
+use Rattle.sysv_session.specs.Conversation.{HasRoom, Puts, Dialogue, reported, sent_on}
+use Rattle.sysv_session.specs.Outbox.{Mark, beyond, more_written, passed}
 use Rattle.sysv_session.specs.Stands.{Stands, StandsAsking}
 use Rattle.sysv_session.specs.TakenUp.{EndsHere, TakesUp}
-use Rattle.sysv_session.proofs.GoesOn.{ends, leaves, opens, sends, sends_asking, sends_stopped}
+use Rattle.sysv_session.proofs.GoesOn.{leaves, sends, sends_asking, sends_stopped}
 use Rattle.sysv_session.proofs.GoesOn.{stops_memory, stops_read, stops_reset}
 use Rattle.sysv_session.proofs.GoesOn.{stops_write}
 use Rattle.sysv_session.proofs.OutboxLemmas.{each_once}
@@ -35,18 +33,16 @@ use Rattle.sysv_wire.specs.declared.frame.Version.{Version}
 use Rattle.sysv_seats.specs.declared.parked.Parked.{Parked}
 use Rattle.sysv_seats.specs.Breaking.{Breaks, HasCause, MayEnd}
 use Rattle.sysv_seats.specs.declared.callers.Callers.{Callers}
-use Rattle.sysv_seats.specs.LettingIn.{EndsDenied}
 use Rattle.sysv_seats.specs.Holding.{Holder, Timed, begun_with, timed}
 use Rattle.sysv_seats.proofs.HeldPieces.{hold_left}
 use Rattle.sysv_seats.proofs.LetIn.{known_cred}
 use Rattle.sysv_seats.specs.Sits.{Arrives, GathersDenial, HasDenied, HasFrame, HasStopped, IsAt, IsBehind}
-use Rattle.sysv_seats.specs.Sits.{IsCounted, IsFree, IsKnown, IsOver, means_for}
+use Rattle.sysv_seats.specs.Sits.{IsCounted, IsFree, means_for}
 use Rattle.sysv_seats.specs.Sits.{IsReady, end_at_close, is_finished, is_early}
-use Rattle.sysv_seats.specs.Sits.{Keeps, KeepsWith, Sits, Sitting, broken_off, broken_off_for, stopped_for, with_input}
+use Rattle.sysv_seats.specs.Sits.{Keeps, KeepsWith, Sitting, broken_off, broken_off_for, stopped_for, with_input}
 use Rattle.sysv_seats.specs.Sits.{zero_moment}
 use Rattle.sysv_seats.specs.declared.non_blocking.Drained.TheVariants.{Took}
 use Rattle.sysv_seats.specs.NonBlocking.{DrainAppends}
-use Rattle.sysv_seats.specs.Untold.{Closing}
 
 -- ---- what every client keeps
 

@@ -7,7 +7,7 @@ use Rattle.sysv_model.specs.declared.cred.Cred.{Cred}
 use Rattle.sysv_session.specs.Input.{hello_encoding}
 use Rattle.sysv_wire.specs.declared.frame.Version.{Version}
 use Rattle.sysv_wire.specs.declared.request.Ask.TheVariants.{Hello}
-use Rattle.sysv_wire.specs.Frames.{frame, op_number, version_number}
+use Rattle.sysv_wire.specs.Frames.{frame}
 use Rattle.sysv_wire.specs.Numbers.{u32_bytes}
 use Rattle.sysv_wire.specs.Requests.{FitsAsk, ask_fields}
 

@@ -1,5 +1,5 @@
 -- A session whose caller is let in.
-use Rattle.std.proofs.Common.{◌≡◌, ◌∙◌, ℕ, ◌+◌, ◌≤◌, List, [], ◌∷◌, ◌++◌, length, Option, None, Some, true, refl, sym}
+use Rattle.std.proofs.Common.{◌≡◌, ◌∙◌, ℕ, List, [], ◌∷◌, ◌++◌, Option, None, Some, true, refl, sym}
 use Rattle.std.proofs.Common.{ap}
 use Rattle.std.proofs.Common.{subst, arith, inl, inr, append_assoc}
 use Rattle.std.specs.Prelude.{⊤}
