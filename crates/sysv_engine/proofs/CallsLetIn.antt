@@ -4,7 +4,7 @@ use Rattle.std.proofs.Common.{◌≡◌, ◌∙◌, ℕ, ℤ, List, [], ◌∷�
 use Rattle.std.proofs.Common.{subst}
 use Rattle.std.proofs.Common.{inl, inr, append-nil, append_assoc}
 use Rattle.std.specs.Prelude.{⊤, Ok, Err}
-use Rattle.std.specs.List.{AllByRecursion, FoldsTo, concat}
+use Rattle.std.specs.List.{FoldsTo}
 use Rattle.sysv_bank.specs.Banks.{Each2}
 use Rattle.sysv_keys.specs.declared.identifier.TheConstants.{SLOTS}
 use Rattle.sysv_model.specs.declared.cred.Cred.{Cred}
@@ -17,6 +17,7 @@ use Rattle.sysv_session.specs.Calls.{Call, Leads}
 use Rattle.sysv_steps.specs.Call.{SystemCall, Msgget, Msgsnd, Msgrcv, MsgctlStat, MsgctlSet, MsgctlRmid, kind_of}
 use Rattle.sysv_steps.specs.State.{State, Waits, Over}
 use Rattle.sysv_steps.specs.Stepping.{no_moment}
+use Rattle.sysv_thread_laws.specs.Hiring.{all_of}
 use Rattle.sysv_thread_laws.specs.Lifetime.{call_of}
 use Rattle.sysv_thread_laws.specs.Order.{Called}
 use Rattle.sysv_wire.specs.declared.frame.Version.{Version}
@@ -270,7 +271,7 @@ module _ (callers : Callers) where
 -- The calls of sessions, one after the other.
 record InEach (before : Log) (dialogues : List Dialogue) (after : Log) : Type 0 where
   each : List (List Called)
-  is : after.made ≡ before.made ++ concat each
+  is : after.made ≡ before.made ++ all_of each
   all : Each2 (λ (dialogue : Dialogue) (made : List Called). AreLetIn dialogue.callers made) dialogues each
 
 in_each : (newest : Version) (before : Log) (dialogues : List Dialogue) (after : Log) →
@@ -287,8 +288,8 @@ in_each newest before (dialogue ∷ dialogues) after (next, (mid, dialogues_as, 
     record {
       each = one.calls ∷ rest.each;
       is = rest.is
-          ∙ (ap (λ (l : List Called). l ++ concat rest.each) one.is
-          ∙ append_assoc before.made one.calls (concat rest.each));
+          ∙ (ap (λ (l : List Called). l ++ all_of rest.each) one.is
+          ∙ append_assoc before.made one.calls (all_of rest.each));
       all = (one.all, rest.all);
     }
 

@@ -2,11 +2,10 @@
 use Rattle.std.proofs.Common.{◌≡◌, ◌∙◌, List, [], ◌∷◌, ◌++◌, Option, None, Some, refl, sym, subst, append_assoc}
 use Rattle.std.proofs.Common.{append-nil, ap, arith, length, ℕ, ◌+◌, ◌<◌, get_or, set}
 use Rattle.std.specs.Prelude.{⊤}
-use Rattle.std.specs.List.{concat}
 use Rattle.std.specs.Option.{option_to_list}
 use Rattle.sysv_seats.specs.declared.socket_stream.SocketStream.{SocketStream}
 use Rattle.sysv_server.specs.Doors as doors
-use Rattle.sysv_server.specs.Doors.{Came, EachCame, OneCame}
+use Rattle.sysv_server.specs.Doors.{Came, EachCame, OneCame, all_accepted}
 
 module _ {L : Type 0} (steps : L → Option SocketStream → L → Type 0) where
   pub came_on : (a b c : L) (xs ys : List SocketStream) → Came steps a xs b → Came steps b ys c →
@@ -50,7 +49,7 @@ module _ {L : Type 0} (steps : L → Option SocketStream → L → Type 0) where
 
   -- One of them makes one more step.
   one_more : (ls : List L) (parts : List (List SocketStream)) (ms : List L) (n : ℕ) (m d : L)
-      (step : Option SocketStream) → EachCame steps ls parts ms → concat parts ≡ [] → n < length ms →
+      (step : Option SocketStream) → EachCame steps ls parts ms → all_accepted parts ≡ [] → n < length ms →
       steps (get_or ms n d) step m → OneCame steps ls step (set ms n m)
   one_more [] [] [] n m d step each none there made = absurd (omega (arith, there))
   one_more [] [] (x ∷ ms) n m d step each none there made = absurd each
@@ -58,16 +57,16 @@ module _ {L : Type 0} (steps : L → Option SocketStream → L → Type 0) where
   one_more (l ∷ ls) [] ms n m d step each none there made = absurd each
   one_more (l ∷ ls) (p ∷ ps) [] n m d step each none there made = absurd each
   one_more (l ∷ ls) (p ∷ ps) (x ∷ ms) zero m d step each none there made =
-      let no = nothing_of p (concat ps) none in (
+      let no = nothing_of p (all_accepted ps) none in (
         (p ++ option_to_list step) ∷ ps,
         (stepped l x m p step each.0 made, each.1),
         ap (λ (k : List SocketStream). (p ++ option_to_list step) ++ k) no.1
             ∙ (append-nil (p ++ option_to_list step) ∙ ap (λ (k : List SocketStream). k ++ option_to_list step) no.0),
       )
   one_more (l ∷ ls) (p ∷ ps) (x ∷ ms) (suc n) m d step each none there made =
-      let no = nothing_of p (concat ps) none in
+      let no = nothing_of p (all_accepted ps) none in
       let rest = one_more ls ps ms n m d step each.1 no.1 (omega (arith, there)) made in
-      (p ∷ rest.0, (each.0, rest.1), ap (λ (k : List SocketStream). k ++ concat rest.0) no.0 ∙ rest.2)
+      (p ∷ rest.0, (each.0, rest.1), ap (λ (k : List SocketStream). k ++ all_accepted rest.0) no.0 ∙ rest.2)
 
   pub one_came : (ls ms : List L) (n : ℕ) (m d : L) (step : Option SocketStream) → OneCame steps ls None ms →
       n < length ms → steps (get_or ms n d) step m → OneCame steps ls step (set ms n m)
@@ -75,7 +74,7 @@ module _ {L : Type 0} (steps : L → Option SocketStream → L → Type 0) where
 
   -- They made one step that accepts nothing, or none, and then one more.
   quiet_on : (xs : List L) (ps : List (List SocketStream)) (ys : List L) (qs : List (List SocketStream)) (zs : List L) →
-      EachCame steps xs ps ys → concat ps ≡ [] → EachCame steps ys qs zs → EachCame steps xs qs zs
+      EachCame steps xs ps ys → all_accepted ps ≡ [] → EachCame steps ys qs zs → EachCame steps xs qs zs
   quiet_on [] [] [] [] [] one none two = tt
   quiet_on [] [] [] [] (c ∷ zs) one none two = absurd two
   quiet_on [] [] [] (q ∷ qs) zs one none two = absurd two
@@ -86,7 +85,7 @@ module _ {L : Type 0} (steps : L → Option SocketStream → L → Type 0) where
   quiet_on (a ∷ xs) (p ∷ ps) (b ∷ ys) [] zs one none two = absurd two
   quiet_on (a ∷ xs) (p ∷ ps) (b ∷ ys) (q ∷ qs) [] one none two = absurd two
   quiet_on (a ∷ xs) (p ∷ ps) (b ∷ ys) (q ∷ qs) (c ∷ zs) one none two =
-      let no = nothing_of p (concat ps) none in (
+      let no = nothing_of p (all_accepted ps) none in (
         subst (λ (k : List SocketStream). Came steps a (k ++ q) c) no.0 (came_on a b c p q one.0 two.0),
         quiet_on xs ps ys qs zs one.1 no.1 two.1,
       )

@@ -2,7 +2,7 @@
 use Rattle.std.specs.Prelude.{◌≡◌, ◌⊎◌, ⊤, List, [], ◌∷◌, ◌++◌, Option, None, Some}
 use Rattle.std.specs.declared.io.Error.{Error}
 use Rattle.std.specs.IoError.{raw_os_error}
-use Rattle.std.specs.List.{concat}
+use Rattle.std.specs.List.{flat_map}
 use Rattle.std.specs.Option.{option_to_list}
 use Rattle.sysv_seats.specs.declared.socket_stream.SocketStream.{SocketStream}
 use Rattle.sysv_server.specs.Listening.{HasFailed}
@@ -21,6 +21,10 @@ pub data Came {L : Type 0} (steps : L → Option SocketStream → L → Type 0) 
       Came steps before accepted mid → steps mid (Some stream) after →
       Came steps before (accepted ++ stream ∷ []) after
 
+-- What several listeners accepted: the connections of the first one, then those of the next one, and so on.
+abbrev pub all_accepted : List (List SocketStream) → List SocketStream
+all_accepted parts = flat_map (λ accepted. accepted) parts
+
 module _ {L : Type 0} (steps : L → Option SocketStream → L → Type 0) where
   -- Each of several listeners made steps of its own, in which it accepted these connections.
   abbrev pub EachCame : List L → List (List SocketStream) → List L → Type 0
@@ -32,7 +36,7 @@ module _ {L : Type 0} (steps : L → Option SocketStream → L → Type 0) where
   -- The same, and together they accepted this connection, or none.
   abbrev pub OneCame : List L → Option SocketStream → List L → Type 0
   OneCame before step after = (parts : List (List SocketStream)) × EachCame before parts after
-      × (concat parts ≡ option_to_list step)
+      × (all_accepted parts ≡ option_to_list step)
 
 -- Of several listeners no client waits at any, and the error is EAGAIN, or an accept at one of them has failed with
 -- this error. `fails` are the accepts of a listener that may fail.
