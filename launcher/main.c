@@ -91,7 +91,7 @@ static struct request read_words(char **words)
     else
         request = (struct request){.path = words[0], .options = words + 1};
     if (*request.path == '\0' || *request.path == '-')
-        refuse("the path comes first, and begins with no -");
+        refuse("the path comes first, and does not begin with -");
     char why[WHY_BYTES];
     if (!options_are_valid(request.options, why)
         || !users_take(&request.options, &request.users, why))

@@ -74,6 +74,12 @@ pub record ServesOn (shows : Bool) (blocks places most : ℕ) (limits : Limits) 
   pub removed : Result ℕ Errno
   pub lived : Lived shows blocks gates shifts removed
 
+-- The same of a server without limits of time that shows no state, whose sessions may not hold messages: they
+-- read versions up to 2.
+pub record ServesPlainly (blocks places most : ℕ) (sums : Sums) : Type 0 where
+  pub served : ServesOn false blocks places most (limits_for 0 0 0) sums
+  pub versions : AllByRecursion (λ (shift : Shift). shift.newest ≡ newest_of false) served.shifts
+
 -- A server served the connections of a listener, and then removed the queues that were left. It
 -- returns what its stop and its close told.
 pub record EndsOn (shows : Bool) (blocks places most : ℕ) (limits : Limits) (ended : Ended) : Type 0 where

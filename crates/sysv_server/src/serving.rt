@@ -3,8 +3,7 @@ ghost use Rattle.std.specs.Prelude.{◌≡◌, ◌≤◌, false, IfErr, IfOk, If
 ghost use Rattle.sysv_model.specs.declared.limits.TheConstants.{MIN_BLOCKS, MAX_BLOCKS};
 ghost use Rattle.sysv_workers.specs.declared.workers.TheConstants.{MAX_WORKERS};
 ghost use Rattle.sysv_engine.specs.Added.{IsBalanced};
-ghost use Rattle.sysv_server.specs.Serving.{EndsFrom, EndsOn, FailsFrom, FailsOn, HasCause, HasReason, RanOn, ServesOn, limits_in};
-ghost use Rattle.sysv_seats.specs.Limits.{limits_for};
+ghost use Rattle.sysv_server.specs.Serving.{EndsFrom, EndsOn, FailsFrom, FailsOn, HasCause, HasReason, RanOn, ServesPlainly, limits_in};
 ghost use Rattle.sysv_server.specs.declared.serving.TheConstants.{MAX_CLIENTS};
 
 use crate::accepting::Accepting;
@@ -60,8 +59,7 @@ pub fn serve_on<R: Threads + Wait + Net + Sync>(
 ) -> Result<Sums, ServeFault>
     requires blocks { (MIN_BLOCKS ≤ blocks) × (blocks ≤ MAX_BLOCKS) }
     requires workers { (1 ≤ workers) × (workers ≤ MAX_WORKERS) }
-    ensures ok { IfOk result (λ sums. ServesOn false blocks workers sessions
-        (limits_for 0 0 0) sums) }
+    ensures ok { IfOk result (ServesPlainly blocks workers sessions) }
     ensures balance { IfOk result IsBalanced }
     ensures err { IfErr result (FailsOn false blocks workers sessions) }
 {
