@@ -35,8 +35,11 @@ grants h a cred want is mode granted =
     permits cred a.perm want mode (subst (IsGranted want cred) is granted)
 
 -- Two credentials of one request are the same.
+same_cred : (one cred : Cred) → Some one ≡ Some cred → one ≡ cred
+same_cred one cred same = cc same
+
 to_owner : (a : Attributes) (one cred : Cred) → Some one ≡ Some cred → MayControl one a.perm → MayControl cred a.perm
-to_owner a one cred same may = subst (λ (c : Cred). MayControl c a.perm) (cc same) may
+to_owner a one cred same may = subst (λ (c : Cred). MayControl c a.perm) (same_cred one cred same) may
 
 opens : (h : History) (call : Call) (reply : Reply) (a : Attributes) (cred : Cred) → live h ≡ Some a →
     a.perm.mode ≡ 0o600 → opened_with call reply ≡ Some cred → IsAllowed h call reply → MayControl cred a.perm
