@@ -1,5 +1,5 @@
 -- What a listener has accepted, step by step, and several listeners together (this project's profile).
-use Rattle.std.specs.Prelude.{◌≡◌, ◌⊎◌, ⊤, List, [], ◌∷◌, ◌++◌, Option, None, Some}
+use Rattle.std.specs.Prelude.{◌≡◌, ◌⊎◌, ⊤, pos, List, [], ◌∷◌, ◌++◌, Option, None, Some}
 use Rattle.std.specs.declared.io.Error.{Error}
 use Rattle.std.specs.IoError.{raw_os_error}
 use Rattle.std.specs.List.{flat_map}
@@ -41,4 +41,4 @@ module _ {L : Type 0} (steps : L → Option SocketStream → L → Type 0) where
 -- Of several listeners no client waits at any, and the error is EAGAIN, or an accept at one of them has failed with
 -- this error. `fails` are the accepts of a listener that may fail.
 abbrev pub IsFailure : {L : Type 0} → (L → Error → L → Type 0) → Error → Type 0
-IsFailure fails why = (raw_os_error why ≡ Some 11) ⊎ HasFailed fails why
+IsFailure fails why = (raw_os_error why ≡ Some (pos 11)) ⊎ HasFailed fails why

@@ -1,5 +1,5 @@
 //! Several sockets that connections are accepted from.
-ghost use Rattle.std.specs.Prelude.{◌≡◌, ◌<◌, ◌+◌, ◌⊎◌, ◌||◌, IfErr, IfOk, List, MatchResult, None, Some, drop, false, take, true, vec_len};
+ghost use Rattle.std.specs.Prelude.{◌≡◌, ◌<◌, ◌+◌, ◌⊎◌, ◌||◌, IfErr, IfOk, List, MatchResult, None, Some, drop, false, pos, take, true, vec_len};
 ghost use Rattle.std.specs.IoError.{raw_os_error};
 ghost use Rattle.std.specs.List.{list_any};
 ghost use Rattle.sysv_seats.specs.Untold.{limits_of};
@@ -114,7 +114,7 @@ impl<'h, L: Listens, H: Host> Doors<'h, L, H> {
     #[tactic(auto, using(crate::proofs::Came::none_came))]
     fn give_up(&mut self, number: usize, why: io::Error) -> io::Error
         requires { number < vec_len self.old.sockets }
-        ensures why { (result ≡ why) ⊎ (raw_os_error result ≡ Some 11) }
+        ensures why { (result ≡ why) ⊎ (raw_os_error result ≡ Some (pos 11)) }
         ensures came { OneCame L.steps self.old.sockets.items None self.new.sockets.items }
         ensures open { list_any L.listens self.new.sockets.items
             ≡ list_any L.listens self.old.sockets.items }
@@ -220,7 +220,7 @@ fn any_open<L: Listens>(sockets: &[L]) -> bool
 
 /// Returns the error that no client waits, which is tried again.
 fn none_waits() -> io::Error
-    ensures { raw_os_error result ≡ Some 11 }
+    ensures { raw_os_error result ≡ Some (pos 11) }
 {
     io::Error::from_raw_os_error(EAGAIN)
 }
