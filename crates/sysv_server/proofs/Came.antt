@@ -1,7 +1,7 @@
 -- The steps of a listener, one after another.
 use Rattle.std.proofs.Common.{◌≡◌, ◌∙◌, List, [], ◌∷◌, ◌++◌, Option, None, Some, refl, sym, subst, append_assoc}
-use Rattle.std.proofs.Common.{append-nil, ap, arith, length, ℕ, ◌+◌, ◌<◌, get_or, set}
-use Rattle.std.specs.Prelude.{⊤}
+use Rattle.std.proofs.Common.{append-nil, ap, arith, length, ℕ, zero, suc, ◌+◌, ◌<◌}
+use Rattle.std.specs.Prelude.{⊤, slice_index_or, slice_set}
 use Rattle.std.specs.Option.{option_to_list}
 use Rattle.sysv_seats.specs.declared.socket_stream.SocketStream.{SocketStream}
 use Rattle.sysv_server.specs.Doors as doors
@@ -50,7 +50,7 @@ module _ {L : Type 0} (steps : L → Option SocketStream → L → Type 0) where
   -- One of them makes one more step.
   one_more : (ls : List L) (parts : List (List SocketStream)) (ms : List L) (n : ℕ) (m d : L)
       (step : Option SocketStream) → EachCame steps ls parts ms → all_accepted parts ≡ [] → n < length ms →
-      steps (get_or ms n d) step m → OneCame steps ls step (set ms n m)
+      steps (slice_index_or ms n d) step m → OneCame steps ls step (slice_set ms n m)
   one_more [] [] [] n m d step each none there made = absurd (omega (arith, there))
   one_more [] [] (x ∷ ms) n m d step each none there made = absurd each
   one_more [] (p ∷ ps) ms n m d step each none there made = absurd each
@@ -69,7 +69,7 @@ module _ {L : Type 0} (steps : L → Option SocketStream → L → Type 0) where
       (p ∷ rest.0, (each.0, rest.1), ap (λ (k : List SocketStream). k ++ all_accepted rest.0) no.0 ∙ rest.2)
 
   pub one_came : (ls ms : List L) (n : ℕ) (m d : L) (step : Option SocketStream) → OneCame steps ls None ms →
-      n < length ms → steps (get_or ms n d) step m → OneCame steps ls step (set ms n m)
+      n < length ms → steps (slice_index_or ms n d) step m → OneCame steps ls step (slice_set ms n m)
   one_came ls ms n m d step came there made = one_more ls came.0 ms n m d step came.1 came.2 there made
 
   -- They made one step that accepts nothing, or none, and then one more.
@@ -97,5 +97,5 @@ module _ {L : Type 0} (steps : L → Option SocketStream → L → Type 0) where
 
   -- One of them makes a step.
   pub one_at : (ls : List L) (n : ℕ) (m d : L) (step : Option SocketStream) → n < length ls →
-      steps (get_or ls n d) step m → OneCame steps ls step (set ls n m)
+      steps (slice_index_or ls n d) step m → OneCame steps ls step (slice_set ls n m)
   one_at ls n m d step there made = one_came ls ls n m d step (none_came ls) there made
