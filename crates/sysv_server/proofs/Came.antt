@@ -1,6 +1,6 @@
 -- The steps of a listener, one after another.
 use Rattle.std.proofs.Common.{◌≡◌, ◌∙◌, List, [], ◌∷◌, ◌++◌, Option, None, Some, refl, sym, subst, append_assoc}
-use Rattle.std.proofs.Common.{append-nil, ap, arith, length, ℕ, ◌+◌, ◌<◌, get_or, set}
+use Rattle.std.proofs.Common.{append-nil, ap, arith, length, ℕ, zero, suc, ◌+◌, ◌<◌, get_or, set}
 use Rattle.std.specs.Prelude.{⊤}
 use Rattle.std.specs.Option.{option_to_list}
 use Rattle.sysv_seats.specs.declared.socket_stream.SocketStream.{SocketStream}
