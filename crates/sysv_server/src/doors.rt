@@ -1,5 +1,5 @@
 //! Several sockets that connections are accepted from.
-ghost use Rattle.std.specs.Prelude.{◌≡◌, ◌<◌, ◌+◌, ◌⊎◌, ◌||◌, IfErr, IfOk, List, MatchResult, None, Some, drop, false, pos, take, true, vec_len};
+ghost use Rattle.std.specs.Prelude.{◌≡◌, ◌<◌, ◌+◌, ◌⊎◌, ◌||◌, IfErr, IfOk, List, MatchResult, None, Some, drop, false, length, pos, take, true, vec_len};
 ghost use Rattle.std.specs.IoError.{raw_os_error};
 ghost use Rattle.std.specs.List.{list_any};
 ghost use Rattle.sysv_seats.specs.Untold.{limits_of};
@@ -41,7 +41,7 @@ impl<'h, L: Listens, H: Host> Doors<'h, L, H> {
 
     /// Returns whether another socket than the one of this number is open.
     fn has_other(&self, number: usize) -> bool
-        requires { number < vec_len self.now.sockets }
+        requires { number < length self.now.sockets.items }
         ensures { result ≡ (list_any L.listens (take number self.now.sockets.items)
             || list_any L.listens (drop (number + 1) self.now.sockets.items)) }
     {
@@ -57,7 +57,8 @@ impl<'h, L: Listens, H: Host> Doors<'h, L, H> {
     /// Returns the number of the socket at which an accept is tried now. The next one is tried at the
     /// socket after it.
     fn turn(&mut self) -> usize
-        ensures { self.new.sockets ≡ self.old.sockets }
+        ensures items { self.new.sockets.items ≡ self.old.sockets.items }
+        ensures length { vec_len self.new.sockets ≡ vec_len self.old.sockets }
     {
         let number = self.next;
         self.next = self.after(number);
@@ -67,7 +68,7 @@ impl<'h, L: Listens, H: Host> Doors<'h, L, H> {
     /// Opens the socket of this number.
     #[tactic(auto, using(crate::proofs::Came::one_at))]
     fn open_at(&mut self, number: usize) -> io::Result<()>
-        requires { number < vec_len self.old.sockets }
+        requires { number < length self.old.sockets.items }
         ensures came { OneCame L.steps self.old.sockets.items None self.new.sockets.items }
         ensures length { vec_len self.new.sockets ≡ vec_len self.old.sockets }
     {
@@ -77,7 +78,7 @@ impl<'h, L: Listens, H: Host> Doors<'h, L, H> {
     /// Closes the socket of this number.
     #[tactic(auto, using(crate::proofs::Came::one_at))]
     fn close_at(&mut self, number: usize)
-        requires { number < vec_len self.old.sockets }
+        requires { number < length self.old.sockets.items }
         ensures came { OneCame L.steps self.old.sockets.items None self.new.sockets.items }
         ensures open { list_any L.listens self.new.sockets.items
             ≡ (list_any L.listens (take number self.old.sockets.items)
@@ -93,7 +94,7 @@ impl<'h, L: Listens, H: Host> Doors<'h, L, H> {
     /// limits.
     #[tactic(auto, using(crate::proofs::Came::one_at, crate::proofs::Came::one_after))]
     fn accept_at(&mut self, number: usize, limits: Limits) -> io::Result<SocketStream>
-        requires { number < vec_len self.old.sockets }
+        requires { number < length self.old.sockets.items }
         ensures came { MatchResult result
             (λ stream. OneCame L.steps self.old.sockets.items (Some stream) self.new.sockets.items)
             (λ why. OneCame L.steps self.old.sockets.items None self.new.sockets.items) }
@@ -113,7 +114,7 @@ impl<'h, L: Listens, H: Host> Doors<'h, L, H> {
     /// no other is open. Returns why nothing was accepted.
     #[tactic(auto, using(crate::proofs::Came::none_came))]
     fn give_up(&mut self, number: usize, why: io::Error) -> io::Error
-        requires { number < vec_len self.old.sockets }
+        requires { number < length self.old.sockets.items }
         ensures why { (result ≡ why) ⊎ (raw_os_error result ≡ Some (pos 11)) }
         ensures came { OneCame L.steps self.old.sockets.items None self.new.sockets.items }
         ensures open { list_any L.listens self.new.sockets.items
