@@ -1,7 +1,7 @@
 -- The steps of a listener, one after another.
 use Rattle.std.proofs.Common.{◌≡◌, ◌∙◌, List, [], ◌∷◌, ◌++◌, Option, None, Some, refl, sym, subst, append_assoc}
-use Rattle.std.proofs.Common.{append-nil, ap, arith, length, ℕ, zero, suc, ◌+◌, ◌<◌}
-use Rattle.std.specs.Prelude.{⊤, slice_index_or, slice_set}
+use Rattle.std.proofs.Common.{append-nil, ap, arith, length, ℕ, zero, suc, ◌<◌}
+use Rattle.std.specs.Prelude.{slice_index_or, slice_set}
 use Rattle.std.specs.Option.{option_to_list}
 use Rattle.sysv_seats.specs.declared.socket_stream.SocketStream.{SocketStream}
 use Rattle.sysv_server.specs.Doors as doors

@@ -1,5 +1,5 @@
 -- How connections are accepted, and why no more are (this project's profile).
-use Rattle.std.specs.Prelude.{◌≡◌, ◌≢◌, ◌+◌, ◌<◌, ◌≤◌, ◌⊎◌, ⊤, ℕ, Bool, false, true, List, ◌∷◌, [], Option, None, Some}
+use Rattle.std.specs.Prelude.{◌≡◌, ◌≢◌, ◌+◌, ◌<◌, ◌≤◌, ◌⊎◌, ℕ, Bool, false, true, List, ◌∷◌, [], Option, None, Some}
 use Rattle.std.specs.Prelude.{IsSomeAnd, Result, is_some}
 use Rattle.std.specs.declared.io.Error.{Error}
 use Rattle.sysv_seats.specs.declared.socket_stream.SocketStream.{SocketStream}
