@@ -1,5 +1,5 @@
--- Whose calls a server makes at a connection that lets in only some callers, and who can open a queue of mode 0600 (this
--- project's profile).
+-- Whose calls a server makes at a connection that lets in only some callers, and who can open a queue of mode 0600
+-- (this project's profile).
 use Rattle.std.specs.Prelude.{◌≡◌, ◌⊎◌, ◌∷◌, ◌++◌, ℕ, true, List, Option, Some, None, All}
 use Rattle.std.specs.List.{AllByRecursion}
 use Rattle.sysv_bank.specs.Banks.{Each2}
@@ -52,9 +52,9 @@ KeepsPrivate turns = (slot : ℕ) (before : History) (e : Entry) (after : Histor
     slot_history slot turns ≡ before ++ e ∷ after → live before ≡ Some a → a.perm.mode ≡ 0o600 →
     opened_with e.call e.reply ≡ Some cred → MayControl cred a.perm
 
--- This is so in the one run of a server. There each turn was requested with the credentials of its call, and each call of
--- a session was made with the credentials of a caller whom the connection of the session lets in. So at a connection that
--- lets in one user only, nobody opens a queue of mode 0600, unless that user is 0, or its owner or creator.
+-- This is so in the one run of a server. There each turn was requested with the credentials of its call, and each call
+-- of a session was made with the credentials of a caller whom the connection of the session lets in. So at a connection
+-- that lets in one user only, nobody opens a queue of mode 0600, unless that user is 0, or its owner or creator.
 abbrev pub EachPrivateQueueIsKept : Type 0
 EachPrivateQueueIsKept = (blocks : ℕ) (shifts : List Shift) (removed : ℕ) (order : List Numbered) →
     (run : IsOneRun blocks shifts removed order) →

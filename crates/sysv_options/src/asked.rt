@@ -1,12 +1,12 @@
 //! The request that a command line makes.
 
-ghost use Rattle.std.specs.Prelude.{◌≡◌, ◌≤◌, ◌+◌, ◌⊎◌, ℕ, IfErr, IfOk, IfSome, MatchOption, OnOk, Some, codes, cond, false, is_some, map, not, pos, slice_get, true};
+ghost use Rattle.std.specs.Prelude.{◌≡◌, ◌≤◌, ◌+◌, ◌⊎◌, ℕ, Contains, IfErr, IfOk, IfSome, MatchOption, OnOk, Some, codes, cond, false, is_some, map, not, pos, slice_get, true};
 ghost use Rattle.clap.specs.Values.{kind_of};
 ghost use Rattle.clap.specs.Words.{app_of, subcommand_rows_of};
 ghost use Rattle.clap.specs.declared.error.kind.ErrorKind.TheVariants.{InvalidValue, OutOfMemory};
 ghost use Rattle.sysv_options.specs.Asked.{AreAtOnce, AreBlocks, AreTerms, AreWorkers, HasLimits, IsWithinLimits};
 ghost use Rattle.sysv_options.specs.Requests.{AreRefused, AsksFor, ClientAsks, IsAskedBy, IsMeant, IsRefused};
-ghost use Rattle.sysv_options.specs.Servers.{AsksForAtOnce, AsksForBlocks, AsksForFile, AsksForFileAt, AsksForOthers, AsksForTerms, AsksForWorkers, AsksToLoad, AsksToLook, AsksToSave, AsksToServe, HasPath, IsEntrance, IsLineNumber, MayAskForStats};
+ghost use Rattle.sysv_options.specs.Servers.{AsksForAtOnce, AsksForBlocks, AsksForFile, AsksForFileAt, AsksForOthers, AsksForTerms, AsksForWorkers, AsksToLoad, AsksToLook, AsksToSave, AsksToServe, AreBoth, AreIds, AreOthers, CountsSockets, HasPath, IsEntrance, IsLineNumber, MayAskForStats, SplitsAtLast};
 ghost use Rattle.sysv_options.specs.Sockets.{sockets_of};
 ghost use Rattle.sysv_options.specs.Tasks.{AsksToList, AsksToMake, AsksToReceive, AsksToRemove, AsksToSend, HasTask, HasHow, NamesTarget, IsAhead, Receives, ShowsIn, StatesWho, is_json};
 ghost use Rattle.sysv_options.specs.Words.{ArePartsOf, AreSeconds, Has, HasFlag, HasMaybe, HasOr, IsMode, IsOctalMode, IsOn, IsRead, IsThousandths, IsTime, IsUnsigned, WantsType, word_of, words_in};
@@ -455,32 +455,56 @@ fn server<'a>(words: &ArgMatches<'a>) -> Result<Serving<'a>, Bad>
 {
     let file = file_of(words)?;
     let others = others_of(words)?;
-    let no_main = has_flag(words, "no-main");
-    if no_main && others.count() == 0 {
+    let no_main = is_on(words, "no-main");
+    let Some(sockets) = number_of_sockets(no_main, others.count()) else {
         return Err(NO_SOCKET);
-    }
-    let mut serving = Serving {
+    };
+    let stats = stats_of(words, file.path)?;
+    let terms = terms_of(words)?;
+    Ok(Serving {
         file,
         others,
         no_main,
-        stats: stats_of(words, file.path)?,
-        terms: terms_of(words)?,
+        stats,
+        terms: Terms { sockets, ..terms },
         until_eof: has_flag(words, "until-eof"),
-    };
-    serving.terms.sockets = serving.count() as u32;
-    Ok(serving)
+    })
+}
+
+/// Returns the number of sockets of a server with this number of other ones, or `None` if it has
+/// none at all.
+fn number_of_sockets(no_main: bool, others: usize) -> Option<u32>
+    requires { others ≤ MAX_OTHERS }
+    ensures { MatchOption result ((sockets : ℕ) → ¬ CountsSockets no_main others sockets)
+        (CountsSockets no_main others) }
+{
+    if no_main {
+        if others == 0 {
+            return None;
+        }
+        return Some(others as u32);
+    }
+    Some(others as u32 + 1)
 }
 
 /// Returns the sockets that let in one user each.
 fn others_of<'a>(words: &ArgMatches<'a>) -> Result<Entrances<'a>, Bad>
     ensures { IsRead result (AsksForOthers (words_in words.now)) }
 {
+    match words.get_strs("as") {
+        Some(given) => others_in(words, given),
+        None => Ok(Entrances::none()),
+    }
+}
+
+/// Parses sockets that let in one user each.
+fn others_in<'a>(words: &ArgMatches<'a>, given: &[&'a str]) -> Result<Entrances<'a>, Bad>
+    ensures { IsRead result (AreOthers (words_in words.now) (map (λ word. word.now) given.now)) }
+{
     let mut others = Entrances::none();
-    let Some(given) = words.get_strs("as") else {
-        return Ok(others);
-    };
-    for word in given {
-        if !others.add(entrance_of(words, word)?) {
+    for number in 0..given.len() {
+        let entrance = entrance_of(words, given[number])?;
+        if !others.add(entrance) {
             return Err(MANY_ENTRANCES);
         }
     }
@@ -492,22 +516,53 @@ fn others_of<'a>(words: &ArgMatches<'a>) -> Result<Entrances<'a>, Bad>
 fn entrance_of<'a>(words: &ArgMatches<'a>, word: &'a str) -> Result<Entrance<'a>, Bad>
     ensures { IsRead result (IsEntrance (words_in words.now) word.now) }
 {
-    let Some((path, ids)) = word.rsplit_once('=') else {
+    let Some((path, ids)) = split_at_last_equals(word) else {
         return Err(NO_ENTRANCE);
     };
-    let Some((uid, gid)) = ids.split_once(':') else {
-        return Err(NO_ENTRANCE);
-    };
-    let (Some(uid), Some(gid)) = (unsigned(uid.as_bytes()), unsigned(gid.as_bytes())) else {
+    let Some((uid, gid)) = ids_in(ids.as_bytes()) else {
         return Err(NO_ENTRANCE);
     };
     if path.is_empty() || path.len() > MAX_PATH {
         return Err(NO_ENTRANCE);
     }
+    let file = file_at(words, "as", path)?;
     Ok(Entrance {
-        file: file_at(words, "as", path)?,
+        file,
         callers: Callers::Only { uid, gid },
     })
+}
+
+/// Returns what is before the last `=` of a text, and what is after it, or `None` without one.
+fn split_at_last_equals(text: &str) -> Option<(&str, &str)>
+    ensures { MatchOption result (¬ Contains text.now 61)
+        (λ parts. SplitsAtLast 61 text.now parts.0.now parts.1.now) }
+{
+    text.rsplit_once('=')
+}
+
+/// Returns the user and the group of a text such as `1001:100`, or `None` for any other text.
+fn ids_in(text: &[u8]) -> Option<(u32, u32)>
+    ensures { MatchOption result ((ids : ℕ × ℕ) → ¬ AreIds text.now ids) (AreIds text.now) }
+{
+    one_split();
+    match split_at_mark(text, b':') {
+        Some((user, group)) => both_ids(user, group),
+        None => None,
+    }
+}
+
+/// Returns the numbers of a user and a group, or `None` for any other words.
+fn both_ids(user: &[u8], group: &[u8]) -> Option<(u32, u32)>
+    ensures { MatchOption result ((ids : ℕ × ℕ) → ¬ AreBoth user.now group.now ids)
+        (AreBoth user.now group.now) }
+{
+    let Some(uid) = unsigned(user) else {
+        return None;
+    };
+    match unsigned(group) {
+        Some(gid) => Some((uid, gid)),
+        None => None,
+    }
 }
 
 /// Returns the file of a server's socket.

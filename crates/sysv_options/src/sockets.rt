@@ -1,5 +1,5 @@
 //! The sockets of a server.
-ghost use Rattle.std.specs.Prelude.{◌≡◌, ◌≤◌, ◌+◌, ◌∷◌, ◌++◌, [], MatchBool, false, slice_get};
+ghost use Rattle.std.specs.Prelude.{◌≡◌, ◌≤◌, ◌<◌, ◌+◌, ◌∷◌, ◌++◌, [], MatchBool, slice_get};
 ghost use Rattle.sysv_options.specs.Sockets.{listed};
 
 use sysv_server::Callers;
@@ -68,19 +68,18 @@ impl<'a> Entrances<'a> {
     pub fn get(&self, number: usize) -> Option<Entrance<'a>>
         ensures { result ≡ slice_get (listed self.now) number }
     {
-        if number >= self.count {
-            return None;
-        }
-        match self.sockets.get(number) {
-            Some(socket) => Some(*socket),
-            None => None,
+        if number < self.count {
+            self.sockets.get(number).copied()
+        } else {
+            None
         }
     }
 
     /// Adds a socket. Returns whether there was room for it.
     pub fn add(&mut self, socket: Entrance<'a>) -> bool
         ensures { MatchBool result
-            ((listed self.new ≡ listed self.old ++ socket ∷ []) × (self.new.count ≡ self.old.count + 1))
+            ((listed self.new ≡ listed self.old ++ socket ∷ [])
+            × (self.new.count ≡ self.old.count + 1) × (self.old.count < MAX_OTHERS))
             ((self.new ≡ self.old) × (MAX_OTHERS ≤ self.old.count)) }
     {
         let Some(free) = self.sockets.get_mut(self.count) else {

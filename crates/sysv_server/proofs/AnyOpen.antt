@@ -53,7 +53,8 @@ module _ {L : Type 0} (f : L → Bool) where
   one_of_others [] n there is_open = absurd (omega (arith, there))
   one_of_others (x ∷ ls) zero there is_open = ap (λ (b : Bool). f x || b) is_open ∙ or_true (f x)
   one_of_others (x ∷ ls) (suc n) there is_open =
-      let here = ap (λ (k : ℕ). (f x || list_any f (take n ls)) || list_any f (drop k (x ∷ ls))) (sym (next n)) ∙ is_open in
+      let here = ap (λ (k : ℕ). (f x || list_any f (take n ls)) || list_any f (drop k (x ∷ ls))) (sym (next n))
+      ∙ is_open in
       if_one (f x) (list_any f (take n ls) || list_any f (drop (n + 1) ls)) (list_any f ls)
       (one_of_others ls n (omega (arith, there)))
       (or_assoc (f x) (list_any f (take n ls)) (list_any f (drop (n + 1) ls)) ∙ here)
