@@ -1,11 +1,11 @@
 -- The words after `--as`.
 use Rattle.std.proofs.Common.{◌≡◌, ◌≢◌, ◌∙◌, ℕ, zero, suc, ◌+◌, ◌<◌, ◌≤◌, List, [], ◌∷◌, ◌++◌, length, take, drop}
-use Rattle.std.proofs.Common.{Bool, true, false, Option, Some, None, ap, ap₂, arith, refl, sym, subst}
-use Rattle.std.proofs.lemmas.List.{take-append-drop}
+use Rattle.std.proofs.Common.{Bool, true, false, Option, Some, None, ap, ap₂, arith, refl, sym, subst, subst₂}
+use Rattle.std.proofs.lemmas.List.{length-map, take-append-drop}
 use Rattle.std.proofs.lemmas.Str.Pattern.{NoCharPasses-char, drop_at_char}
 use Rattle.std.specs.Borrow.{Bor}
 use Rattle.std.specs.Char.{digit_value}
-use Rattle.std.specs.Prelude.{◌==◌, Contains, MatchOption, if◌then◌else◌, slice_index_or}
+use Rattle.std.specs.Prelude.{◌==◌, Contains, MatchOption, if◌then◌else◌, map, slice_index_or}
 use Rattle.std.specs.Str.{NoCharPasses}
 use Rattle.std.specs.Str.Parse.{AllDigits}
 use Rattle.std.specs.Str.Pattern.{RFindsChar, SplitsAroundMatch}
@@ -13,8 +13,10 @@ use Rattle.clap.specs.Words.{Row}
 use Rattle.sysv_words.specs.OneSplit.{OneSplit}
 use Rattle.sysv_words.specs.Words.{SplitsAt}
 use Rattle.sysv_options.specs.declared.sockets.Entrance.{Entrance}
-use Rattle.sysv_options.specs.Servers.{AreBoth, AreEntrances, AreIds, IsEntrance, SplitsAtLast}
-use Rattle.sysv_options.specs.Words.{IsUnsigned}
+use Rattle.sysv_options.specs.declared.sockets.Entrances.{Entrances}
+use Rattle.sysv_options.specs.Servers.{AreBoth, AreEntrances, AreIds, AreOthers, IsEntrance, SplitsAtLast}
+use Rattle.sysv_options.specs.Sockets.{listed}
+use Rattle.sysv_options.specs.Words.{IsExactly, IsUnsigned}
 
 -- ---- what a text has
 
@@ -110,6 +112,34 @@ ids_of_parts law text user group None split none = λ ids are.
 pub no_ids : (law : OneSplit) (text : List ℕ) → ¬ Contains text 58 → (ids : ℕ × ℕ) → ¬ AreIds text ids
 no_ids law text unmarked ids are = unmarked (law.marked 58 text are.user are.group are.split)
 
+-- ---- lists of words
+
+next : (n : ℕ) → suc n + 1 ≡ suc (n + 1)
+next n = omega arith
+
+pub at_map : (words : List (Bor (List ℕ))) (n : ℕ) (d : Bor (List ℕ)) → n < length words →
+    slice_index_or (map (λ (word : Bor (List ℕ)). word.now) words) n [] ≡ (slice_index_or words n d).now
+at_map [] n d low = absurd (omega (arith, low))
+at_map (w ∷ words) zero d low = refl
+at_map (w ∷ words) (suc n) d low = at_map words n d (omega (arith, low))
+
+pub take_one : (words : List (List ℕ)) (n : ℕ) → n < length words →
+    take (n + 1) words ≡ take n words ++ slice_index_or words n [] ∷ []
+take_one [] n low = absurd (omega (arith, low))
+take_one (w ∷ words) zero low = refl
+take_one (w ∷ words) (suc n) low =
+    ap (λ (k : ℕ). take k (w ∷ words)) (next n)
+    ∙ ap (λ (l : List (List ℕ)). w ∷ l) (take_one words n (omega (arith, low)))
+
+-- ---- a flag
+
+pub same_flag : (found : Option (List ℕ)) (one other : Bool) → IsExactly found one → IsExactly found other →
+    one ≡ other
+same_flag found true true first second = refl
+same_flag found true false first second = absurd (second.1 refl (first.0 refl))
+same_flag found false true first second = absurd (first.1 refl (second.0 refl))
+same_flag found false false first second = refl
+
 -- ---- a socket
 
 module _ (words : List Row) where
@@ -148,6 +178,13 @@ module _ (words : List Row) where
   as_many (w ∷ given) [] are = absurd are
   as_many (w ∷ given) (e ∷ entrances) are = ap suc (as_many given entrances are.1)
 
+  -- All sockets of some words are as many.
+  pub same_count : (given : List (List ℕ)) (one other : Entrances) → AreOthers words given one →
+      AreOthers words given other → one.count ≡ other.count
+  same_count given one other first second =
+      first.count ∙ (as_many given (listed one) first.entrances
+      ∙ (sym (as_many given (listed other) second.entrances) ∙ sym second.count))
+
   -- Each word names a socket.
   pub named_at : (given : List (List ℕ)) (entrances : List Entrance) (n : ℕ) (d : List ℕ) → n < length given →
       AreEntrances words given entrances → (entrance : Entrance) × IsEntrance words (slice_index_or given n d) entrance
@@ -155,3 +192,26 @@ module _ (words : List Row) where
   named_at (w ∷ given) [] n d low are = absurd are
   named_at (w ∷ given) (e ∷ entrances) zero d low are = (e, are.0)
   named_at (w ∷ given) (e ∷ entrances) (suc n) d low are = named_at given entrances n d (omega (arith, low)) are.1
+
+  pub named_in : (given : List (Bor (List ℕ))) (n : ℕ) (d : Bor (List ℕ)) (entrances : List Entrance) →
+      n < length given → AreEntrances words (map (λ (word : Bor (List ℕ)). word.now) given) entrances →
+      (entrance : Entrance) × IsEntrance words (slice_index_or given n d).now entrance
+  named_in given n d entrances low are =
+      let long = length-map given (λ (word : Bor (List ℕ)). word.now) in
+      let named = named_at (map (λ (word : Bor (List ℕ)). word.now) given) entrances n [] (omega (arith, long, low)) are
+      in
+      (named.0, subst (λ (l : List ℕ). IsEntrance words l named.0) (at_map given n d low) named.1)
+
+  -- One word more names one socket more.
+  pub goes_on : (given : List (Bor (List ℕ))) (n : ℕ) (d : Bor (List ℕ)) (old new : List Entrance)
+      (entrance : Entrance) → n < length given →
+      AreEntrances words (take n (map (λ (word : Bor (List ℕ)). word.now) given)) old →
+      IsEntrance words (slice_index_or given n d).now entrance → new ≡ old ++ entrance ∷ [] →
+      AreEntrances words (take (n + 1) (map (λ (word : Bor (List ℕ)). word.now) given)) new
+  goes_on given n d old new entrance low are is added =
+      let all : List (List ℕ) = map (λ (word : Bor (List ℕ)). word.now) given in
+      let long = length-map given (λ (word : Bor (List ℕ)). word.now) in
+      let more = take_one all n (omega (arith, long, low))
+      ∙ ap (λ (l : List ℕ). take n all ++ l ∷ []) (at_map given n d low) in
+      subst₂ (λ (ws : List (List ℕ)) (es : List Entrance). AreEntrances words ws es) (sym more) (sym added)
+      (one_more (take n all) (slice_index_or given n d).now old entrance are is)

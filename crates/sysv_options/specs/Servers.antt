@@ -1,5 +1,5 @@
 -- What a `serve` asks for (this project's programs): its socket file and its terms.
-use Rattle.std.specs.Prelude.{◌≡◌, ◌≢◌, ◌≤◌, ◌+◌, ⊤, ⊥, ℕ, Bool, true, false, List, [], ◌∷◌, ◌++◌, codes, length}
+use Rattle.std.specs.Prelude.{◌≡◌, ◌≢◌, ◌≤◌, ◌+◌, ⊤, ℕ, Bool, true, false, List, [], ◌∷◌, ◌++◌, codes, length}
 use Rattle.std.specs.Prelude.{Contains, is_some, not, unwrap_or, Option, Some, None}
 use Rattle.clap.specs.Words.{Row, all_of}
 use Rattle.sysv_seats.specs.declared.callers.Callers.TheVariants.{Only}

@@ -1,6 +1,6 @@
 //! The request that a command line makes.
 
-ghost use Rattle.std.specs.Prelude.{◌≡◌, ◌≤◌, ◌+◌, ◌⊎◌, ℕ, Contains, IfErr, IfOk, IfSome, MatchOption, OnOk, Some, codes, cond, false, is_some, map, not, pos, slice_get, true};
+ghost use Rattle.std.specs.Prelude.{◌≡◌, ◌≤◌, ◌+◌, ◌⊎◌, ℕ, Contains, IfErr, IfOk, IfSome, MatchOption, OnOk, Some, codes, cond, false, is_some, length, map, not, pos, slice_get, true};
 ghost use Rattle.clap.specs.Values.{kind_of};
 ghost use Rattle.clap.specs.Words.{app_of, subcommand_rows_of};
 ghost use Rattle.clap.specs.declared.error.kind.ErrorKind.TheVariants.{InvalidValue, OutOfMemory};
@@ -30,13 +30,13 @@ use sysv_model::{BODY_ROOM, MAX_BLOCKS, MIN_BLOCKS};
 use sysv_server::{Callers, MAX_CLIENTS, Patience, Terms};
 use sysv_words::{Reads, one_split, split_at_mark};
 
-/// The request that a command line makes.
+/// The request that a command line makes. `S` is what it asks of a server that it starts.
 #[derive(Clone, Copy, PartialEq, Eq, Debug)]
-pub enum Asked<'a> {
+pub enum Asked<'a, S> {
     /// Run the script on the standard input.
     Script,
     /// Serve at a path.
-    Serve(Serving<'a>),
+    Serve(S),
     /// Show the state of a server.
     Look(Looking<'a>),
     /// Save all queues of a server.
@@ -209,7 +209,10 @@ fn invalid(name: &'static str, valid: &'static str) -> Bad {
 ///
 /// Fails with the error to print if the words are not valid, and with the help or the version if
 /// the words request it.
-pub fn read_words<'a, S: AsStr>(alloc: Global, words: &'a [S]) -> Result<Asked<'a>, Error>
+pub fn read_words<'a, S: AsStr>(
+    alloc: Global,
+    words: &'a [S],
+) -> Result<Asked<'a, Serving<'a>>, Error>
     ensures limits { IfOk result IsWithinLimits }
     ensures meaning { IfOk result (IsMeant (map S.text words.entry.now)) }
     ensures refused { IfErr result (AreRefused (map S.text words.entry.now)) }
@@ -223,7 +226,7 @@ fn read_line<'a, S: AsStr>(
     alloc: Global,
     line: &mut CommandLine<'a>,
     words: &'a [S],
-) -> Result<Asked<'a>, Error>
+) -> Result<Asked<'a, Serving<'a>>, Error>
     ensures limits { IfOk result IsWithinLimits }
     ensures meaning { IfOk result (IsAskedBy (app_of line.old) (map S.text words.entry.now)) }
     ensures refused { IfErr result (IsRefused (app_of line.old) (map S.text words.entry.now)) }
@@ -295,7 +298,7 @@ fn fault(alloc: Global, text: &str) -> Result<Error, AllocError>
 }
 
 /// Returns the request of the parsed command.
-fn task_of<'a>(matches: &ArgMatches<'a>) -> Result<Asked<'a>, Bad>
+fn task_of<'a>(matches: &ArgMatches<'a>) -> Result<Asked<'a, Serving<'a>>, Bad>
     ensures limits { IfOk result IsWithinLimits }
     ensures meaning { IsRead result (AsksFor (subcommand_rows_of matches.now)) }
 {
@@ -362,7 +365,7 @@ fn first_line(words: &ArgMatches<'_>) -> Result<u64, Bad>
 }
 
 /// Returns the request of a client's command.
-fn client<'a>(name: &str, words: &ArgMatches<'a>) -> Result<Asked<'a>, Bad>
+fn client<'a>(name: &str, words: &ArgMatches<'a>) -> Result<Asked<'a, Serving<'a>>, Bad>
     ensures limits { IfOk result IsWithinLimits }
     ensures meaning { IsRead result (ClientAsks name.now (words_in words.now)) }
 {
@@ -503,7 +506,10 @@ fn others_in<'a>(words: &ArgMatches<'a>, given: &[&'a str]) -> Result<Entrances<
 {
     let mut others = Entrances::none();
     for number in 0..given.len() {
-        let entrance = entrance_of(words, given[number])?;
+        let entrance = match entrance_of(words, given[number]) {
+            Ok(entrance) => entrance,
+            Err(why) => return Err(why),
+        };
         if !others.add(entrance) {
             return Err(MANY_ENTRANCES);
         }
@@ -522,14 +528,24 @@ fn entrance_of<'a>(words: &ArgMatches<'a>, word: &'a str) -> Result<Entrance<'a>
     let Some((uid, gid)) = ids_in(ids.as_bytes()) else {
         return Err(NO_ENTRANCE);
     };
-    if path.is_empty() || path.len() > MAX_PATH {
+    if !is_path(path) {
         return Err(NO_ENTRANCE);
     }
-    let file = file_at(words, "as", path)?;
-    Ok(Entrance {
-        file,
-        callers: Callers::Only { uid, gid },
-    })
+    match file_at(words, "as", path) {
+        Ok(file) => Ok(Entrance {
+            file,
+            callers: Callers::Only { uid, gid },
+        }),
+        Err(why) => Err(why),
+    }
+}
+
+/// Returns whether a text is as long as the path of a socket may be.
+fn is_path(path: &str) -> bool
+    ensures some { result ≡ true → (1 ≤ length path.now) × (length path.now ≤ MAX_PATH) }
+    ensures none { result ≡ false → ¬ ((1 ≤ length path.now) × (length path.now ≤ MAX_PATH)) }
+{
+    !path.is_empty() && path.len() <= MAX_PATH
 }
 
 /// Returns what is before the last `=` of a text, and what is after it, or `None` without one.

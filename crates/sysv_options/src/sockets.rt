@@ -1,5 +1,5 @@
 //! The sockets of a server.
-ghost use Rattle.std.specs.Prelude.{◌≡◌, ◌≤◌, ◌<◌, ◌+◌, ◌∷◌, ◌++◌, [], MatchBool, slice_get};
+ghost use Rattle.std.specs.Prelude.{◌≡◌, ◌≤◌, ◌<◌, ◌+◌, ◌∷◌, ◌++◌, [], MatchBool, length, slice_get};
 ghost use Rattle.sysv_options.specs.Sockets.{listed};
 
 use sysv_server::Callers;
@@ -50,6 +50,7 @@ impl<'a> Entrances<'a> {
     pub fn none() -> Entrances<'a>
         ensures sockets { listed result ≡ [] }
         ensures count { result.count ≡ 0 }
+        ensures room { length result.sockets ≡ MAX_OTHERS }
     {
         Entrances {
             sockets: [UNUSED; MAX_OTHERS],
@@ -77,16 +78,19 @@ impl<'a> Entrances<'a> {
 
     /// Adds a socket. Returns whether there was room for it.
     pub fn add(&mut self, socket: Entrance<'a>) -> bool
-        ensures { MatchBool result
-            ((listed self.new ≡ listed self.old ++ socket ∷ [])
+        requires { length self.old.sockets ≡ MAX_OTHERS }
+        ensures room { length self.new.sockets ≡ MAX_OTHERS }
+        ensures added { MatchBool result
+            ((listed self.new ≡ listed self.old ++ socket.entry ∷ [])
             × (self.new.count ≡ self.old.count + 1) × (self.old.count < MAX_OTHERS))
             ((self.new ≡ self.old) × (MAX_OTHERS ≤ self.old.count)) }
     {
-        let Some(free) = self.sockets.get_mut(self.count) else {
+        let count = self.count;
+        if count >= MAX_OTHERS {
             return false;
-        };
-        *free = socket;
-        self.count += 1;
+        }
+        self.sockets[count] = socket;
+        self.count = count + 1;
         true
     }
 }

@@ -48,7 +48,7 @@ const PLAIN: How = How {
 };
 
 /// Parses a command line. Tolerates one refusal of memory.
-fn read<'a>(rt: &impl AllocGlobal, words: &'a [&'a str]) -> Result<Asked<'a>, Error> {
+fn read<'a>(rt: &impl AllocGlobal, words: &'a [&'a str]) -> Result<Asked<'a, Serving<'a>>, Error> {
     match read_words(rt.alloc(), words) {
         Ok(asked) => Ok(asked),
         Err(_) => read_words(rt.alloc(), words),
@@ -56,7 +56,7 @@ fn read<'a>(rt: &impl AllocGlobal, words: &'a [&'a str]) -> Result<Asked<'a>, Er
 }
 
 /// Asserts that the words request this.
-fn assert_asks(rt: &(impl Abort + AllocGlobal), words: &[&str], wanted: Asked<'_>) {
+fn assert_asks(rt: &(impl Abort + AllocGlobal), words: &[&str], wanted: Asked<'_, Serving<'_>>) {
     match read(rt, words) {
         Ok(asked) => assert_is(rt, asked, wanted),
         Err(why) => panic!(rt; "{why}"),
@@ -78,7 +78,7 @@ fn assert_refused(rt: &(impl Abort + AllocGlobal), words: &[&str], wanted: &str)
 }
 
 /// Returns the request of a client at `./q`.
-fn client(who: Who, task: Task<'_>, how: How) -> Asked<'_> {
+fn client(who: Who, task: Task<'_>, how: How) -> Asked<'_, Serving<'_>> {
     Asked::Client {
         path: "./q",
         who,
