@@ -65,8 +65,8 @@ both_true false other both = both
 
 -- If the matches of some words ask for nothing, and clap takes the words, they ask for nothing.
 pub asks_nothing : (line : App) (words : List (List ℕ)) (matches : ArgMatches) → HasMatchesOf line words matches
-    → ((asked : Requested) → ¬ AsksFor (subcommand_rows_of matches) asked) → takes line words ≡ true → (asked : Requested)
-    → ¬ IsAskedBy line words asked
+    → ((asked : Requested) → ¬ AsksFor (subcommand_rows_of matches) asked) → takes line words ≡ true
+    → (asked : Requested) → ¬ IsAskedBy line words asked
 asks_nothing line words matches has none taken asked = λ (other, its, asks).
     let simple = both_true _ _ taken in
     none asked (subst (λ (o : Option (List ℕ × List Row)). AsksFor o asked) ((its simple).1 ∙ sym (has simple).1) asks)

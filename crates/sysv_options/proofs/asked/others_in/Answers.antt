@@ -1,5 +1,5 @@
 -- One word more names a socket, or names none.
-use Rattle.std.proofs.Common.{◌≡◌, ◌∙◌, ◌∷◌, [], ap, arith, length, length-append, ℕ}
+use Rattle.std.proofs.Common.{◌∙◌, ◌∷◌, [], ap, arith, length, length-append, ℕ}
 use Rattle.std.specs.Borrow.{Bor}
 use Rattle.std.specs.Prelude.{List}
 use Rattle.std.proofs.lemmas.List.{length-map}
