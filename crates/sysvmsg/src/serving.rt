@@ -72,9 +72,32 @@ pub(crate) fn serve_on_sockets<
     let Some(sockets) = sockets_of(rt.alloc(), &host, serving) else {
         return fail(screen, "no memory");
     };
-    let mut listener = Doors::new(sockets, &host);
     let input = Reading::new(input);
-    serve_at(rt, &mut listener, &host, input, serving, limit, screen)
+    serve_at_doors(rt, &host, sockets, input, serving, limit, screen)
+}
+
+/// Serves on these sockets of a host in turn, like `serve_at`.
+fn serve_at_doors<
+    'h,
+    H: Host,
+    I: Input + Drop,
+    R: Net + Threads + Wait + Sync + Eprint + AllocGlobal,
+    S: Write,
+>(
+    rt: &R,
+    host: &'h H,
+    sockets: Vec<Hosted<'h, H>>,
+    input: I,
+    serving: &Serving<'_>,
+    limit: Option<u64>,
+    screen: &mut S,
+) -> ExitCode
+    requires { HasLimits serving.now }
+    ensures { HasServedAll limit serving.now.until_eof serving.now.terms result
+        (S.contents screen.old) (S.contents screen.new) }
+{
+    let mut listener = Doors::new(sockets, host);
+    serve_at(rt, &mut listener, host, input, serving, limit, screen)
 }
 
 /// Returns the sockets of a server, which its host has not opened yet, in order. Returns `None` if
