@@ -38,6 +38,22 @@ struct file {
     ino_t inode;
 };
 
+/* What tells a server from one that listened at the path before. */
+struct listener {
+    pid_t process;
+    struct file socket;
+};
+
+/* The servers of a connection that was opened. */
+struct servers {
+    struct listener last; /* process -1: there was none */
+    unsigned changes;     /* how often another server was found at the path */
+    /* After a change, the queues that were found since: by their numbers modulo `places`, each with
+     * the number of changes. */
+    _Atomic uint64_t *found;
+    unsigned places;
+};
+
 /* The connection of a thread, of a program that opened it, or of a single call. */
 struct connection {
     atomic_bool taken;
@@ -50,6 +66,8 @@ struct connection {
     uid_t user; /* of the hello */
     gid_t group;
     bool has_fixed_ids;      /* these two can't change any more */
+    unsigned changes;        /* of the server before its session */
+    struct servers servers;  /* of one that was opened */
     atomic_int slots;        /* of the reply to the hello */
     const char *_Atomic why; /* a call failed with EIO */
     atomic_bool was_sent;    /* the whole request of that call */
@@ -58,13 +76,15 @@ struct connection {
 
 /* How a call was made, and what has ended its wait. */
 struct call {
-    pid_t process; /* in which it began */
+    struct connection *opened; /* over which it is made, or NULL */
+    pid_t process;             /* in which it began */
     bool may_wait, ends_by_signals;
     int cancel_state; /* while it waits */
     long deadline;    /* of its wait; 0: there is none */
     int ended_by;     /* EINTR: a signal handler; ETIMEDOUT: the deadline; 0: nothing */
     bool has_no_end;  /* the call was left, and its session did not end */
-    bool is_sent;     /* its whole request, which is no hello */
+    enum outcome outcome;
+    const char *why; /* it failed with EIO */
 };
 
 /* The connections of all threads, so that a child of fork can close its copies of them. */
@@ -72,6 +92,14 @@ static struct connection connections[CONNECTIONS];
 static __thread struct connection *own_connection __attribute__((tls_model("initial-exec")));
 /* Whether a call of this thread uses that connection. */
 static __thread volatile sig_atomic_t current_call __attribute__((tls_model("initial-exec")));
+
+/* The last calls of this thread over connections that were opened. */
+static __thread struct {
+    enum outcome outcome;            /* of the last one */
+    const struct connection *failed; /* over which the last one failed with EIO */
+    enum outcome failed_outcome;
+    const char *why;
+} last __attribute__((tls_model("initial-exec")));
 
 /* What is known from the start of the process on. */
 static struct {
@@ -267,15 +295,14 @@ static bool is_in_child(const struct call *call) { return getpid() != call->proc
 
 /* Ends a session that failed during a call. In a child that a signal handler forked during the call
  * nothing is wrong: there the call was interrupted. */
-static int broken(struct connection *connection, const struct call *call, const char *why)
+static int broken(struct connection *connection, struct call *call, const char *why)
 {
     if (is_in_child(call)) {
         close_copy(connection);
         return EINTR;
     }
     end_session(connection);
-    connection->why = why;
-    connection->was_sent = call->is_sent;
+    call->why = why;
     return EIO;
 }
 
@@ -501,7 +528,7 @@ static size_t write_request(int fd, struct frame *frame)
 
 /* Ends a call whose request was not sent as a whole. If its text isn't there, the session goes on
  * unless it has a part of the request. */
-static int unsent(struct connection *connection, const struct call *call, size_t sent)
+static int unsent(struct connection *connection, struct call *call, size_t sent)
 {
     if (errno != EFAULT)
         return broken(connection, call, "the server closed the connection");
@@ -510,12 +537,17 @@ static int unsent(struct connection *connection, const struct call *call, size_t
     return EFAULT;
 }
 
-/* Ends a call whose reply did not come as a whole: `got` is what recv returned last. If a call that
- * was left has no byte of a reply, it had no effect. */
+/* Ends a call whose reply did not come as a whole: `got` is what recv returned last. A reset says
+ * that the server has not read the whole request: no other one is under way. Then the call had no
+ * effect, and neither had a call that was left and has no byte of a reply. */
 static int unanswered(
-    struct connection *connection, const struct frame *frame, const struct call *call, ssize_t got)
+    struct connection *connection, const struct frame *frame, struct call *call, ssize_t got)
 {
-    bool has_left = got == 0 && frame->length == 0 && call->ended_by != 0 && !call->has_no_end;
+    bool is_unread = got < 0 && errno == ECONNRESET && frame->length == 0;
+    bool has_ended = (got == 0 && frame->length == 0 && !call->has_no_end) || is_unread;
+    bool has_left = has_ended && call->ended_by != 0;
+    if (is_unread)
+        call->outcome = NOT_MADE;
     if (has_left || (got < 0 && errno == EFAULT)) {
         end_session(connection);
         return has_left ? call->ended_by : EFAULT;
@@ -534,12 +566,17 @@ static int exchange(struct connection *connection, struct frame *frame, struct c
     size_t sent = write_request(connection->fd, frame);
     if (sent < frame->length)
         return unsent(connection, call, sent);
-    call->is_sent = frame->operation != HELLO;
+    if (frame->operation != HELLO)
+        call->outcome = UNKNOWN;
     ssize_t got = read_reply(connection, frame, call);
     if (got <= 0)
         return unanswered(connection, frame, call, got);
     int error = frame_judge(frame);
-    return error >= 0 ? error : broken(connection, call, "a reply of the server is malformed");
+    if (error < 0)
+        return broken(connection, call, "a reply of the server is malformed");
+    if (frame->operation != HELLO)
+        call->outcome = ANSWERED;
+    return error;
 }
 
 /* Moves a descriptor up, or returns it as it is if that fails. */
@@ -633,6 +670,54 @@ static const char *why_unconnected(int error)
     }
 }
 
+/* Notes the server of a session that has begun: another one has other queues. */
+static void note_server(struct connection *session, struct connection *opened)
+{
+    struct ucred peer = {.pid = 0};
+    struct stat file = {.st_ino = 0};
+    stat(session->peer->address.sun_path, &file);
+    getsockopt(session->fd, SOL_SOCKET, SO_PEERCRED, &peer, &(socklen_t){sizeof peer});
+    const struct listener found = {peer.pid, {file.st_dev, file.st_ino}};
+    const struct hold hold = hold_descriptors();
+    const struct listener *last = &opened->servers.last;
+    bool is_same = last->process == found.process && last->socket.device == found.socket.device
+                   && last->socket.inode == found.socket.inode;
+    if (!is_same && last->process >= 0)
+        opened->servers.changes++;
+    opened->servers.last = found;
+    session->changes = opened->servers.changes;
+    release_descriptors(&hold);
+}
+
+/* Where a queue is noted, and as what. */
+static _Atomic uint64_t *place_of(const struct servers *servers, int queue)
+{
+    return &servers->found[(unsigned)queue % servers->places];
+}
+
+static uint64_t note_of(const struct connection *session, int queue)
+{
+    return (uint64_t)session->changes << 32 | (uint32_t)queue;
+}
+
+/* Whether a request names a queue that was not found at the server of the session. */
+static bool is_of_other_server(
+    const struct connection *session, const struct connection *opened, const struct frame *frame)
+{
+    int queue = frame_queue(frame);
+    return session->changes > 0 && queue >= 0
+           && atomic_load(place_of(&opened->servers, queue)) != note_of(session, queue);
+}
+
+/* Notes the queue of a reply. */
+static void note_queue(
+    const struct connection *session, struct connection *opened, const struct frame *frame)
+{
+    int queue = frame_found(frame);
+    if (session->changes > 0 && queue >= 0)
+        atomic_store(place_of(&opened->servers, queue), note_of(session, queue));
+}
+
 static int begin_session(struct connection *connection, struct call *call)
 {
     connection->unconnected = 0;
@@ -644,7 +729,10 @@ static int begin_session(struct connection *connection, struct call *call)
         connection->unconnected = errno;
         return broken(connection, call, why_unconnected(errno));
     }
-    return say_hello(connection, call);
+    int error = say_hello(connection, call);
+    if (error == 0 && call->opened)
+        note_server(connection, call->opened);
+    return error;
 }
 
 /* Whether the thread lacks the capabilities to become any user or group. Only a new program or user
@@ -702,6 +790,7 @@ static struct connection *take_place(const struct peer *peer)
         each->peer = peer;
         each->is_opened = false;
         each->holds = false;
+        each->servers = (struct servers){.last.process = -1};
         each->why = NULL;
         each->was_sent = false;
         return each;
@@ -774,12 +863,25 @@ static void note_held(struct connection *connection, const struct frame *frame, 
         connection->holds = frame->operation == HOLD;
 }
 
+/* Makes a call over a connection that is ready. */
+static int make_ready_call(struct connection *connection, struct frame *frame, struct call *call)
+{
+    if (call->opened && is_of_other_server(connection, call->opened, frame)) {
+        call->why = "another server was started: its queues have to be found";
+        return EIO;
+    }
+    int error = exchange(connection, frame, call);
+    if (error == 0 && call->opened)
+        note_queue(connection, call->opened, frame);
+    return error;
+}
+
 /* Makes a call over a connection that is borrowed. */
 static int make_call(struct connection *connection, struct frame *frame, struct call *call)
 {
     int error = make_ready(connection, call);
     if (error == 0)
-        error = exchange(connection, frame, call);
+        error = make_ready_call(connection, frame, call);
     /* (a message that a hold has got just then comes back) */
     if (error == 0 && call->ended_by != 0 && frame->operation == HOLD)
         error = call->ended_by;
@@ -800,13 +902,28 @@ static int call_over(struct connection *opened, struct frame *frame, struct call
         return EBUSY;
     int error = make_call(connection, frame, call);
     if (error == EIO && !opened)
-        say_once(connection->why);
-    if (error == EIO && opened && connection == &single) {
-        opened->why = single.why;
-        opened->was_sent = single.was_sent;
-    }
+        say_once(call->why);
     give_back(connection, &single);
     return error;
+}
+
+/* Notes why a call failed with EIO, for its thread and for others. */
+static void note_failure(struct connection *opened, const struct call *call)
+{
+    opened->why = last.why = call->why;
+    opened->was_sent = call->outcome == UNKNOWN;
+    last.failed = opened;
+    last.failed_outcome = call->outcome;
+}
+
+/* Notes what became of a call. One that was given up had no effect. */
+static void note_outcome(struct connection *opened, struct call *call, int error)
+{
+    if (error == EINTR || error == ETIMEDOUT)
+        call->outcome = NOT_MADE;
+    if (error == EIO)
+        note_failure(opened, call);
+    last.outcome = call->outcome;
 }
 
 /* The deadline of a wait, or 0 if it has no limit. */
@@ -822,12 +939,16 @@ int ask(struct connection *opened, struct frame *frame, bool may_wait, int milli
     if (is_of_held(frame) && !peer->can_hold)
         return EPROTONOSUPPORT;
     pthread_setcancelstate(PTHREAD_CANCEL_DISABLE, &cancel_state);
-    struct call call = {.process = getpid(),
+    struct call call = {.opened = opened,
+        .process = getpid(),
         .may_wait = may_wait,
         .ends_by_signals = peer->ends_by_signals,
         .cancel_state = may_wait ? cancel_state : PTHREAD_CANCEL_DISABLE,
-        .deadline = may_wait ? deadline_in(milliseconds_at_most) : 0};
+        .deadline = may_wait ? deadline_in(milliseconds_at_most) : 0,
+        .outcome = NOT_MADE};
     int error = call_over(opened, frame, &call);
+    if (opened)
+        note_outcome(opened, &call, error);
     pthread_setcancelstate(cancel_state, NULL);
     errno = errno_before;
     return error;
@@ -855,54 +976,21 @@ static int begin_opened(struct connection *connection, struct call *call)
         return connection->unconnected;
     if (!connection->peer->can_hold || !reads_version_two(connection, call))
         return EIO;
-    connection->why = "the server lets clients hold no messages";
+    call->why = "the server lets clients hold no messages";
     return EPROTONOSUPPORT;
 }
 
 /* The call that begins a session. It is no cancellation point. */
-static struct call beginning(const struct peer *peer, int milliseconds_at_most)
+static struct call beginning(struct connection *opened, int milliseconds_at_most)
 {
-    return (struct call){.process = getpid(),
+    return (struct call){.opened = opened,
+        .process = getpid(),
         .may_wait = true,
-        .ends_by_signals = peer->ends_by_signals,
+        .ends_by_signals = opened->peer->ends_by_signals,
         .cancel_state = PTHREAD_CANCEL_DISABLE,
-        .deadline = deadline_in(milliseconds_at_most)};
+        .deadline = deadline_in(milliseconds_at_most),
+        .outcome = NOT_MADE};
 }
-
-int connection_open(const struct peer *peer, int milliseconds_at_most, struct connection **opened)
-{
-    pthread_once(&process_start, begin_process);
-    struct connection *connection = take_place(peer);
-    if (!connection)
-        return EMFILE;
-    connection->is_opened = true;
-    connection->in_use = false;
-    struct call call = beginning(peer, milliseconds_at_most);
-    int cancel_state;
-    pthread_setcancelstate(PTHREAD_CANCEL_DISABLE, &cancel_state);
-    int error = begin_opened(connection, &call);
-    pthread_setcancelstate(cancel_state, NULL);
-    if (error == 0)
-        *opened = connection;
-    else
-        connection_close(connection);
-    return error;
-}
-
-void connection_close(struct connection *connection)
-{
-    end_session(connection);
-    connection->is_opened = false;
-    atomic_store(&connection->taken, false);
-}
-
-int connection_slots(const struct connection *connection) { return connection->slots; }
-
-const char *connection_why(const struct connection *connection) { return connection->why; }
-
-bool connection_was_sent(const struct connection *connection) { return connection->was_sent; }
-
-bool connection_is_holding(const struct connection *connection) { return connection->holds; }
 
 /* Whether no server listens, or one ended while the session began. Another one may start. */
 static bool has_no_server(const struct connection *connection, int error)
@@ -923,18 +1011,86 @@ static bool pause_before_retry(struct call *call, int pause)
     return call->ended_by == 0;
 }
 
+/* The same, and waits for a server that does not listen yet if the call `retries`. */
+static int begin_within(struct connection *connection, struct call *call, bool retries)
+{
+    int cancel_state, error, pause = FIRST_PAUSE;
+    pthread_setcancelstate(PTHREAD_CANCEL_DISABLE, &cancel_state);
+    while ((error = begin_opened(connection, call)) != 0 && retries
+           && has_no_server(connection, error) && pause_before_retry(call, pause))
+        pause = 2 * pause < LONGEST_PAUSE ? 2 * pause : LONGEST_PAUSE;
+    pthread_setcancelstate(cancel_state, NULL);
+    return call->ended_by != 0 ? call->ended_by : error;
+}
+
+/* Makes the places for the queues that are found. Returns 0 or an errno. */
+static int make_places(struct connection *opened)
+{
+    struct servers *servers = &opened->servers;
+    servers->places = opened->slots > 0 ? (unsigned)opened->slots : 1;
+    servers->found = calloc(servers->places, sizeof *servers->found);
+    return servers->found ? 0 : ENOMEM;
+}
+
+int connection_open(
+    const struct peer *peer, int milliseconds_at_most, bool retries, struct connection **opened)
+{
+    pthread_once(&process_start, begin_process);
+    struct connection *connection = take_place(peer);
+    if (!connection)
+        return EMFILE;
+    connection->is_opened = true;
+    connection->in_use = false;
+    struct call call = beginning(connection, milliseconds_at_most);
+    int error = begin_within(connection, &call, retries);
+    if (error == 0)
+        error = make_places(connection);
+    if (last.failed == connection)
+        last.failed = NULL;
+    if (error == 0)
+        *opened = connection;
+    else
+        connection_close(connection);
+    return error;
+}
+
+void connection_close(struct connection *connection)
+{
+    end_session(connection);
+    connection->is_opened = false;
+    free((void *)connection->servers.found);
+    atomic_store(&connection->taken, false);
+}
+
+int connection_slots(const struct connection *connection) { return connection->slots; }
+
+const char *connection_why(const struct connection *connection)
+{
+    return last.failed == connection ? last.why : connection->why;
+}
+
+bool connection_was_sent(const struct connection *connection)
+{
+    return last.failed == connection ? last.failed_outcome == UNKNOWN : connection->was_sent;
+}
+
+void connection_begin_call(void) { last.outcome = NOT_MADE; }
+
+enum outcome connection_outcome(void) { return last.outcome; }
+
+bool connection_is_holding(const struct connection *connection) { return connection->holds; }
+
 int connection_retry(struct connection *connection, int milliseconds_at_most)
 {
     if (atomic_exchange(&connection->in_use, true))
         return EBUSY;
-    struct call call = beginning(connection->peer, milliseconds_at_most);
-    int cancel_state, error, pause = FIRST_PAUSE;
-    pthread_setcancelstate(PTHREAD_CANCEL_DISABLE, &cancel_state);
+    struct call call = beginning(connection, milliseconds_at_most);
     end_session(connection);
-    while ((error = begin_opened(connection, &call)) != 0 && has_no_server(connection, error)
-           && pause_before_retry(&call, pause))
-        pause = 2 * pause < LONGEST_PAUSE ? 2 * pause : LONGEST_PAUSE;
-    pthread_setcancelstate(cancel_state, NULL);
+    int error = begin_within(connection, &call, true);
+    if (error != 0 && call.why)
+        connection->why = call.why;
+    if (error != 0 && call.why && last.failed == connection)
+        last.why = call.why;
     atomic_store(&connection->in_use, false);
-    return call.ended_by != 0 ? call.ended_by : error;
+    return error;
 }

@@ -27,17 +27,28 @@ bool peer_set_path(struct peer *peer, const char *path);
 /* Whether SYSVMSG_PATH names a server. If it doesn't, the calls are the C library's own. */
 bool has_server(void);
 
-/* Opens a connection, and begins its session within a time, or -1 for no limit. The peer must live
- * as long. Returns 0 or an errno. */
-int connection_open(const struct peer *peer, int milliseconds_at_most, struct connection **opened);
+/* What became of a call: the server replied; it had no effect; or that is not known. */
+enum outcome { ANSWERED, NOT_MADE, UNKNOWN };
+
+/* Opens a connection, and begins its session within a time, or -1 for no limit. If it `retries`, it
+ * waits for a server that does not listen yet. The peer must live as long. Returns 0, or an errno.
+ */
+int connection_open(
+    const struct peer *peer, int milliseconds_at_most, bool retries, struct connection **opened);
 void connection_close(struct connection *connection);
 int connection_slots(const struct connection *connection);
 
-/* Why the last call that failed with EIO did so, or NULL. */
+/* Why the last call that failed with EIO did so, or NULL: that of this thread, if it made one. */
 const char *connection_why(const struct connection *connection);
 
-/* Whether the server can have read the whole request of that call. */
+/* Whether it is not known if that call had an effect. */
 bool connection_was_sent(const struct connection *connection);
+
+/* A call of this thread begins. Until its request is sent it has no effect. */
+void connection_begin_call(void);
+
+/* What became of the last call of this thread over a connection that was opened. */
+enum outcome connection_outcome(void);
 
 /* Ends the session, and begins another one. Waits at most that long for a server that does not
  * listen yet; -1 is no limit. Returns 0, or an errno: EBUSY if another thread is in a call. */

@@ -58,6 +58,29 @@ void frame_end(struct frame *frame)
     frame->length = length;
 }
 
+int frame_queue(const struct frame *frame)
+{
+    switch (frame->operation) {
+    case SND:
+    case RCV:
+    case STAT:
+    case SET:
+    case RM:
+    case HOLD: return (int)number(frame->bytes + REQUEST_HEAD, 4);
+    default: return -1;
+    }
+}
+
+int frame_found(const struct frame *frame)
+{
+    const unsigned char *fields = frame->bytes + REPLY_HEAD;
+    switch (frame->operation) {
+    case GET: return (int)number(fields, 4);
+    case ROW: return fields[0] == 1 ? (int)number(fields + ROW_ID, 4) : -1;
+    default: return -1;
+    }
+}
+
 /* Whether the reply to a request has a message. */
 static bool gets_message(const struct frame *frame)
 {

@@ -46,6 +46,11 @@ void frame_end(struct frame *frame);
 /* States the version of a request, which is that of its session. It is 2 unless this is called. */
 void frame_state_version(struct frame *frame, enum version version);
 
+/* The queue that a request names by its identifier, or a number below 0. */
+int frame_queue(const struct frame *frame);
+/* The queue that a reply without an error has found, or -1. */
+int frame_found(const struct frame *frame);
+
 /* The two pieces of memory that a request is in, and those that its reply goes to. */
 void frame_request(struct frame *frame, struct iovec pieces[2]);
 void frame_reply(struct frame *frame, struct iovec pieces[2]);

@@ -11,7 +11,7 @@
 #include <time.h>
 #include <unistd.h>
 
-enum { TRY_MS = 100 /* between two tries to find a server or its queue */ };
+enum { TRY_MS = 100 /* between two tries to find a queue */ };
 
 long milliseconds(void)
 {
@@ -74,12 +74,16 @@ static const char *find_queues(struct slot *slot)
     return slot->failed < 0 ? options->failed_word : NULL;
 }
 
-/* Begins a session, and finds the queues in it: a restarted server has others. Returns NULL, or
- * what failed with an errno. */
-static const char *begin_session(struct slot *slot)
+/* Begins a session, and finds the queues in it: a restarted server has others. If `retries`, a
+ * server that does not listen is waited for, up to a time. Returns NULL, or what failed with an
+ * errno. */
+static const char *begin_session(struct slot *slot, bool retries, long end)
 {
+    const char *path = slot->work->options.path;
+    long left = end - milliseconds();
     sysvmsg_close(slot->server);
-    slot->server = sysvmsg_open_holding(slot->work->options.path, SYSVMSG_NO_LIMIT);
+    slot->server = retries ? sysvmsg_open_holding_retry(path, left > 0 ? (int)left : 0)
+                           : sysvmsg_open_holding(path, SYSVMSG_NO_LIMIT);
     return slot->server ? find_queues(slot) : NO_SERVER;
 }
 
@@ -93,20 +97,21 @@ static const char *reason(int error)
     }
 }
 
-/* Begins a session. A server that is not there, or has not the queue yet, is waited for. Returns
- * false if the work is over. */
+/* Begins a session. A server that is not there, or has not the queue yet, is waited for; so is a
+ * place at one that is there (ETIMEDOUT). Returns false if the work is over. */
 static bool find_server(struct slot *slot)
 {
     long end = milliseconds() + slot->work->options.retry_ms;
+    bool has_no_server = false;
     while (is_at_work(slot)) {
-        const char *what = begin_session(slot);
+        const char *what = begin_session(slot, has_no_server, end);
         int error = errno;
         if (!what) {
             slot->work->waits_for_server = false;
             return true;
         }
         bool is_waited_for = error == ENOENT || error == ECONNREFUSED || error == EIO;
-        if (error != EINTR && (!is_waited_for || milliseconds() >= end)) {
+        if (error != EINTR && error != ETIMEDOUT && (!is_waited_for || milliseconds() >= end)) {
             bool has_no_queue = what != NO_SERVER && error == ENOENT;
             fail(slot, FAILED, what,
                 has_no_queue ? "this key has no queue: give --create" : reason(error));
@@ -114,7 +119,9 @@ static bool find_server(struct slot *slot)
         }
         if (is_waited_for && !atomic_exchange(&slot->work->waits_for_server, true))
             say(slot, what, "waits for it");
-        pause_for(slot, TRY_MS);
+        has_no_server = what == NO_SERVER && is_waited_for;
+        if (what != NO_SERVER)
+            pause_for(slot, TRY_MS);
     }
     return false;
 }
@@ -171,7 +178,9 @@ static bool finish(struct slot *slot)
     if (sysvmsg_done(slot->server) == 0)
         return true;
     if (errno == EIO)
-        return lose(slot, "the connection ended, and a job that was done may be done again");
+        return lose(slot, sysvmsg_outcome() == SYSVMSG_UNKNOWN
+                              ? "the connection ended, and a job that was done may be done again"
+                              : "the connection ended, and a job that was done comes back");
     if (errno == EINVAL && slot->due > 0) {
         say(slot, "a job that was done may be done again", "its time was over");
         return true;
@@ -196,7 +205,9 @@ static bool send_failed(struct slot *slot, size_t size)
             return finish(slot);
     } while (errno == EINTR && slot->work->stage != GIVES_BACK);
     if (errno == EIO)
-        return lose(slot, "the connection ended");
+        return lose(slot, sysvmsg_outcome() == SYSVMSG_UNKNOWN
+                              ? "the connection ended, and a job that failed may be in both queues"
+                              : "the connection ended");
     if (errno == ETIMEDOUT || errno == EAGAIN)
         say(slot, slot->work->options.failed_word, "there was no room in time");
     else if (errno != EINTR)

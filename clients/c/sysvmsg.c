@@ -23,6 +23,9 @@ struct sysvmsg {
     struct connection *connection;
 };
 
+_Static_assert((int)SYSVMSG_ANSWERED == (int)ANSWERED && (int)SYSVMSG_NOT_MADE == (int)NOT_MADE
+                   && (int)SYSVMSG_UNKNOWN == (int)UNKNOWN,
+    "the same outcomes");
 _Static_assert((int)SYSVMSG_BODY_MAX == (int)TEXT_MAX, "the longest message");
 _Static_assert(sizeof(struct sysvmsg_stat) == sizeof(struct queue_stat), "the same fields");
 _Static_assert(sizeof(struct sysvmsg_set) == sizeof(struct queue_set), "the same fields");
@@ -36,12 +39,18 @@ static int outcome(int error)
     return -1;
 }
 
-/* Opens what has a peer. Returns NULL with errno set if that fails. */
-static struct sysvmsg *opened(struct sysvmsg *server, const char *path, int milliseconds)
+/* Opens a connection for such a peer, whose path is still missing. Returns NULL with errno set if
+ * that fails. */
+static struct sysvmsg *opened(
+    const struct peer *peer, const char *path, int milliseconds, bool retries)
 {
+    struct sysvmsg *server = calloc(1, sizeof *server);
+    if (!server)
+        return NULL;
+    server->peer = *peer;
     int error = !path ? EFAULT : peer_set_path(&server->peer, path) ? 0 : ENAMETOOLONG;
     if (error == 0)
-        error = connection_open(&server->peer, milliseconds, &server->connection);
+        error = connection_open(&server->peer, milliseconds, retries, &server->connection);
     if (error == 0)
         return server;
     free(server);
@@ -49,33 +58,35 @@ static struct sysvmsg *opened(struct sysvmsg *server, const char *path, int mill
     return NULL;
 }
 
+static const struct peer plain = {.ends_by_signals = true};
+static const struct peer holding = {.ends_by_signals = true, .can_hold = true};
+
 EXPORTED struct sysvmsg *sysvmsg_open(const char *path, int milliseconds)
 {
-    struct sysvmsg *server = calloc(1, sizeof *server);
-    if (!server)
-        return NULL;
-    server->peer.ends_by_signals = true;
-    return opened(server, path, milliseconds);
+    return opened(&plain, path, milliseconds, false);
 }
 
 EXPORTED struct sysvmsg *sysvmsg_open_holding(const char *path, int milliseconds)
 {
-    struct sysvmsg *server = calloc(1, sizeof *server);
-    if (!server)
-        return NULL;
-    server->peer = (struct peer){.ends_by_signals = true, .can_hold = true};
-    return opened(server, path, milliseconds);
+    return opened(&holding, path, milliseconds, false);
+}
+
+EXPORTED struct sysvmsg *sysvmsg_open_retry(const char *path, int milliseconds)
+{
+    return opened(&plain, path, milliseconds, true);
+}
+
+EXPORTED struct sysvmsg *sysvmsg_open_holding_retry(const char *path, int milliseconds)
+{
+    return opened(&holding, path, milliseconds, true);
 }
 
 EXPORTED struct sysvmsg *sysvmsg_open_as(
     const char *path, uid_t user, gid_t group, int milliseconds)
 {
-    struct sysvmsg *server = calloc(1, sizeof *server);
-    if (!server)
-        return NULL;
-    server->peer =
-        (struct peer){.ends_by_signals = true, .states_ids = true, .user = user, .group = group};
-    return opened(server, path, milliseconds);
+    const struct peer peer = {
+        .ends_by_signals = true, .states_ids = true, .user = user, .group = group};
+    return opened(&peer, path, milliseconds, false);
 }
 
 EXPORTED void sysvmsg_close(struct sysvmsg *server)
@@ -102,6 +113,8 @@ EXPORTED int sysvmsg_unknown(const struct sysvmsg *server)
     return server ? connection_was_sent(server->connection) : outcome(EFAULT);
 }
 
+EXPORTED int sysvmsg_outcome(void) { return (int)connection_outcome(); }
+
 EXPORTED int sysvmsg_retry(struct sysvmsg *server, int milliseconds)
 {
     return outcome(server ? connection_retry(server->connection, milliseconds) : EFAULT);
@@ -110,6 +123,7 @@ EXPORTED int sysvmsg_retry(struct sysvmsg *server, int milliseconds)
 EXPORTED int sysvmsg_get(struct sysvmsg *server, int key, int flags)
 {
     int id = -1;
+    connection_begin_call();
     if (!server)
         return outcome(EFAULT);
     int error = request_get(server->connection, key, flags, &id);
@@ -123,6 +137,7 @@ EXPORTED int sysvmsg_snd(
     struct sysvmsg *server, int queue, const void *message, size_t size, int milliseconds)
 {
     int64_t type;
+    connection_begin_call();
     if (size > TEXT_MAX)
         return outcome(EINVAL);
     if (!server || !is_readable(message))
@@ -136,6 +151,7 @@ EXPORTED ssize_t sysvmsg_rcv(struct sysvmsg *server, int queue, void *message, s
     int64_t type, int flags, int milliseconds)
 {
     size_t got;
+    connection_begin_call();
     /* (a message that has no place is not taken) */
     if (!server || !is_readable(message))
         return outcome(EFAULT);
@@ -155,6 +171,7 @@ EXPORTED ssize_t sysvmsg_hold_for(struct sysvmsg *server, int queue, void *messa
     int64_t type, int flags, int milliseconds, uint32_t seconds)
 {
     size_t got;
+    connection_begin_call();
     if (!server || !is_readable(message))
         return outcome(EFAULT);
     /* (the server refuses SYSVMSG_NOERROR) */
@@ -166,6 +183,7 @@ EXPORTED ssize_t sysvmsg_hold_for(struct sysvmsg *server, int queue, void *messa
 
 EXPORTED int sysvmsg_done(struct sysvmsg *server)
 {
+    connection_begin_call();
     if (!server)
         return outcome(EFAULT);
     if (server->peer.can_hold && !connection_is_holding(server->connection))
@@ -175,6 +193,7 @@ EXPORTED int sysvmsg_done(struct sysvmsg *server)
 
 EXPORTED int sysvmsg_back(struct sysvmsg *server)
 {
+    connection_begin_call();
     if (!server)
         return outcome(EFAULT);
     if (!connection_is_holding(server->connection))
@@ -187,6 +206,7 @@ EXPORTED int sysvmsg_back(struct sysvmsg *server)
 EXPORTED int sysvmsg_stat(struct sysvmsg *server, int queue, struct sysvmsg_stat *stat)
 {
     struct queue_stat found;
+    connection_begin_call();
     if (!server)
         return outcome(EFAULT);
     int error = request_stat(server->connection, queue, &found);
@@ -201,6 +221,7 @@ EXPORTED int sysvmsg_stat(struct sysvmsg *server, int queue, struct sysvmsg_stat
 EXPORTED int sysvmsg_set(struct sysvmsg *server, int queue, const struct sysvmsg_set *set)
 {
     struct sysvmsg_set given;
+    connection_begin_call();
     if (!server)
         return outcome(EFAULT);
     int error = copy_from_caller(&(struct iovec){&given, sizeof given}, 1, set);
@@ -212,12 +233,14 @@ EXPORTED int sysvmsg_set(struct sysvmsg *server, int queue, const struct sysvmsg
 
 EXPORTED int sysvmsg_rm(struct sysvmsg *server, int queue)
 {
+    connection_begin_call();
     return outcome(server ? request_rm(server->connection, queue) : EFAULT);
 }
 
 EXPORTED int sysvmsg_row(struct sysvmsg *server, int slot, struct sysvmsg_row *row)
 {
     struct queue_row found;
+    connection_begin_call();
     if (!server)
         return outcome(EFAULT);
     int error = request_row(server->connection, slot, &found);

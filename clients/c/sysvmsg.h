@@ -28,6 +28,13 @@ enum {
     SYSVMSG_NOWAIT = 0,      /* it does not wait, and fails with EAGAIN or ENOMSG at once */
 };
 
+/* What became of a call. */
+enum {
+    SYSVMSG_ANSWERED = 0, /* the server replied */
+    SYSVMSG_NOT_MADE = 1, /* it did nothing, and can be made again */
+    SYSVMSG_UNKNOWN = 2,  /* it took effect, or did nothing */
+};
+
 /* A message: a type above 0, and a body. A program may use a struct with a shorter body. */
 struct sysvmsg_message {
     int64_t type;
@@ -70,19 +77,29 @@ struct sysvmsg *sysvmsg_open_as(const char *path, uid_t user, gid_t group, int m
  * clients hold no messages, which it does with --hold. */
 struct sysvmsg *sysvmsg_open_holding(const char *path, int milliseconds);
 
+/* As sysvmsg_open and sysvmsg_open_holding. If no server listens at the path, they wait for one, as
+ * sysvmsg_retry does. EINTR: a signal handler ran while they waited. */
+struct sysvmsg *sysvmsg_open_retry(const char *path, int milliseconds);
+struct sysvmsg *sysvmsg_open_holding_retry(const char *path, int milliseconds);
+
 /* Ends the session. No thread may be in a call. A message that is held comes back. */
 void sysvmsg_close(struct sysvmsg *server);
 
 /* The number of queues that the server can have. */
 int sysvmsg_slots(const struct sysvmsg *server);
 
-/* Why the last call that failed with EIO did so: the session ended, or the server sent no valid
- * reply. The next call begins another session. */
+/* Why the last call of this thread that failed with EIO did so: the session ended, or the server
+ * sent no valid reply. The next call begins another session. No call is ever sent again by itself.
+ */
 const char *sysvmsg_reason(const struct sysvmsg *server);
 
 /* Returns 1 if it is not known whether that call took effect, and 0 if it did nothing: the server
  * cannot have read the whole request. */
 int sysvmsg_unknown(const struct sysvmsg *server);
+
+/* What became of the last call of this thread, over any connection: SYSVMSG_ANSWERED,
+ * SYSVMSG_NOT_MADE or SYSVMSG_UNKNOWN. The calls are those below, from sysvmsg_get on. */
+int sysvmsg_outcome(void);
 
 /* Ends the session, and begins another one. If no server listens, it waits for one, at most that
  * many milliseconds. Fails with the errors of sysvmsg_open, and with EBUSY if another thread is in

@@ -4,6 +4,7 @@
 #include <errno.h>
 #include <pthread.h>
 #include <signal.h>
+#include <stdatomic.h>
 #include <stdbool.h>
 #include <stdio.h>
 #include <stdlib.h>
@@ -368,6 +369,195 @@ static void try_restart(void)
     sysvmsg_close(server);
 }
 
+/* Has the script do something to the server, and waits until that is done. */
+static void script_does(const char *what)
+{
+    ask_script(what);
+    CHECK(getchar() == '\n');
+}
+
+/* Whether a call failed because its session ended, with this outcome. */
+static bool is_lost(ssize_t result, int outcome)
+{
+    return result == -1 && errno == EIO && sysvmsg_outcome() == outcome;
+}
+
+/* Finds the queue at the next server, where another one has the identifier that it had. */
+static int find_again(struct sysvmsg *server, int before)
+{
+    struct sysvmsg *other = open_server();
+    struct sysvmsg_stat stat;
+    CHECK(sysvmsg_get(other, KEY + 1, SYSVMSG_CREAT | 0600) == before);
+    CHECK(sysvmsg_retry(server, 20000) == 0);
+    /* (no message goes to that one) */
+    for (int i = 0; i < 2; i++)
+        CHECK(is_lost(send_text(server, before, 1, "x", 10000), SYSVMSG_NOT_MADE));
+    CHECK(strstr(sysvmsg_reason(server), "another server") && sysvmsg_unknown(server) == 0);
+    CHECK(sysvmsg_stat(other, before, &stat) == 0 && stat.qnum == 0);
+    int queue = sysvmsg_get(server, KEY, SYSVMSG_CREAT | 0600);
+    CHECK(queue != before && sysvmsg_outcome() == SYSVMSG_ANSWERED);
+    CHECK(sysvmsg_stat(server, queue, &stat) == 0 && stat.qnum == 0);
+    CHECK(send_text(server, queue, 1, "kept", 10000) == 0 && receives(other, queue, 0, "kept"));
+    CHECK(is_lost(sysvmsg_rm(server, before), SYSVMSG_NOT_MADE));
+    /* (a row finds a queue too) */
+    struct sysvmsg_row row;
+    CHECK(sysvmsg_row(server, before, &row) == 1 && row.id == before);
+    CHECK(sysvmsg_rm(server, before) == 0);
+    sysvmsg_close(other);
+    return queue;
+}
+
+/* What became of calls whose server is killed, and another one started: before the request, with a
+ * request that it has not read, and with one that it has. */
+static void try_outcomes(void)
+{
+    struct sysvmsg *server = open_server();
+    struct sysvmsg_message message = {.type = 1};
+    int queue = sysvmsg_get(server, KEY, SYSVMSG_CREAT | 0600);
+    CHECK(queue >= 0 && sysvmsg_outcome() == SYSVMSG_ANSWERED);
+    CHECK(sysvmsg_get(server, KEY, SYSVMSG_CREAT | SYSVMSG_EXCL) == -1 && errno == EEXIST);
+    CHECK(sysvmsg_outcome() == SYSVMSG_ANSWERED);
+    CHECK(sysvmsg_rcv(server, queue, &message, 9, 0, 0, 50) == -1 && errno == ETIMEDOUT);
+    CHECK(sysvmsg_outcome() == SYSVMSG_NOT_MADE);
+    CHECK(send_text(server, queue, 1, "kept", 10000) == 0 && receives(server, queue, 0, "kept"));
+    CHECK(sysvmsg_snd(server, queue, &message, 9999, 0) == -1 && errno == EINVAL);
+    CHECK(sysvmsg_outcome() == SYSVMSG_NOT_MADE);
+    script_does("restart");
+    CHECK(is_lost(send_text(server, queue, 1, "x", 10000), SYSVMSG_NOT_MADE));
+    CHECK(sysvmsg_unknown(server) == 0);
+    queue = find_again(server, queue);
+    script_does("suspend");
+    ask_script("restart soon");
+    CHECK(is_lost(send_text(server, queue, 1, "x", 10000), SYSVMSG_NOT_MADE));
+    CHECK(sysvmsg_unknown(server) == 0);
+    script_does("go on");
+    queue = sysvmsg_get(server, KEY, SYSVMSG_CREAT | 0600);
+    CHECK(sysvmsg_rcv(server, queue, &message, 9, 0, 0, 0) == -1 && errno == ENOMSG);
+    script_does("suspend");
+    ask_script("restart soon");
+    CHECK(sysvmsg_rcv(server, queue, &message, 9, 0, 0, 100) == -1 && errno == ETIMEDOUT);
+    CHECK(sysvmsg_outcome() == SYSVMSG_NOT_MADE);
+    script_does("go on");
+    CHECK(is_lost(sysvmsg_rm(server, queue), SYSVMSG_NOT_MADE));
+    queue = sysvmsg_get(server, KEY, SYSVMSG_CREAT | 0600);
+    ask_script("restart soon");
+    CHECK(is_lost(sysvmsg_rcv(server, queue, &message, 9, 0, 0, 10000), SYSVMSG_UNKNOWN));
+    CHECK(sysvmsg_unknown(server) == 1);
+    script_does("kill");
+    CHECK(sysvmsg_retry(server, 200) == -1 && errno == ENOENT);
+    CHECK(sysvmsg_unknown(server) == 1 && sysvmsg_outcome() == SYSVMSG_UNKNOWN);
+    script_does("start");
+    CHECK(sysvmsg_retry(server, 20000) == 0);
+    CHECK(sysvmsg_unknown(server) == 1 && sysvmsg_outcome() == SYSVMSG_UNKNOWN);
+    sysvmsg_close(server);
+}
+
+static atomic_int steps; /* that a thread or its parent has made */
+
+static void await_step(int number)
+{
+    while (atomic_load(&steps) < number)
+        sleep_micros(1000);
+}
+
+static void *lose_call(void *given)
+{
+    struct worker *worker = given;
+    struct sysvmsg_message message;
+    ssize_t size = sysvmsg_rcv(
+        worker->server, worker->queue, &message, sizeof message.body, 0, 0, SYSVMSG_NO_LIMIT);
+    CHECK(is_lost(size, SYSVMSG_UNKNOWN));
+    atomic_store(&steps, 1);
+    await_step(2);
+    CHECK(sysvmsg_outcome() == SYSVMSG_UNKNOWN && sysvmsg_unknown(worker->server) == 1);
+    return NULL;
+}
+
+/* A thread learns what became of its own call, and not of that of another thread. No thread uses a
+ * queue of the next server that another thread has found by chance. */
+static void try_outcome_of_thread(void)
+{
+    struct sysvmsg *server = open_server();
+    struct worker worker = {server, sysvmsg_get(server, KEY, SYSVMSG_CREAT | 0600), 0};
+    pthread_t thread;
+    CHECK(pthread_create(&thread, NULL, lose_call, &worker) == 0);
+    sleep_micros(300000);
+    script_does("restart");
+    await_step(1);
+    CHECK(sysvmsg_get(server, KEY + 1, SYSVMSG_CREAT | 0600) == worker.queue);
+    CHECK(sysvmsg_get(server, KEY, SYSVMSG_CREAT | 0600) == worker.queue + 1);
+    CHECK(send_text(server, worker.queue + 1, 1, "kept", 10000) == 0);
+    script_does("restart");
+    CHECK(is_lost(send_text(server, worker.queue, 1, "x", 10000), SYSVMSG_NOT_MADE));
+    CHECK(sysvmsg_unknown(server) == 0);
+    atomic_store(&steps, 2);
+    CHECK(pthread_join(thread, NULL) == 0);
+    CHECK(sysvmsg_outcome() == SYSVMSG_NOT_MADE && sysvmsg_unknown(server) == 0);
+    sysvmsg_close(server);
+}
+
+/* A thread waits at one server; the other threads do not send to the queues of the next one. */
+static void try_restart_apart(void)
+{
+    struct sysvmsg *server = open_server(), *holder = sysvmsg_open_holding(path, 10000);
+    struct sysvmsg_stat stat;
+    int queue = sysvmsg_get(holder, KEY, SYSVMSG_CREAT | 0600);
+    CHECK(send_text(server, queue, 5, "held", 10000) == 0);
+    struct sysvmsg_message message;
+    CHECK(sysvmsg_hold(holder, queue, &message, 9, 0, 0, 10000) == 4);
+    script_does("restart");
+    sysvmsg_close(server);
+    server = open_server();
+    CHECK(sysvmsg_get(server, KEY + 1, SYSVMSG_CREAT | 0600) == queue);
+    CHECK(is_lost(send_text(holder, queue, 1, "x", 10000), SYSVMSG_NOT_MADE));
+    CHECK(sysvmsg_stat(server, queue, &stat) == 0 && stat.qnum == 0);
+    CHECK(is_lost(sysvmsg_done(holder), SYSVMSG_NOT_MADE));
+    CHECK(sysvmsg_done(holder) == -1 && errno == EINVAL);
+    CHECK(sysvmsg_outcome() == SYSVMSG_NOT_MADE);
+    int found = sysvmsg_get(holder, KEY, SYSVMSG_CREAT | 0600);
+    CHECK(found == queue + 1 && send_text(holder, found, 5, "next", 10000) == 0);
+    CHECK(sysvmsg_hold(holder, found, &message, 9, 0, 0, 10000) == 4);
+    CHECK(send_text(holder, found, 5, "apart", 10000) == 0 && sysvmsg_done(holder) == 0);
+    CHECK(receives(server, found, 0, "apart"));
+    sysvmsg_close(holder);
+    sysvmsg_close(server);
+}
+
+/* An open waits for a server, within its time. */
+static void try_open_retry(void)
+{
+    struct sigaction action = {.sa_handler = note};
+    CHECK(!sysvmsg_open_retry(path, 200) && errno == ENOENT);
+    CHECK(!sysvmsg_open_holding_retry(path, 0) && errno == ENOENT);
+    CHECK(sigaction(SIGALRM, &action, NULL) == 0);
+    ualarm(300000, 0);
+    CHECK(!sysvmsg_open_retry(path, SYSVMSG_NO_LIMIT) && errno == EINTR);
+    ask_script("start soon");
+    struct sysvmsg *server = sysvmsg_open_retry(path, 20000);
+    CHECK(server && sysvmsg_get(server, KEY, SYSVMSG_CREAT | 0600) == 0);
+    script_does("go on");
+    CHECK(!sysvmsg_open_holding_retry(path, 10000) && errno == EPROTONOSUPPORT);
+    script_does("kill");
+    ask_script("start soon holding");
+    struct sysvmsg *holder = sysvmsg_open_holding_retry(path, 20000);
+    CHECK(holder && sysvmsg_get(holder, KEY, SYSVMSG_CREAT | 0600) == 0);
+    script_does("go on");
+    sysvmsg_close(holder);
+    sysvmsg_close(server);
+}
+
+/* A session that its server ends: the queues are those that were found before. */
+static void try_same_server(void)
+{
+    struct sysvmsg *server = open_server();
+    int queue = sysvmsg_get(server, KEY, SYSVMSG_CREAT | 0600);
+    sleep_micros(2500000);
+    CHECK(is_lost(send_text(server, queue, 1, "x", 10000), SYSVMSG_NOT_MADE));
+    CHECK(send_text(server, queue, 1, "kept", 10000) == 0);
+    CHECK(receives(server, queue, 0, "kept"));
+    sysvmsg_close(server);
+}
+
 /* The only place of the server is taken. */
 static void try_no_place(void)
 {
@@ -695,7 +885,10 @@ int main(int count, char **words)
         {"no-connection", try_no_connection}, {"many", try_many}, {"restart", try_restart},
         {"hold", try_hold}, {"hold-apart", try_hold_apart}, {"hold-killed", try_hold_killed},
         {"hold-refused", try_hold_refused}, {"back", try_back}, {"back-denied", try_back_denied},
-        {"back-full", try_back_full}, {"hold-late", try_hold_late}, {"hold-for", try_hold_for}};
+        {"back-full", try_back_full}, {"hold-late", try_hold_late}, {"hold-for", try_hold_for},
+        {"outcomes", try_outcomes}, {"outcome-of-thread", try_outcome_of_thread},
+        {"restart-apart", try_restart_apart}, {"open-retry", try_open_retry},
+        {"same-server", try_same_server}};
     if (count < 3)
         return 2;
     path = words[2];

@@ -213,7 +213,7 @@ class Session:
         self.version = version
         self.place = place
         self.output = bytearray()
-        self.sent = 0  # the bytes of requests that were sent
+        self.sent = 0  # the bytes of requests that were sent, and not left unread by a server that ended
         self.input = bytearray()
         self.pending: Deque[Pending[object]] = deque()
         self.is_over = False
@@ -320,7 +320,8 @@ class Session:
         except (BlockingIOError, InterruptedError):
             pass
         except ConnectionResetError as error:
-            # (so ends the stream of a server that has not read all requests; replies come before)
+            # (so ends the stream of a server that has not read all that was sent; replies come before)
+            self.sent -= 1
             if self.was_left:
                 self._take(b"")
             else:

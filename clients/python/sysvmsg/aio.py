@@ -294,12 +294,15 @@ class Connection:
         """Makes a call. One that names no queue by its identifier waits for a server if the last one was lost."""
         deadline = deadline_in(wait if wait is not None and wait > 0 else None)
         limit = deadline_in(self._retry) if request.queue is None else None
+        pauses = Pauses(limit)
         while True:
             try:
                 return await self._call_once(request, deadline, limit)
             except ConnectionLost as lost:
-                if self._is_closed or limit is None or time_left(limit) <= 0 or lost.outcome != NOT_MADE:
+                if self._is_closed or lost.outcome != NOT_MADE:
                     raise
+                pause = pauses.after(lost)
+            await asyncio.sleep(pause)
 
     async def _call_once(self, request: Request[T], deadline: Optional[float], limit: Optional[float]) -> T:
         """Makes a call over the session that is kept, or over one of its own if another task uses that."""

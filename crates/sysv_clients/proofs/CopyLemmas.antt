@@ -342,7 +342,7 @@ one_line (byte ∷ own) (other ∷ line) more rest none no_other same =
     (ap₂ (λ (b : ℕ) (l : List ℕ). b ∷ l) first found.0, found.1)
 
 -- The next line of an input that begins with this one.
-next_is : (most : ℕ) (own line more : List ℕ) (mid : Option (List ℕ)) → HasNoEnd own
+pub next_is : (most : ℕ) (own line more : List ℕ) (mid : Option (List ℕ)) → HasNoEnd own
     → IsNext most line (Some (own ++ 10 ∷ more)) mid → (line ≡ own) × (mid ≡ Some more)
 next_is most own line more None none (fits, inl read) = absurd read
 next_is most own line more None none (fits, inr (some, read, end)) = absurd read
@@ -354,7 +354,7 @@ next_is most own line more (Some rest) none (fits, inr (some, read, end)) =
     absurd (has_end own more (subst HasNoEnd (sym whole) fits.0))
 
 -- An input at its end has no next line.
-no_next : (most : ℕ) (line : List ℕ) (mid : Option (List ℕ)) → ¬ IsNext most line (Some []) mid
+pub no_next : (most : ℕ) (line : List ℕ) (mid : Option (List ℕ)) → ¬ IsNext most line (Some []) mid
 no_next most line None (fits, inl read) = read
 no_next most line None (fits, inr (some, read, end)) = read
 no_next most [] (Some rest) (fits, inl read) = cc read

@@ -18,3 +18,9 @@ mod EntryLemmas
 mod LoadLemmas
 mod JsonLemmas
 mod CopyLemmas
+mod QueueLineLemmas
+mod OneEntryLemmas
+mod RestoreLemmas
+mod FileLemmas
+mod RefillLemmas
+mod WorkedFile

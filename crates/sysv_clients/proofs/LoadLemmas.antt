@@ -926,20 +926,22 @@ find_stops loading (Line lines why) mtype line body left mid rest taken more mos
           (subst (λ (w : Option (List ℕ)). Loads loading left mid taken w fed unloaded place window) (sym finds.3)
           so_far),
       finds.0,
-      unfound loading why line unloaded unfed place next finds.1,
+      unfound loading why mtype line body unloaded unfed place states next finds.1,
     )
   where
-    unfound : (loading : Loading) (why : Unfit) (line : List ℕ) (unloaded unfed : Option (List ℕ)) (place : Place)
-        → IsNext OBJECT_BYTES line unloaded unfed → IsUnfound loading place why
-        → IsUnfit loading place why unloaded unfed
-    unfound loading unfit.NoQueue line unloaded unfed place next is = (line, next, is)
-    unfound loading unfit.Private line unloaded unfed place next is = (line, next, is.0, inr is.1, is.2)
-    unfound loading (unfit.Creator uid gid) line unloaded unfed place next is =
+    unfound : (loading : Loading) (why : Unfit) (mtype : ℤ) (line body : List ℕ) (unloaded unfed : Option (List ℕ))
+        (place : Place) → StatesEntry line (entry.Message mtype) body → IsNext OBJECT_BYTES line unloaded unfed
+        → IsUnfound loading place why → IsUnfit loading place why unloaded unfed
+    unfound loading unfit.NoQueue mtype line body unloaded unfed place states next is =
+        (line, next, mtype, body, states, is)
+    unfound loading unfit.Private mtype line body unloaded unfed place states next is =
+        (line, next, is.0, inr is.1, is.2)
+    unfound loading (unfit.Creator uid gid) mtype line body unloaded unfed place states next is =
         (line, next, is.0, inr is.1, is.2.0, is.2.1, is.2.2)
-    unfound loading unfit.Long line unloaded unfed place next is = absurd is
-    unfound loading unfit.Nothing line unloaded unfed place next is = absurd is
-    unfound loading unfit.Format line unloaded unfed place next is = absurd is
-    unfound loading unfit.Memory line unloaded unfed place next is = absurd is
+    unfound loading unfit.Long mtype line body unloaded unfed place states next is = absurd is
+    unfound loading unfit.Nothing mtype line body unloaded unfed place states next is = absurd is
+    unfound loading unfit.Format mtype line body unloaded unfed place states next is = absurd is
+    unfound loading unfit.Memory mtype line body unloaded unfed place states next is = absurd is
 find_stops loading (Fault why) mtype line body left mid rest taken more most fed unloaded unfed place window so_far due
     states next finds = absurd finds
 find_stops loading Many mtype line body left mid rest taken more most fed unloaded unfed place window so_far due states

@@ -28,3 +28,6 @@ pub mod Saved
 pub mod Saving
 pub mod Loading
 pub mod Loaded
+pub mod Restored
+pub mod Refilled
+pub mod WorkedFile

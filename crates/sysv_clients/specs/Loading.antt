@@ -194,7 +194,8 @@ IsUnfit loading place (unfit.Creator uid gid) fed unfed =
     × (queue : SavedQueue) × (IsQueueLine line queue ⊎ (place.queue ≡ Some queue)) × (queue.cuid ≡ uid)
     × (queue.cgid ≡ gid) × (is_own loading queue ≡ false)
 IsUnfit loading place unfit.NoQueue fed unfed =
-    (line : List ℕ) × IsNext OBJECT_BYTES line fed unfed × (place.queue ≡ None)
+    (line : List ℕ) × IsNext OBJECT_BYTES line fed unfed
+    × (mtype : ℤ) × (body : List ℕ) × StatesEntry line (Message mtype) body × (place.queue ≡ None)
 IsUnfit loading place unfit.Memory fed unfed = (line : List ℕ) × IsNext OBJECT_BYTES line fed unfed
 
 -- The session made no request after these, and each has a reply.

@@ -1,5 +1,6 @@
-//! The clients of a server: `ipcs`, `ipcrm`, `ipcmk`, `snd` and `rcv`, over any reader and writer.
-//! `specs/` defines what each client requests, what ends it early and what it then shows.
+//! The clients of a server: `ipcs`, `ipcrm`, `ipcmk`, `snd`, `rcv`, `save` and `load`, over any reader
+//! and writer. `specs/` defines what each client requests, what ends it early and what it then
+//! shows.
 #![tactic(auto)]
 
 mod clearing;
@@ -33,7 +34,10 @@ pub use command::{Command, Form, Format, Making, Receipt, Target, Task};
 pub use fault::ClientFault;
 pub use feed::Feed;
 pub use holding::{Unheld, hold_all, hold_instrumented};
-pub use laws::{numerals_of_commands, objects_read_back, queue_is_copied};
+pub use laws::{
+    loaded_queues_are_the_saved_ones, loading_repeats_what_was_saved, numerals_of_commands,
+    objects_read_back, queue_is_copied, saved_lines_read_back, worked_file,
+};
 pub use loading::{Loading, Unfit, Unloaded, load_feed, load_lines};
 pub use read_ahead::ReadAhead;
 pub use saved::SavedQueue;

@@ -101,11 +101,14 @@ pub(crate) fn tell<R: Leave, W: Write + Drop, S: Write>(
             teller.fault_of_stream(rt, fault.line(), detail_of_hold(fault, is_late, link));
             failed(is_late)
         }
-        Unheld::Screen(Unshown { shown, .. }) => {
+        Unheld::Screen(Unshown { taken, shown }) => {
             let exit = teller.no_output(rt, screen.failure, None);
-            let _ = eprintln!(rt;
-                "sysvmsg: messages that were shown: {shown}; the next one goes back to its queue"
-            );
+            let rest = if taken > shown {
+                "; the next one goes back to its queue"
+            } else {
+                ""
+            };
+            let _ = eprintln!(rt; "sysvmsg: messages that were shown: {shown}{rest}");
             exit
         }
         Unheld::Undone(fault) => {

@@ -11,7 +11,7 @@ use crate::how::Telling;
 use crate::link::{Link, linked};
 use crate::patience::{Patience, REPLY_MILLIS};
 use crate::place::{Leave, Place};
-use crate::sentence::{Detail, Subject};
+use crate::sentence::{Denied, Detail, Subject};
 use crate::teller::Teller;
 use std::fmt;
 use std::io::{Eprint, Read, Write};
@@ -154,6 +154,7 @@ fn tell_cut<R: Leave, W: Write + Drop>(
             Refused {
                 error,
                 cred: loads.cred,
+                is_late,
             },
         ),
         fault => {
@@ -181,22 +182,30 @@ fn told_line(rt: &impl Eprint, before: u64, why: impl fmt::Display + Drop) {
 struct Refused {
     error: Errno,
     cred: Cred,
+    /// Whether the time of `--wait` was over.
+    is_late: bool,
 }
 
 impl fmt::Display for Refused {
     fn fmt<W: fmt::Write>(&self, f: &mut fmt::Formatter<W>) -> fmt::Result {
-        let Refused { error, cred } = *self;
+        let Refused {
+            error,
+            cred,
+            is_late,
+        } = *self;
         match error {
             Errno::EEXIST => write!(f, "a queue has this key; --into uses it ({error})"),
-            Errno::EACCES | Errno::EPERM => write!(
-                f,
-                "not permitted to user {}, group {} ({error})",
-                cred.uid, cred.gid
-            ),
-            Errno::EAGAIN => write!(
-                f,
-                "no room: the queue or the server's pool is full ({error})"
-            ),
+            Errno::EACCES | Errno::EPERM => {
+                let what = "not permitted";
+                write!(f, "{} ({error})", Denied { what, cred })
+            }
+            Errno::EAGAIN => {
+                let since = if is_late { " in time" } else { "" };
+                write!(
+                    f,
+                    "no room{since}: the queue or the server's pool is full ({error})"
+                )
+            }
             Errno::ENOENT => write!(f, "no queue has the key of its queue ({error})"),
             Errno::ENOSPC => write!(f, "the server has no place for another queue ({error})"),
             _ => write!(f, "{error}"),

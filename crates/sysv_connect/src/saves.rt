@@ -14,12 +14,13 @@ use crate::link::{Link, linked};
 use crate::patience::{Patience, REPLY_MILLIS};
 use crate::place::{Leave, Place};
 use crate::screen::Screen;
-use crate::sentence::Subject;
+use crate::sentence::{Denied, Subject};
 use crate::teller::Teller;
+use std::fmt;
 use std::io::{Eprint, Write};
 use std::process::ExitCode;
 use sysv_clients::{Refusal, save_all};
-use sysv_model::Cred;
+use sysv_model::{Cred, Errno};
 
 /// The server whose queues are saved.
 #[derive(Clone, Copy, PartialEq, Eq, Debug)]
@@ -89,12 +90,44 @@ fn save_on<R: Leave, W: Write + Drop, S: Write>(
         &mut refusals,
     );
     for refusal in &refusals {
-        let Refusal { id, error } = *refusal;
-        let _ = eprintln!(rt; "sysvmsg: save: queue {id}: {error}");
+        let refused = Refused {
+            refusal: *refusal,
+            cred,
+        };
+        let _ = eprintln!(rt; "sysvmsg: save: {refused}");
     }
     match outcome {
         Ok(()) if refusals.is_empty() => ExitCode::SUCCESS,
         Ok(()) => ExitCode::from(FAULT),
         Err(unheld) => tell(rt, link, teller, unheld, screen),
+    }
+}
+
+/// A queue whose messages were refused.
+#[derive(Clone, Copy, Drop)]
+struct Refused {
+    refusal: Refusal,
+    cred: Cred,
+}
+
+impl fmt::Display for Refused {
+    fn fmt<W: fmt::Write>(&self, f: &mut fmt::Formatter<W>) -> fmt::Result {
+        let Refused {
+            refusal: Refusal { id, error },
+            cred,
+        } = *self;
+        write!(f, "identifier {id}: ")?;
+        match error {
+            Errno::EACCES | Errno::EPERM => {
+                let what = "permission denied";
+                write!(f, "{} ({error})", Denied { what, cred })
+            }
+            Errno::EAGAIN => write!(
+                f,
+                "the server can hold no more messages: it lacks a place (--at-once) or memory ({error})"
+            ),
+            Errno::EINVAL | Errno::EIDRM => write!(f, "the queue was removed ({error})"),
+            _ => write!(f, "{error}"),
+        }
     }
 }

@@ -161,18 +161,15 @@ impl Words<'_> {
         self.denied(f, "not permitted")
     }
 
-    /// Says that something is refused to the caller, and who it is. `--me` is named if the caller
-    /// has stated another user or group than its own.
-    fn denied<W: fmt::Write>(&self, f: &mut fmt::Formatter<W>, what: &str) -> fmt::Result {
-        let Some(command) = self.head.0.command() else {
-            return write!(f, "{what}");
-        };
-        let Cred { uid, gid, .. } = command.cred;
-        write!(f, "{what} to user {uid}, group {gid}")?;
-        if uid == sysv_system::user() && gid == sysv_system::group() {
-            return Ok(());
+    /// Says that something is refused to the caller, and who it is.
+    fn denied<W: fmt::Write>(&self, f: &mut fmt::Formatter<W>, what: &'static str) -> fmt::Result {
+        match self.head.0.command() {
+            Some(command) => {
+                let cred = command.cred;
+                write!(f, "{}", Denied { what, cred })
+            }
+            None => write!(f, "{what}"),
         }
-        write!(f, "; --me states your own")
     }
 
     /// Says that no queue has the key.
@@ -298,6 +295,28 @@ impl Words<'_> {
     /// Returns the task of the command.
     fn task(&self) -> Option<Task<'_>> {
         self.head.0.command().map(|command| command.task)
+    }
+}
+
+/// That something is refused to a caller, and who it is. `--me` is named if the caller has stated
+/// another user or group than its own.
+#[derive(Clone, Copy, Drop)]
+pub(crate) struct Denied {
+    pub(crate) what: &'static str,
+    pub(crate) cred: Cred,
+}
+
+impl fmt::Display for Denied {
+    fn fmt<W: fmt::Write>(&self, f: &mut fmt::Formatter<W>) -> fmt::Result {
+        let Denied {
+            what,
+            cred: Cred { uid, gid, .. },
+        } = *self;
+        write!(f, "{what} to user {uid}, group {gid}")?;
+        if uid == sysv_system::user() && gid == sysv_system::group() {
+            return Ok(());
+        }
+        write!(f, "; --me states your own")
     }
 }
 

@@ -10,8 +10,8 @@ Clients state user 1000, group 1000 and process 1, and the server does not
 verify that. --me or SYSVMSG_ME=1 states your own.
 Errors of commands are printed on standard output, as `sysvmsg: ENOMSG`, and in
 a sentence on standard error if standard output is not a terminal. Those of an
-`rcv` with --count, --follow, --hold, --raw, --zero, --json or --show-type are
-sentences on standard error.
+`rcv` with --count, --follow, --hold, --raw, --zero, --json or --show-type, and
+those of `save` and `load`, are sentences on standard error.
 Exit status: 0 if all is done, 1 after an error, 2 if the command line is not
 understood, 3 if the time of --wait is over.
 
@@ -196,7 +196,7 @@ Example:
         (
             "hold",
             Form::Flag,
-            "Lets clients hold messages that come back if they are not spent",
+            "Lets clients hold messages that come back unless they are done with",
         ),
         (
             "stats",
@@ -533,7 +533,7 @@ Example:
 
 const LOAD: Known = Known {
     name: "load",
-    about: "Makes the queues that `save` printed, and sends their messages",
+    about: "Reads queues that `save` printed from standard input, and makes them",
     example: "\
 Example:
   $ sysvmsg load ./q --uid 0 --adopt < queues",
