@@ -79,7 +79,7 @@ pub(crate) fn serve_on_sockets<
 /// Serves on these sockets of a host in turn, like `serve_at`.
 fn serve_at_doors<
     'h,
-    H: Host,
+    H: Host + 'h,
     I: Input + Drop,
     R: Net + Threads + Wait + Sync + Eprint + AllocGlobal,
     S: Write,
