@@ -14,7 +14,7 @@ pub struct How {
     pub objects: bool,
     /// Whether a `snd` of lines reports how many of them were sent while it sends them.
     pub progress: bool,
-    /// Whether a `rcv` receives messages until it is ended.
+    /// Whether a `rcv` receives messages until something ends it, as a signal or a full disk.
     pub follow: bool,
     /// Whether a `rcv` takes messages until there is none, and shows only their number.
     pub purge: bool,

@@ -1,6 +1,8 @@
 -- What a `serve` asks for (this project's programs): its socket file and its terms.
-use Rattle.std.specs.Prelude.{◌≡◌, ◌≢◌, ◌≤◌, ⊤, ℕ, List, codes, length, is_some, not, Option, Some, None}
-use Rattle.clap.specs.Words.{Row}
+use Rattle.std.specs.Prelude.{◌≡◌, ◌≢◌, ◌≤◌, ◌+◌, ⊤, ⊥, ℕ, Bool, true, false, List, [], ◌∷◌, ◌++◌, codes, length}
+use Rattle.std.specs.Prelude.{is_some, not, Option, Some, None}
+use Rattle.clap.specs.Words.{Row, all_of}
+use Rattle.sysv_seats.specs.declared.callers.Callers.TheVariants.{Only}
 use Rattle.sysv_server.specs.declared.terms.Terms.{Terms}
 use Rattle.sysv_words.specs.Words.{IsNat32, IsNat64}
 use Rattle.sysv_connect.specs.declared.loads.Loading.{Loading}
@@ -8,11 +10,15 @@ use Rattle.sysv_connect.specs.declared.saves.Saving.{Saving}
 use Rattle.sysv_connect.specs.declared.stats.Looking.{Looking}
 use Rattle.sysv_connect.specs.Telling.{has_line, has_sentence}
 use Rattle.sysv_options.specs.declared.asked.Serving.{Serving}
-use Rattle.sysv_options.specs.declared.asked.SocketFile.{SocketFile}
+use Rattle.sysv_options.specs.declared.sockets.Entrance.{Entrance}
+use Rattle.sysv_options.specs.declared.sockets.Entrances.{Entrances}
+use Rattle.sysv_options.specs.declared.sockets.SocketFile.{SocketFile}
+use Rattle.sysv_options.specs.declared.sockets.TheConstants.{MAX_OTHERS}
+use Rattle.sysv_options.specs.Sockets.{listed}
 use Rattle.sysv_options.specs.declared.asked.TheConstants.{WORKERS, MAX_PATH, MAX_PATH_WITH_MODE}
 use Rattle.sysv_server.specs.declared.serving.TheConstants.{MAX_CLIENTS}
 use Rattle.sysv_options.specs.Asked.{AreAtOnce, AreBlocks, AreWorkers}
-use Rattle.sysv_options.specs.Words.{HasFlag, HasMaybe, HasOr, IsMode, IsTime, word_of}
+use Rattle.sysv_options.specs.Words.{HasFlag, HasMaybe, HasOr, IsMode, IsTime, IsUnsigned, word_of}
 
 -- A command with these words asks for this number of blocks.
 abbrev pub AsksForBlocks : List Row → ℕ → Type 0
@@ -106,9 +112,49 @@ pub record AsksToLoad (words : List Row) (loading : Loading) : Type 0 where
   pub nowait : HasFlag words (codes "nowait") loading.nowait
   pub wait : HasMaybe IsTime (word_of words (codes "wait")) loading.wait
 
+-- The word names this socket: a path, `=`, a user, `:` and a group. It lets in just this user with this group. A
+-- `serve` with these words has its file.
+pub record IsEntrance (words : List Row) (word : List ℕ) (entrance : Entrance) : Type 0 where
+  pub user : List ℕ
+  pub group : List ℕ
+  pub uid : ℕ
+  pub gid : ℕ
+  pub split : word ≡ entrance.file.path.now ++ 61 ∷ user ++ 58 ∷ group
+  pub is_user : IsUnsigned user uid
+  pub is_group : IsUnsigned group gid
+  pub callers : entrance.callers ≡ Only uid gid
+  pub least : 1 ≤ length entrance.file.path.now
+  pub most : length entrance.file.path.now ≤ MAX_PATH
+  pub file : AsksForFileAt words entrance.file.path.now entrance.file
+
+-- The words name these sockets, one each. Without a word there is no socket.
+abbrev pub AreEntrances : List Row → List (List ℕ) → List Entrance → Type 0
+AreEntrances words [] [] = ⊤
+AreEntrances words (word ∷ more) (entrance ∷ entrances) =
+    IsEntrance words word entrance × AreEntrances words more entrances
+AreEntrances words more entrances = ⊥
+
+abbrev pub MayBeEntrances : List Row → Option (List (List ℕ)) → List Entrance → Type 0
+MayBeEntrances words (Some given) entrances = AreEntrances words given entrances
+MayBeEntrances words None entrances = entrances ≡ []
+
+-- A `serve` with these words has these sockets besides its first.
+pub record AsksForOthers (words : List Row) (others : Entrances) : Type 0 where
+  pub entrances : MayBeEntrances words (all_of (codes "as") words) (listed others)
+  pub count : others.count ≡ length (listed others)
+  pub most : others.count ≤ MAX_OTHERS
+
+-- A server with this number of other sockets has so many sockets. If it has not its first one, it has another.
+abbrev pub CountsSockets : (no_main : Bool) (others sockets : ℕ) → Type 0
+CountsSockets true others sockets = (1 ≤ others) × (sockets ≡ others)
+CountsSockets false others sockets = sockets ≡ others + 1
+
 -- A `serve` with these words is this one.
 pub record AsksToServe (words : List Row) (serving : Serving) : Type 0 where
   pub file : AsksForFile words serving.file
+  pub others : AsksForOthers words serving.others
+  pub no_main : HasFlag words (codes "no-main") serving.no_main
+  pub sockets : CountsSockets serving.no_main serving.others.count serving.terms.sockets
   pub stats : MayAskForStats words serving.stats
   pub terms : AsksForTerms words serving.terms
   pub until_eof : HasFlag words (codes "until-eof") serving.until_eof

@@ -1,12 +1,13 @@
 //! The request that a command line makes.
 
-ghost use Rattle.std.specs.Prelude.{◌≡◌, ◌≤◌, ◌⊎◌, ℕ, IfErr, IfOk, IfSome, MatchOption, OnOk, Some, codes, false, is_some, map, not, pos, true};
+ghost use Rattle.std.specs.Prelude.{◌≡◌, ◌≤◌, ◌+◌, ◌⊎◌, ℕ, IfErr, IfOk, IfSome, MatchOption, OnOk, Some, codes, cond, false, is_some, map, not, pos, slice_get, true};
 ghost use Rattle.clap.specs.Values.{kind_of};
 ghost use Rattle.clap.specs.Words.{app_of, subcommand_rows_of};
 ghost use Rattle.clap.specs.declared.error.kind.ErrorKind.TheVariants.{InvalidValue, OutOfMemory};
 ghost use Rattle.sysv_options.specs.Asked.{AreAtOnce, AreBlocks, AreTerms, AreWorkers, HasLimits, IsWithinLimits};
 ghost use Rattle.sysv_options.specs.Requests.{AreRefused, AsksFor, ClientAsks, IsAskedBy, IsMeant, IsRefused};
-ghost use Rattle.sysv_options.specs.Servers.{AsksForAtOnce, AsksForBlocks, AsksForFile, AsksForFileAt, AsksForTerms, AsksForWorkers, AsksToLoad, AsksToLook, AsksToSave, AsksToServe, HasPath, IsLineNumber, MayAskForStats};
+ghost use Rattle.sysv_options.specs.Servers.{AsksForAtOnce, AsksForBlocks, AsksForFile, AsksForFileAt, AsksForOthers, AsksForTerms, AsksForWorkers, AsksToLoad, AsksToLook, AsksToSave, AsksToServe, HasPath, IsEntrance, IsLineNumber, MayAskForStats};
+ghost use Rattle.sysv_options.specs.Sockets.{sockets_of};
 ghost use Rattle.sysv_options.specs.Tasks.{AsksToList, AsksToMake, AsksToReceive, AsksToRemove, AsksToSend, HasTask, HasHow, NamesTarget, IsAhead, Receives, ShowsIn, StatesWho, is_json};
 ghost use Rattle.sysv_options.specs.Words.{ArePartsOf, AreSeconds, Has, HasFlag, HasMaybe, HasOr, IsMode, IsOctalMode, IsOn, IsRead, IsThousandths, IsTime, IsUnsigned, WantsType, word_of, words_in};
 ghost use Rattle.sysv_connect.specs.Telling.{has_line, has_sentence};
@@ -15,6 +16,7 @@ ghost use Rattle.sysv_clients.specs.Run.{HasShortText};
 ghost use Rattle.sysv_clients.specs.Words.{IsKey, IsType};
 
 use crate::commands::{command, command_named, option_named};
+use crate::sockets::{Entrance, Entrances, MAX_OTHERS, SocketFile};
 use crate::who::Who;
 use clap::error::ErrorKind;
 use clap::{ArgMatches, Command as CommandLine, Error};
@@ -25,7 +27,7 @@ use sysv_clients::{
 };
 use sysv_connect::{How, Loading, Looking, Saving, Telling};
 use sysv_model::{BODY_ROOM, MAX_BLOCKS, MIN_BLOCKS};
-use sysv_server::{MAX_CLIENTS, Patience, Terms};
+use sysv_server::{Callers, MAX_CLIENTS, Patience, Terms};
 use sysv_words::{Reads, one_split, split_at_mark};
 
 /// The request that a command line makes.
@@ -57,8 +59,12 @@ pub enum Asked<'a> {
 /// The socket files and the terms of a server.
 #[derive(Clone, Copy, PartialEq, Eq, Debug)]
 pub struct Serving<'a> {
-    /// The file of its socket.
+    /// The file of its socket, which lets in anyone.
     pub file: SocketFile<'a>,
+    /// Its other sockets, each of which lets in one user.
+    pub others: Entrances<'a>,
+    /// Whether it has only the others.
+    pub no_main: bool,
     /// The file of the socket on which its state is shown, if it is to be shown.
     pub stats: Option<SocketFile<'a>>,
     /// The terms of the server.
@@ -67,15 +73,34 @@ pub struct Serving<'a> {
     pub until_eof: bool,
 }
 
-/// The file of a server's socket.
-#[derive(Clone, Copy, PartialEq, Eq, Debug)]
-pub struct SocketFile<'a> {
-    /// The path of the file.
-    pub path: &'a str,
-    /// The mode of the file. Without one it is 0777 less the umask.
-    pub mode: Option<u32>,
-    /// Whether to remove the file first if it is a socket on which no server listens.
-    pub replace: bool,
+impl<'a> Serving<'a> {
+    /// Returns the number of sockets at which connections are accepted.
+    pub fn count(&self) -> usize
+        ensures { self.now.others.count ≤ MAX_OTHERS →
+            result ≡ self.now.others.count + cond self.now.no_main 0 1 }
+    {
+        if self.no_main {
+            self.others.count()
+        } else {
+            self.others.count().saturating_add(1)
+        }
+    }
+
+    /// Returns the socket of this number, if there is one. The one that lets in anyone is the first.
+    pub fn socket(&self, number: usize) -> Option<Entrance<'a>>
+        ensures { result ≡ slice_get (sockets_of self.now) number }
+    {
+        if self.no_main {
+            return self.others.get(number);
+        }
+        match number.checked_sub(1) {
+            Some(other) => self.others.get(other),
+            None => Some(Entrance {
+                file: self.file,
+                callers: Callers::Anyone,
+            }),
+        }
+    }
 }
 
 /// The maximum number of workers that `--workers` may ask for.
@@ -110,6 +135,24 @@ const PATH: &str = "a PATH has 1 to 107 bytes";
 const PATH_WITH_MODE: &str = "with --mode a PATH has 1 to 103 bytes";
 
 const OTHER_PATH: &str = "PATH2 is PATH: --stats names a socket of its own";
+
+/// A word after `--as` is none.
+const NO_ENTRANCE: Bad = Bad {
+    name: "",
+    valid: "--as takes SOCKET=UID:GID: a path of 1 to 107 bytes, a user and a group of 0 to 4294967295",
+};
+
+/// There are too many words after `--as`.
+const MANY_ENTRANCES: Bad = Bad {
+    name: "",
+    valid: "--as names at most 64 sockets",
+};
+
+/// There is no socket at all.
+const NO_SOCKET: Bad = Bad {
+    name: "",
+    valid: "--no-main needs --as",
+};
 
 const KEY: &str =
     "a KEY is 1 to 2147483647, or 0x and one to eight hexadecimal digits that are not all 0";
@@ -411,11 +454,59 @@ fn server<'a>(words: &ArgMatches<'a>) -> Result<Serving<'a>, Bad>
     ensures meaning { IsRead result (AsksToServe (words_in words.now)) }
 {
     let file = file_of(words)?;
-    Ok(Serving {
+    let others = others_of(words)?;
+    let no_main = has_flag(words, "no-main");
+    if no_main && others.count() == 0 {
+        return Err(NO_SOCKET);
+    }
+    let mut serving = Serving {
         file,
+        others,
+        no_main,
         stats: stats_of(words, file.path)?,
         terms: terms_of(words)?,
         until_eof: has_flag(words, "until-eof"),
+    };
+    serving.terms.sockets = serving.count() as u32;
+    Ok(serving)
+}
+
+/// Returns the sockets that let in one user each.
+fn others_of<'a>(words: &ArgMatches<'a>) -> Result<Entrances<'a>, Bad>
+    ensures { IsRead result (AsksForOthers (words_in words.now)) }
+{
+    let mut others = Entrances::none();
+    let Some(given) = words.get_strs("as") else {
+        return Ok(others);
+    };
+    for word in given {
+        if !others.add(entrance_of(words, word)?) {
+            return Err(MANY_ENTRANCES);
+        }
+    }
+    Ok(others)
+}
+
+/// Parses a socket that lets in one user: `SOCKET=UID:GID`. Only the last `=` and the `:` after it have
+/// this meaning.
+fn entrance_of<'a>(words: &ArgMatches<'a>, word: &'a str) -> Result<Entrance<'a>, Bad>
+    ensures { IsRead result (IsEntrance (words_in words.now) word.now) }
+{
+    let Some((path, ids)) = word.rsplit_once('=') else {
+        return Err(NO_ENTRANCE);
+    };
+    let Some((uid, gid)) = ids.split_once(':') else {
+        return Err(NO_ENTRANCE);
+    };
+    let (Some(uid), Some(gid)) = (unsigned(uid.as_bytes()), unsigned(gid.as_bytes())) else {
+        return Err(NO_ENTRANCE);
+    };
+    if path.is_empty() || path.len() > MAX_PATH {
+        return Err(NO_ENTRANCE);
+    }
+    Ok(Entrance {
+        file: file_at(words, "as", path)?,
+        callers: Callers::Only { uid, gid },
     })
 }
 
@@ -477,6 +568,7 @@ fn terms_of(words: &ArgMatches<'_>) -> Result<Terms, Bad>
         drain: seconds_of(words, "drain")?,
         stats: has_word(words, "stats"),
         hold: has_flag(words, "hold"),
+        sockets: 1,
     })
 }
 

@@ -1,1 +1,2 @@
+pub mod Came
 pub mod Accepted

@@ -9,7 +9,7 @@ use sysv_system::{Event, Watched, present_seconds};
 
 /// Where the state of a server is shown: a second socket, which the thread that accepts connections
 /// serves between two connections, one reader at a time. A reader that is slow or silent is given
-/// up after a while, and holds up only other readers.
+/// up after a while, and delays only other readers.
 #[derive(Drop)]
 pub(crate) struct Desk {
     listener: Option<UnixListener>,

@@ -3,8 +3,7 @@ ghost use Rattle.std.specs.Prelude.{◌≡◌, ◌≤◌, false, IfErr, IfOk, If
 ghost use Rattle.sysv_model.specs.declared.limits.TheConstants.{MIN_BLOCKS, MAX_BLOCKS};
 ghost use Rattle.sysv_workers.specs.declared.workers.TheConstants.{MAX_WORKERS};
 ghost use Rattle.sysv_engine.specs.Added.{IsBalanced};
-ghost use Rattle.sysv_server.specs.Serving.{EndsFrom, EndsOn, FailsFrom, FailsOn, HasCause, HasReason, RanOn, ServesOn, limits_in};
-ghost use Rattle.sysv_seats.specs.Limits.{limits_for};
+ghost use Rattle.sysv_server.specs.Serving.{EndsFrom, EndsOn, FailsFrom, FailsOn, HasCause, HasReason, RanOn, ServesPlainly, limits_in};
 ghost use Rattle.sysv_server.specs.declared.serving.TheConstants.{MAX_CLIENTS};
 
 use crate::accepting::Accepting;
@@ -19,7 +18,7 @@ use std::os::unix::net::{UnixListener, UnixStream};
 use std::sync::Wait;
 use std::thread::Threads;
 use sysv_engine::{Ended, Patience, Rest, ServeFault, ServerState, Sums, serve_arrivals, watches};
-use sysv_seats::Limits;
+use sysv_seats::{Callers, Limits};
 
 /// The largest number of clients at once.
 pub const MAX_CLIENTS: u32 = 16_384;
@@ -60,8 +59,7 @@ pub fn serve_on<R: Threads + Wait + Net + Sync>(
 ) -> Result<Sums, ServeFault>
     requires blocks { (MIN_BLOCKS ≤ blocks) × (blocks ≤ MAX_BLOCKS) }
     requires workers { (1 ≤ workers) × (workers ≤ MAX_WORKERS) }
-    ensures ok { IfOk result (λ sums. ServesOn false blocks workers sessions
-        (limits_for 0 0 0) sums) }
+    ensures ok { IfOk result (ServesPlainly blocks workers sessions) }
     ensures balance { IfOk result IsBalanced }
     ensures err { IfErr result (FailsOn false blocks workers sessions) }
 {
@@ -74,6 +72,7 @@ pub fn serve_on<R: Threads + Wait + Net + Sync>(
         drain: 0,
         stats: false,
         hold: false,
+        sockets: 1,
     };
     let mut lent = Lent::new(listener);
     let mut reason = None;
@@ -136,7 +135,7 @@ pub fn serve_listener<I: Read + AsRawFd + Drop, H: Host + Drop, R: Threads + Wai
     ensures setting { IfOk result (λ ended. RanOn terms ended.setting) }
     ensures err { IfErr result (FailsOn terms.stats terms.blocks terms.at_once terms.sessions) }
 {
-    let mut socket = Hosted::new(&host);
+    let mut socket = Hosted::new(&host, 0, Callers::Anyone);
     let input = input_of(input);
     run(rt, alloc, &mut socket, true, &host, input, terms, reason)
 }
@@ -169,8 +168,9 @@ pub fn serve_from<L: Listens, I: Input + Drop, H: Host, R: Threads + Wait + Net 
     requires blocks { (MIN_BLOCKS ≤ terms.blocks) × (terms.blocks ≤ MAX_BLOCKS) }
     requires workers { (1 ≤ terms.workers) × (terms.workers ≤ MAX_WORKERS) }
     requires at_once { (1 ≤ terms.at_once) × (terms.at_once ≤ MAX_CLIENTS) }
-    ensures ok { IfOk result (λ ended. EndsFrom L.accepted L.listens terms.stats terms.blocks
-        terms.at_once terms.sessions (limits_in terms) listener.old ended listener.new) }
+    ensures ok { IfOk result (λ ended. EndsFrom L.accepted L.listens L.steps terms.stats
+        terms.blocks terms.at_once terms.sessions (limits_in terms) listener.old ended
+        listener.new) }
     ensures exact { IfOk result (λ ended. HasCause I.reads L.fails (is_some input)
         terms.sessions ended.sums.sessions reason.new) }
     ensures balance { IfOk result (λ ended. IsBalanced ended.sums) }
@@ -196,8 +196,9 @@ fn run<L: Listens, I: Input + Drop, H: Host, R: Threads + Wait + Net + Sync>(
     requires blocks { (MIN_BLOCKS ≤ terms.blocks) × (terms.blocks ≤ MAX_BLOCKS) }
     requires workers { (1 ≤ terms.workers) × (terms.workers ≤ MAX_WORKERS) }
     requires at_once { (1 ≤ terms.at_once) × (terms.at_once ≤ MAX_CLIENTS) }
-    ensures ok { IfOk result (λ ended. EndsFrom L.accepted L.listens terms.stats terms.blocks
-        terms.at_once terms.sessions (limits_in terms) listener.old ended listener.new) }
+    ensures ok { IfOk result (λ ended. EndsFrom L.accepted L.listens L.steps terms.stats
+        terms.blocks terms.at_once terms.sessions (limits_in terms) listener.old ended
+        listener.new) }
     ensures exact { IfOk result (λ ended. HasCause I.reads L.fails (is_some input)
         terms.sessions ended.sums.sessions reason.new) }
     ensures balance { IfOk result (λ ended. IsBalanced ended.sums) }
@@ -214,6 +215,7 @@ fn run<L: Listens, I: Input + Drop, H: Host, R: Threads + Wait + Net + Sync>(
         drain,
         stats,
         hold: _,
+        sockets: _,
     } = terms;
     *reason = None;
     let Some((server, rests)) = opened_for(alloc, &terms) else {

@@ -54,10 +54,10 @@ returns-in-Client g c =
           IsDone (way_by cred task how) cred task how exit (g.P.Place.incoming c.args.place path)
           (left_by g.P.Input.Read.remaining link) (g.P.Place.outgoing c.args.place path)
           (taken_by g.P.Output.Write.contents link) fed unfed shown after) c.run_as.result.contact)
-          c.credentials.ensures
+          c.credentials-in-Client.ensures
           (subst (λ (fed : Option (List ℕ)).
           let how = record c.in-Client.how { telling = c.telling-in-Client.result } in
-          let cred = c.credentials.result in
+          let cred = c.credentials-in-Client.result in
           Visited (g.P.Place.refuses c.args.place path) c.args.place (IsUnmade how exit fed unfed shown after)
           (λ link.
           IsDone (way_by cred task how) cred task how exit (g.P.Place.incoming c.args.place path)
@@ -79,7 +79,7 @@ returns-in-Save g c =
     Saves cred exit (g.P.Place.incoming c.args.place path) (left_by g.P.Input.Read.remaining link)
     (g.P.Place.outgoing c.args.place path) (taken_by g.P.Output.Write.contents link) shown after)
     c.save_at.result.contact)
-    c.credentials-in-Save.ensures c.save_at.ensures)
+    c.credentials.ensures c.save_at.ensures)
 
 pub returns-in-Load : goal.returns-in-Load
 returns-in-Load g c =
