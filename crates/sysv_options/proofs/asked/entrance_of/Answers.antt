@@ -27,5 +27,8 @@ pub returns-in-Err : goal.returns-in-Err
 returns-in-Err c = λ value is.
     let same = parts_of (words_in c.args.words.now) c.args.word.now c.in-Some.path.now c.in-Some.ids.now
     c.in-Some.ensures value is in
-    c.in-Err.ensures value.file (sym same.0, subst (λ (p : List ℕ). AsksForFileAt (words_in c.args.words.now) p
-    value.file) (sym same.0) is.file)
+    c.in-Err.ensures value.file (
+      sym same.0,
+      subst (λ (p : List ℕ). AsksForFileAt (words_in c.args.words.now) p
+          value.file) (sym same.0) is.file,
+    )

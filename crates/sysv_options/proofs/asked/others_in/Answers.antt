@@ -19,8 +19,16 @@ pub returns-then-not-add : goal.returns-then-not-add
 returns-then-not-add c = λ value are.
     let many = as_many (words_in c.args.words.now) _ (listed value) are.entrances in
     let long = length-map c.args.given.now (λ (word : Bor (List ℕ)). word.now) in
-    absurd (omega (arith, many, long, are.count, are.most, c.loop-number.invariant.2, c.loop-number-test.true,
-    c.if-not-add.ensures.added.1))
+    absurd (omega (
+      arith,
+      many,
+      long,
+      are.count,
+      are.most,
+      c.loop-number.invariant.2,
+      c.loop-number-test.true,
+      c.if-not-add.ensures.added.1,
+    ))
 
 pub loop-number-preserved : goal.loop-number-preserved
 loop-number-preserved c =

@@ -29,8 +29,8 @@ pub loop-preserved : goal.loop-preserved
 loop-preserved g c =
     let steps = g.L.Listens.steps in (
       elim c.else-arrived.branch [
-          else-arrived-via-then-arrived+else-has_ended w ↦
-              ap is_some w.input-is ∙ (w.has_ended.ensures.input ∙ c.loop.invariant.0)
+        | else-arrived-via-then-arrived+else-has_ended w ↦
+            ap is_some w.input-is ∙ (w.has_ended.ensures.input ∙ c.loop.invariant.0)
         | else-arrived-via-else-arrived w ↦ ap is_some w.input-is ∙ c.loop.invariant.0
       ],
       c.in-Err.ensures.err ∙ c.loop.invariant.1,
