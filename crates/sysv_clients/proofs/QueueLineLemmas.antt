@@ -525,30 +525,6 @@ byte_below : (byte : ℕ) (rest : List ℕ) → byte < 256 → AreBelow 16 rest
 byte_below byte rest small below = (omega (arith, small), (omega arith, below))
 
 nibbles_below : (n : ℕ) → n < 2 ^ 32 → AreBelow 16 (nibbles n)
-<<<<<<< HEAD
-nibbles_below n small = (
-  omega (arith, small),
-  (
-    omega arith,
-    (
-      omega arith,
-      (
-        omega arith,
-        (
-          omega arith,
-          (
-            omega arith,
-            (
-              omega arith,
-              (omega arith, tt),
-            ),
-          ),
-        ),
-      ),
-    ),
-  ),
-)
-=======
 nibbles_below n small =
     let last = n % 256 / 16 ∷ n % 256 % 16 ∷ [] in
     let low = n / 256 % 256 / 16 ∷ n / 256 % 256 % 16 ∷ last in
@@ -556,7 +532,6 @@ nibbles_below n small =
     byte_below (n / 16777216) most (omega (arith, small))
     (byte_below (n / 65536 % 256) low (omega arith)
     (byte_below (n / 256 % 256) last (omega arith) (byte_below (n % 256) [] (omega arith) tt)))
->>>>>>> work-law
 
 nibbles_value : (n : ℕ) → n < 2 ^ 32 → value_after 16 0 (nibbles n) ≡ n
 nibbles_value n small = omega (arith, small)
