@@ -24,4 +24,6 @@ pub struct Terms {
     pub hold: bool,
     /// The number of sockets at which connections are accepted, 1 to 65.
     pub sockets: u32,
+    /// Whether a session is served alone before the others, and one after them.
+    pub alone: bool,
 }
