@@ -94,7 +94,8 @@ static struct request read_words(char **words)
         refuse("the path comes first, and begins with no -");
     char why[WHY_BYTES];
     if (!options_are_valid(request.options, why)
-        || !users_take(&request.options, &request.users, why))
+        || !users_take(&request.options, &request.users, why)
+        || !state_take(&request.options, &request.state, why))
         refuse(why);
     return request;
 }

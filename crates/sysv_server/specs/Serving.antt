@@ -1,8 +1,8 @@
 -- How a server serves a listener, and what a fault leaves (this project's profile). It has a number
 -- of places, all at one service. Each place has a pass of its own and serves one client after another,
 -- and there is one session for each connection.
-use Rattle.std.specs.Prelude.{◌≡◌, ◌≢◌, ◌≤◌, ◌+◌, ◌^◌, ◌||◌, ⊤, ℕ, Bool, true, false, List, [], Option, Some, None, Result}
-use Rattle.std.specs.Prelude.{length, min}
+use Rattle.std.specs.Prelude.{◌≡◌, ◌≢◌, ◌≤◌, ◌+◌, ◌^◌, ◌||◌, ⊤, ℕ, Bool, true, false, List, [], Option, Some, None}
+use Rattle.std.specs.Prelude.{Result, length, min}
 use Rattle.std.specs.declared.io.Error.{Error}
 use Rattle.std.specs.List.{AllByRecursion}
 use Rattle.std.specs.List.Sorted.{IsPermutation}

@@ -80,7 +80,7 @@ pub(crate) struct Accepting<'a, L, I: Drop, H> {
     stats: bool,
     /// Whether a session is served alone before the others, and one after them.
     alone: bool,
-    /// Whether the input has said, after the first session was accepted, that the server is to go on.
+    /// Whether the input had a byte: then the server goes on after its first session.
     goes_on: bool,
     /// Whether last sessions are served alone.
     has_last: bool,
@@ -190,9 +190,9 @@ impl<'a, L: Listens, I: Input + Drop, H: Host> Accepting<'a, L, I, H> {
         self.listener.open()
     }
 
-    /// Waits for the end of the first session, which is served alone, and until the input has said
-    /// that the server is to go on. Nothing more is accepted until then. The error is that the input
-    /// has ended. Without an input nothing has to be said.
+    /// Waits for the end of the first session, which is served alone, and until the input has had a
+    /// byte: the server is to go on. Nothing more is accepted until then. The error is that the input
+    /// has ended. Without an input no byte is awaited.
     fn await_first(&mut self) -> Result<(), Reason>
         ensures same { (self.new.most ≡ self.old.most) × (self.new.accepted ≡ self.old.accepted)
             × (self.new.reason ≡ self.old.reason) × (self.new.limits ≡ self.old.limits)
@@ -202,7 +202,7 @@ impl<'a, L: Listens, I: Input + Drop, H: Host> Accepting<'a, L, I, H> {
             × (is_some self.old.input ≡ true) × IsOver I.reads) }
         ensures listener { self.new.listener ≡ self.old.listener }
     {
-        self.goes_on = self.input.is_none();
+        self.goes_on = self.goes_on || self.input.is_none();
         self.server.await_turn(true);
         for _ in 0..u64::MAX {
             if self.goes_on && self.server.is_over(self.accepted) {
@@ -270,8 +270,15 @@ impl<'a, L: Listens, I: Input + Drop, H: Host> Accepting<'a, L, I, H> {
             limits: self.limits,
             host: self.host,
         };
-        let (told, input, desk) = (&mut self.told, &mut self.input, &mut self.desk);
-        acceptor.accept_next(self.listener, told, input, desk, rows, self.retries)
+        acceptor.accept_next(
+            self.listener,
+            &mut self.told,
+            &mut self.input,
+            &mut self.goes_on,
+            &mut self.desk,
+            rows,
+            self.retries,
+        )
     }
 
     /// Accepts the next of the last sessions, which are served alone, once all sessions before it are
@@ -305,18 +312,14 @@ impl<'a, L: Listens, I: Input + Drop, H: Host> Accepting<'a, L, I, H> {
             return None;
         }
         self.server.resume();
-        match self.await_last() {
-            Some(stream) => {
-                self.accepted = self.accepted.saturating_add(1);
-                self.had_last = true;
-                Some(stream)
-            }
-            None => {
-                self.listener.close();
-                self.host.note(Notice::NoLast);
-                None
-            }
-        }
+        let Some(stream) = self.await_last() else {
+            self.listener.close();
+            self.host.note(Notice::NoLast);
+            return None;
+        };
+        self.accepted = self.accepted.saturating_add(1);
+        self.had_last = true;
+        Some(stream)
     }
 
     /// Opens the listener for a last session, and accepts the connection of its client. Returns `None`
@@ -444,13 +447,14 @@ struct Arrived {
 impl<H: Host> Acceptor<'_, '_, H> {
     /// Waits for a connection and accepts it. Until it comes, serves the desk. If the server
     /// `retries`, an accept that fails for want of something is tried again; the host is told so,
-    /// and when it succeeds.
+    /// and when it succeeds. `goes_on` is set if the input has had a byte.
     #[tactic(auto, using(sysv_engine::proofs::Looking::looks_stay, sysv_engine::proofs::Looking::looks_on, crate::proofs::Came::came_on, crate::proofs::Came::came_once, crate::proofs::Came::came_quiet, crate::proofs::Came::came_still))]
     fn accept_next<L: Listens, I: Input, R: Wait>(
         &self,
         listener: &mut L,
         told: &mut bool,
         input: &mut Option<I>,
+        goes_on: &mut bool,
         desk: &mut Desk,
         rows: &mut Rows<'_, R>,
         retries: bool,
@@ -470,8 +474,12 @@ impl<H: Host> Acceptor<'_, '_, H> {
         for _ in 0..u64::MAX {
             let arrived = self.wait(told, descriptor(input), desk);
             desk.go_on(arrived.reader, self.view, rows);
-            if arrived.input && has_ended(input) {
-                return Err(Reason::InputOver);
+            if arrived.input {
+                match heard(input) {
+                    Heard::Something => *goes_on = true,
+                    Heard::Nothing => {}
+                    Heard::End => return Err(Reason::InputOver),
+                }
             }
             if !arrived.connection {
                 continue;
@@ -572,15 +580,6 @@ pub(crate) fn is_passing(why: &io::Error) -> bool {
         Some(code) => PASSING.contains(&code),
         None => false,
     }
-}
-
-/// Reads a piece of the input, which can be read and is dropped. Returns whether the input is at
-/// its end or cannot be read.
-fn has_ended<I: Input>(input: &mut Option<I>) -> bool
-    ensures input { is_some input.new ≡ is_some input.old }
-    ensures ended { result ≡ true → (is_some input.old ≡ true) × IsOver I.reads }
-{
-    heard(input) == Heard::End
 }
 
 /// What a read of an input has found.

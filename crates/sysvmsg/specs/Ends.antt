@@ -105,7 +105,8 @@ pub record HasServedAll (limit : Option ℕ) (has_input : Bool) (terms : Terms) 
   pub outcome : Outcome
   pub ends : IfOk outcome.ended (EndsWithin limit terms)
   pub setting : IfOk outcome.ended (λ ended. RanWithin limit terms ended.setting)
-  pub meant : IfOk outcome.ended (λ ended. HasReason terms.alone has_input terms.sessions ended.sums.sessions outcome.reason)
+  pub meant : IfOk outcome.ended (λ ended. HasReason terms.alone has_input terms.sessions ended.sums.sessions
+      outcome.reason)
   pub fails : IfErr outcome.ended (FailsWithin limit terms)
   pub reports : Reports exit has_input outcome shown after
 
