@@ -154,17 +154,20 @@ pub record AsksForOthers (words : List Row) (others : Entrances) : Type 0 where
   pub count : others.count ≡ length (listed others)
   pub most : others.count ≤ MAX_OTHERS
 
--- A server with this number of other sockets has so many sockets. If it has not its first one, it has another.
-abbrev pub CountsSockets : (no_main : Bool) (others sockets : ℕ) → Type 0
-CountsSockets true others sockets = (1 ≤ others) × (sockets ≡ others)
-CountsSockets false others sockets = sockets ≡ others + 1
+-- A server with this number of other sockets has so many sockets. If it has not its first one, it has another. It may
+-- have one more, at which sessions are served alone.
+abbrev pub CountsSockets : (no_main alone : Bool) (others sockets : ℕ) → Type 0
+CountsSockets true false others sockets = (1 ≤ others) × (sockets ≡ others)
+CountsSockets true true others sockets = (1 ≤ others) × (sockets ≡ others + 1)
+CountsSockets false false others sockets = sockets ≡ others + 1
+CountsSockets false true others sockets = sockets ≡ others + 2
 
 -- A `serve` with these words is this one.
 pub record AsksToServe (words : List Row) (serving : Serving) : Type 0 where
   pub file : AsksForFile words serving.file
   pub others : AsksForOthers words serving.others
   pub no_main : HasFlag words (codes "no-main") serving.no_main
-  pub sockets : CountsSockets serving.no_main serving.others.count serving.terms.sockets
+  pub sockets : CountsSockets serving.no_main serving.terms.alone serving.others.count serving.terms.sockets
   pub stats : MayAskForStats words serving.stats
   -- Sessions that are served alone end by the input, and their number is not limited.
   pub alone : MayAskForAlone words serving.alone

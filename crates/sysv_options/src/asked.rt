@@ -484,7 +484,10 @@ fn server<'a>(words: &ArgMatches<'a>) -> Result<Serving<'a>, Bad>
     if serving.terms.alone && (!serving.until_eof || serving.terms.sessions > 0) {
         return Err(NOT_ALONE);
     }
-    serving.terms.sockets = serving.count() as u32;
+    let count = serving
+        .count()
+        .saturating_add(if serving.terms.alone { 1 } else { 0 });
+    serving.terms.sockets = count as u32;
     Ok(serving)
 }
 

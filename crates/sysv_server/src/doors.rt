@@ -33,7 +33,7 @@ pub struct Doors<'h, L, H> {
 }
 
 impl<'h, L: Listens, H: Host> Doors<'h, L, H> {
-    /// Creates the doors with these sockets, of which there are at most 65. Their numbers are their
+    /// Creates the doors with these sockets, of which there are at most 66. Their numbers are their
     /// places in the vector.
     pub fn new(sockets: Vec<L>, host: &'h H) -> Doors<'h, L, H>
         ensures { result.sockets ≡ sockets }

@@ -265,7 +265,7 @@ fn sessions_that_are_served_alone_are_requested(rt: HostRuntime) {
             mode: Some(0o600),
             replace: true,
         }),
-        terms: terms_with(1),
+        terms: terms_with(2),
         until_eof: true,
     };
     serving.terms.alone = true;
