@@ -29,8 +29,9 @@ static _Noreturn void give_up(const char *name)
     _exit(error == ENOENT ? NOT_FOUND : NOT_EXECUTABLE);
 }
 
-/* The server ends by its input or is killed, and what loads or saves ends by itself. A signal that reaches both processes, such as that of
- * Ctrl-C, has no effect on it. SIGHUP is ignored here already. */
+/* The server ends by its input or is killed, and what loads or saves ends by itself. A signal that
+ * reaches both processes, such as that of Ctrl-C, has no effect on it. SIGHUP is ignored here
+ * already. */
 static void ignore_ends(void)
 {
     static const int ends[] = {SIGTERM, SIGINT, SIGQUIT};

@@ -16,8 +16,8 @@ enum {
 /* A queue of a file, which may state it more than once. */
 struct queue {
     uint32_t key;
-    char *line;       /* its last one */
-    size_t at, end;   /* where its limit is in that line */
+    char *line;     /* its last one */
+    size_t at, end; /* where its limit is in that line */
     unsigned long limit;
     unsigned long bytes, messages; /* that the file has */
     unsigned long stated;          /* the number of messages that its last line states */
@@ -98,8 +98,8 @@ static struct queue *find(struct split *split, uint32_t key)
     return NULL;
 }
 
-/* Takes the line of a queue: the queue is new, or has another line before. Returns NULL if memory is
- * refused. */
+/* Takes the line of a queue: the queue is new, or has another line before. Returns NULL if memory
+ * is refused. */
 static struct queue *take_queue(struct split *split, const struct queue *found, const char *line)
 {
     struct queue *queue = find(split, found->key);
@@ -124,8 +124,8 @@ static struct queue *take_queue(struct split *split, const struct queue *found, 
     return queue;
 }
 
-/* Reads what the file has of each queue. Returns false if memory is refused; `last` is the queue of the
- * last line, or NULL. */
+/* Reads what the file has of each queue. Returns false if memory is refused; `last` is the queue of
+ * the last line, or NULL. */
 static bool read_queues(struct split *split, struct queue **last)
 {
     char *line = NULL;
@@ -159,7 +159,8 @@ static unsigned long limit_for(const struct queue *queue)
     return queue->bytes < MOST_BYTES ? queue->bytes : MOST_BYTES;
 }
 
-/* Whether a message of this length is loaded first. Once one of a queue is not, none after it is. */
+/* Whether a message of this length is loaded first. Once one of a queue is not, none after it is.
+ */
 static bool fits(struct split *split, struct queue *queue, size_t length)
 {
     unsigned long blocks = (length + BLOCK_BYTES - 1) / BLOCK_BYTES;
@@ -291,7 +292,7 @@ bool queues_split(FILE *file, unsigned long blocks, struct parts *parts, char wh
         is_well = deal(&split);
         lower_limits(&split);
         is_well = is_well && !ferror(file) && is_flushed(parts->first) && is_flushed(parts->rest)
-            && is_flushed(parts->left);
+                  && is_flushed(parts->left);
         if (!is_well)
             snprintf(why, WHY_BYTES, "%s", strerror(errno));
     } else {

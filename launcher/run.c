@@ -119,8 +119,8 @@ static void take_end(struct run *run, const struct signalfd_siginfo *signal)
 }
 
 /* A thread of the parent has ended. If it was the last one, all ends at once. A server that does
- * not serve yet is shut down, because only its line reports which socket file it made, and so is one
- * whose queues are to be saved. */
+ * not serve yet is shut down, because only its line reports which socket file it made, and so is
+ * one whose queues are to be saved. */
 static void take_parent_end(struct run *run)
 {
     if (run->parent == 0 || getppid() == run->parent)
@@ -473,7 +473,7 @@ int run(struct request *request)
     begin_files(request);
     begin_server(&state);
     while (state.server > 0 || state.command > 0 || request->state.child > 0
-        || !relay_is_over(&state.relay))
+           || !relay_is_over(&state.relay))
         step(&state);
     state_end(&request->state);
     remove_made(&state.socket);

@@ -76,10 +76,10 @@ static bool name_files(struct state *state)
 {
     const char *file = state->file;
     return asprintf(&state->loaded, "%s.loaded", file) >= 0
-        && asprintf(&state->next, "%s.new", file) >= 0
-        && asprintf(&state->folder, "%s.run", file) >= 0
-        && asprintf(&state->door, "%s/alone", state->folder) >= 0
-        && asprintf(&state->socket, "%s/socket", state->folder) >= 0;
+           && asprintf(&state->next, "%s.new", file) >= 0
+           && asprintf(&state->folder, "%s.run", file) >= 0
+           && asprintf(&state->door, "%s/alone", state->folder) >= 0
+           && asprintf(&state->socket, "%s/socket", state->folder) >= 0;
 }
 
 bool state_take(char ***options, struct state *state, char why[WHY_BYTES])
@@ -133,32 +133,33 @@ static void empty_folder(const struct state *state)
     unlinkat(state->lock, "alone.d", AT_REMOVEDIR);
 }
 
-/* Makes the folder, or takes the one of an earlier run, and locks it. */
-static bool lock_folder(struct state *state, char why[WHY_BYTES])
+/* Makes the folder, or takes the one of an earlier run, and locks it. Returns its descriptor, or
+ * -1. */
+static int lock_folder(const struct state *state, char why[WHY_BYTES])
 {
     struct stat own, found;
-    for (;;) {
-        if (mkdir(state->folder, 0700) != 0 && errno != EEXIST)
-            return refuse(why, "%s: %s", state->folder, strerror(errno));
-        state->lock = open(state->folder, O_RDONLY | O_DIRECTORY | O_NOFOLLOW | O_CLOEXEC);
-        if (state->lock < 0 || fstat(state->lock, &own) != 0)
-            return refuse(why, "%s: %s", state->folder, strerror(errno));
-        if (own.st_uid != geteuid())
-            return refuse(why, "%s: it is the directory of another user", state->folder);
-        if (flock(state->lock, LOCK_EX | LOCK_NB) != 0)
-            return errno == EWOULDBLOCK
-                ? refuse(why, "%s: another sysvmsg-serve uses it", state->file)
-                : refuse(why, "%s: %s", state->folder, strerror(errno));
-        /* (it may have been removed before it was locked) */
-        if (lstat(state->folder, &found) == 0 && own.st_dev == found.st_dev
-            && own.st_ino == found.st_ino)
-            break;
-        close(state->lock);
+    if (mkdir(state->folder, 0700) != 0 && errno != EEXIST) {
+        refuse(why, "%s: %s", state->folder, strerror(errno));
+        return -1;
     }
-    if (fchmod(state->lock, 0700) != 0)
-        return refuse(why, "%s: %s", state->folder, strerror(errno));
-    empty_folder(state);
-    return true;
+    int lock = open(state->folder, O_RDONLY | O_DIRECTORY | O_NOFOLLOW | O_CLOEXEC);
+    if (lock < 0 || fstat(lock, &own) != 0)
+        refuse(why, "%s: %s", state->folder, strerror(errno));
+    else if (own.st_uid != geteuid())
+        refuse(why, "%s: it is the directory of another user", state->folder);
+    else if (flock(lock, LOCK_EX | LOCK_NB) != 0 && errno == EWOULDBLOCK)
+        refuse(why, "%s: another sysvmsg-serve uses it", state->file);
+    /* (it may have been removed before it was locked) */
+    else if (lstat(state->folder, &found) != 0 || own.st_dev != found.st_dev
+             || own.st_ino != found.st_ino)
+        refuse(why, "%s: another sysvmsg-serve has just used it", state->file);
+    else if (fchmod(lock, 0700) != 0)
+        refuse(why, "%s: %s", state->folder, strerror(errno));
+    else
+        return lock;
+    if (lock >= 0)
+        close(lock);
+    return -1;
 }
 
 static bool open_parent(struct state *state, char why[WHY_BYTES])
@@ -174,8 +175,8 @@ static bool open_parent(struct state *state, char why[WHY_BYTES])
     return state->parent >= 0;
 }
 
-/* The first name FILE.left.N that is free, for a file that `make` makes of `from` and that name. NULL if
- * there is none, with errno set. */
+/* The first name FILE.left.N that is free, for a file that `make` makes of `from` and that name.
+ * NULL if there is none, with errno set. */
 static char *free_name(
     const struct state *state, const char *from, int make(const char *from, const char *name))
 {
@@ -200,8 +201,8 @@ static int make_empty(const char *from, const char *name)
 }
 
 /* Puts a file of an earlier run aside, if it is there, and reports that. */
-static bool put_aside(const struct state *state, const char *path, const char *what,
-    char why[WHY_BYTES])
+static bool put_aside(
+    const struct state *state, const char *path, const char *what, char why[WHY_BYTES])
 {
     FILE *file = fopen(path, "re");
     if (!file)
@@ -244,7 +245,13 @@ bool state_begin(struct state *state, char why[WHY_BYTES])
 {
     if (!state->file)
         return true;
-    if (!open_parent(state, why) || !lock_folder(state, why) || !split_file(state, why))
+    if (!open_parent(state, why))
+        return false;
+    state->lock = lock_folder(state, why);
+    if (state->lock < 0)
+        return false;
+    empty_folder(state);
+    if (!split_file(state, why))
         return false;
     if (!put_aside(state, state->loaded, "loaded, and did not save", why)
         || !put_aside(state, state->next, "begun to save", why))
@@ -261,8 +268,8 @@ bool state_begin(struct state *state, char why[WHY_BYTES])
 /* ---- loading */
 
 /* Starts `sysvmsg` with these words. */
-static bool start(struct state *state, char **words, const struct tool *tool,
-    const struct signals *before)
+static bool start(
+    struct state *state, char **words, const struct tool *tool, const struct signals *before)
 {
     pid_t child = start_tool(words, tool, before);
     if (child < 0) {
@@ -273,9 +280,10 @@ static bool start(struct state *state, char **words, const struct tool *tool,
     return true;
 }
 
-/* Starts the load of a part, from a line on. The part that is not loaded first waits for no room. */
-static bool start_load(struct state *state, FILE *part, unsigned long from, int errors,
-    const struct signals *before)
+/* Starts the load of a part, from a line on. The part that is not loaded first waits for no room.
+ */
+static bool start_load(
+    struct state *state, FILE *part, unsigned long from, int errors, const struct signals *before)
 {
     char line[24];
     snprintf(line, sizeof line, "%lu", from);
@@ -379,8 +387,8 @@ static void start_feed(struct state *state, const struct signals *before)
         state->feeds = false;
 }
 
-/* Learns which line is the next one from what a load has printed. What is not understood is shown, and
- * no more is loaded before the next start. */
+/* Learns which line is the next one from what a load has printed. What is not understood is shown,
+ * and no more is loaded before the next start. */
 static void take_feed(struct state *state, int status)
 {
     char text[WHY_BYTES];
@@ -420,8 +428,7 @@ static bool open_next(struct state *state)
 {
     if (state->saving >= 0)
         return true;
-    state->saving =
-        open(state->next, O_RDWR | O_CREAT | O_EXCL | O_APPEND | O_CLOEXEC, 0600);
+    state->saving = open(state->next, O_RDWR | O_CREAT | O_EXCL | O_APPEND | O_CLOEXEC, 0600);
     if (state->saving < 0)
         say_failed(state, state->next, strerror(errno));
     return state->saving >= 0;
@@ -467,10 +474,10 @@ static bool finish_next(struct state *state)
     FILE *file = copy < 0 ? NULL : fdopen(copy, "a");
     if (!file)
         return false;
-    bool is_well = state->rest_from == 0
-        || queues_append(state->parts.rest, state->rest_from, file);
-    is_well = is_well && fputs(QUEUES_FORMAT, file) >= 0 && fflush(file) == 0
-        && fsync(fileno(file)) == 0;
+    bool is_well =
+        state->rest_from == 0 || queues_append(state->parts.rest, state->rest_from, file);
+    is_well =
+        is_well && fputs(QUEUES_FORMAT, file) >= 0 && fflush(file) == 0 && fsync(fileno(file)) == 0;
     int error = errno;
     fclose(file);
     errno = error;
@@ -482,10 +489,11 @@ static bool replace_file(struct state *state)
 {
     if (!finish_next(state) || rename(state->next, state->file) != 0)
         return false;
-    bool is_well = fsync(state->parent) == 0;
-    if (is_well && unlink(state->loaded) != 0 && errno != ENOENT)
+    if (fsync(state->parent) != 0)
+        say_failed(state, state->file, strerror(errno));
+    else if (unlink(state->loaded) != 0 && errno != ENOENT)
         say("%s: %s", state->loaded, strerror(errno));
-    return is_well;
+    return true;
 }
 
 /* The number of messages that were saved. */
@@ -534,7 +542,7 @@ int state_news(const struct state *state) { return state->child > 0 ? -1 : state
 
 int state_limit(const struct state *state)
 {
-    if (!state->file || state->child > 0 || state->rest_from == 0
+    if (!state->file || state->child > 0 || state->rest_from == 0 || state->is_told
         || state->phase != STATE_SERVES || state->feed_at == LONG_MAX)
         return -1;
     long left = state->feed_at - milliseconds();
@@ -586,6 +594,7 @@ enum outcome state_reap(struct state *state, pid_t child, int status)
 
 void state_stop(struct state *state)
 {
+    state->is_told = true;
     if (!state->file || (state->phase != STATE_OPENS && state->phase != STATE_LOADS))
         return;
     state->phase = STATE_ENDS;

@@ -1,6 +1,6 @@
-/* --state FILE: the queues of a server lie in FILE while it does not run. They are loaded before the
- * server serves anyone, and saved once its last session is over, at a socket that only this process and
- * what it starts can reach. FILE is FILE.loaded while the server runs. */
+/* --state FILE: the queues of a server lie in FILE while it does not run. They are loaded before
+ * the server serves anyone, and saved once its last session is over, at a socket that only this
+ * process and what it starts can reach. FILE is FILE.loaded while the server runs. */
 #ifndef STATE_H
 #define STATE_H
 
@@ -36,29 +36,32 @@ struct state {
     int news;            /* reports files in the folder */
     unsigned long blocks;
     enum phase phase;
+    bool is_told;    /* the server was told to end */
     pid_t child;     /* what loads or saves, or 0 */
     bool feeds;      /* it loads the rest */
     bool has_failed; /* something was lost, or not loaded */
     bool is_there;   /* FILE is there */
     struct parts parts;
-    unsigned long rest_from; /* the first line of the rest that is not loaded, or 0: there is none */
-    unsigned wait;           /* the number of seconds until it is tried again */
-    long feed_at;            /* when, in milliseconds */
-    int told;                /* what the process that loads the rest prints */
-    int saving;              /* a descriptor of FILE.new, or -1 */
-    unsigned saves;          /* that failed */
-    bool is_saved;           /* the last one did not */
+    unsigned long
+        rest_from;  /* the first line of the rest that is not loaded, or 0: there is none */
+    unsigned wait;  /* the number of seconds until it is tried again */
+    long feed_at;   /* when, in milliseconds */
+    int told;       /* what the process that loads the rest prints */
+    int saving;     /* a descriptor of FILE.new, or -1 */
+    unsigned saves; /* that failed */
+    bool is_saved;  /* the last one did not */
 };
 
-/* Takes --state out of the options of the server, and adds --alone. If that fails, `why` says so. */
+/* Takes --state out of the options of the server, and adds --alone. If that fails, `why` says so.
+ */
 bool state_take(char ***options, struct state *state, char why[WHY_BYTES]);
 
 /* Takes FILE for this process, and looks into it. What earlier runs have left is put aside, and
  * reported. If that fails, `why` says so, and FILE is as it was. */
 bool state_begin(struct state *state, char why[WHY_BYTES]);
 
-/* The descriptor to poll, or -1 as long as a process runs that was started, and the number of milliseconds after which there is something to do,
- * or -1. */
+/* The descriptor to poll, or -1 as long as a process runs that was started, and the number of
+ * milliseconds after which there is something to do, or -1. */
 int state_news(const struct state *state);
 int state_limit(const struct state *state);
 
