@@ -1,5 +1,5 @@
-/* The processes that are started: the server, with --with a command, and with --state what loads and
- * saves. Each gets a signal if this process ends first, even if that is killed. */
+/* The processes that are started: the server, with --with a command, and with --state what loads
+ * and saves. Each gets a signal if this process ends first, even if that is killed. */
 #ifndef CHILDREN_H
 #define CHILDREN_H
 

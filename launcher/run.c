@@ -139,6 +139,7 @@ static void note_server_end(struct run *run, int status)
 {
     run->server = 0;
     run->server_status = status;
+    run->state->is_over = true;
     if (run->is_killed || (WIFEXITED(status) && WEXITSTATUS(status) == 0))
         return;
     if (WIFSIGNALED(status))

@@ -20,7 +20,8 @@ enum {
     LONGEST_SOCKET = 103, /* bytes of the path of --alone */
     MOST_LEFT = 9999,     /* files FILE.left.N */
     MOST_SAVES = 3,       /* that may fail */
-    LONGEST_WAIT = 16     /* seconds between two tries to load the rest */
+    RETRY_MS = 1000,  /* until a save that failed is tried again, if it did not reach the server */
+    LONGEST_WAIT = 16 /* seconds between two tries to load the rest */
 };
 
 static bool refuse(char why[WHY_BYTES], const char *format, ...)
@@ -441,8 +442,10 @@ static void start_save(struct state *state, const struct signals *before)
         return;
     const struct tool tool = {-1, state->saving, -1};
     state->is_saved = false;
-    if (!start(state, words, &tool, before))
+    if (!start(state, words, &tool, before)) {
         state->saves++;
+        state->save_at = milliseconds() + RETRY_MS;
+    }
 }
 
 /* Cuts off a line that was not written whole. */
@@ -465,6 +468,7 @@ static void take_save(struct state *state, int status)
     if (WIFSIGNALED(status))
         say("the save was ended by signal %d", WTERMSIG(status));
     cut_last_line(state->saving);
+    state->save_at = milliseconds() + RETRY_MS;
 }
 
 /* Appends the messages for which there was no room, and the mark of the end, and syncs the file. */
@@ -540,12 +544,28 @@ static void settle(struct state *state)
 
 int state_news(const struct state *state) { return state->child > 0 ? -1 : state->news; }
 
+/* Whether a save has failed and is to be tried again. */
+static bool has_to_save(const struct state *state)
+{
+    return state->saves > 0 && state->saves < MOST_SAVES && !state->is_saved;
+}
+
+/* When there is something to do, or LONG_MAX. */
+static long due(const struct state *state)
+{
+    if (!state->file || state->child > 0 || state->phase != STATE_SERVES || state->is_over)
+        return LONG_MAX;
+    if (has_to_save(state))
+        return state->save_at;
+    return state->rest_from == 0 || state->is_told ? LONG_MAX : state->feed_at;
+}
+
 int state_limit(const struct state *state)
 {
-    if (!state->file || state->child > 0 || state->rest_from == 0 || state->is_told
-        || state->phase != STATE_SERVES || state->feed_at == LONG_MAX)
+    long at = due(state);
+    if (at == LONG_MAX)
         return -1;
-    long left = state->feed_at - milliseconds();
+    long left = at - milliseconds();
     return left < 0 ? 0 : (int)left;
 }
 
@@ -564,7 +584,11 @@ enum outcome state_step(struct state *state, const struct signals *before)
     if (!state->file || state->child > 0)
         return STATE_TAKEN;
     if (!has_door(state)) {
-        if (state_limit(state) == 0)
+        if (state_limit(state) != 0)
+            return STATE_TAKEN;
+        if (has_to_save(state))
+            start_save(state, before);
+        else
             start_feed(state, before);
         return STATE_TAKEN;
     }

@@ -36,6 +36,7 @@ struct state {
     int news;            /* reports files in the folder */
     unsigned long blocks;
     enum phase phase;
+    bool is_over;    /* the server has ended */
     bool is_told;    /* the server was told to end */
     pid_t child;     /* what loads or saves, or 0 */
     bool feeds;      /* it loads the rest */
@@ -48,6 +49,7 @@ struct state {
     long feed_at;   /* when, in milliseconds */
     int told;       /* what the process that loads the rest prints */
     int saving;     /* a descriptor of FILE.new, or -1 */
+    long save_at;   /* when a save that failed is tried again, in milliseconds */
     unsigned saves; /* that failed */
     bool is_saved;  /* the last one did not */
 };
