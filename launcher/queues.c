@@ -19,10 +19,10 @@ struct queue {
     char *line;     /* its last one */
     size_t at, end; /* where its limit is in that line */
     unsigned long limit;
-    unsigned long bytes, messages; /* that the file has */
-    unsigned long stated;          /* the number of messages that its last line states */
-    unsigned long seen;            /* messages after that line */
-    unsigned long taken, count;    /* bytes and messages that are loaded first */
+    unsigned long bytes;        /* of the messages that the file has */
+    unsigned long stated;       /* the number of messages that its last line states */
+    unsigned long seen;         /* messages after that line */
+    unsigned long taken, count; /* bytes and messages that are loaded first */
     bool is_full, has_rest;
 };
 
@@ -37,6 +37,13 @@ struct split {
 static bool is_format(const char *line) { return strcmp(line, QUEUES_FORMAT) == 0; }
 
 static bool is_message(const char *line) { return strncmp(line, "{\"type\":", 8) == 0; }
+
+/* Whether a line was not cut off. The last one need not end with an LF. */
+static bool is_whole(const char *line)
+{
+    size_t length = strlen(line);
+    return length > 0 && (line[length - 1] == '\n' || line[length - 1] == '}');
+}
 
 /* Reads the line of a queue, if it is one. */
 static bool read_queue(const char *line, struct queue *queue)
@@ -142,8 +149,7 @@ static bool read_queues(struct split *split, struct queue **last)
             is_well = queue;
         } else if (queue && is_message(line)) {
             queue->bytes += length_of(line);
-            queue->messages++;
-            queue->seen++;
+            queue->seen += is_whole(line);
         }
     }
     free(line);
