@@ -21,3 +21,5 @@ pub mod Behind
 pub mod Looking
 pub mod ReadsRows
 pub mod Crossing
+pub mod Telling
+pub mod Tables

@@ -2,6 +2,7 @@
 ghost use Rattle.std.specs.Prelude.{◌≡◌, ◌⊎◌, None, Some, true};
 ghost use Rattle.sysv_parking.specs.Agenda.{IsAtRest, KeepsWork};
 ghost use Rattle.sysv_parking.specs.Parking.{AreInLines, MovesOnly, key_at};
+ghost use Rattle.sysv_engine.specs.Contacts.{GoOn};
 ghost use Rattle.sysv_engine.specs.Places.{IsVacantAt, KeepsAll};
 
 use crate::moment::{Moment, sooner};
@@ -112,7 +113,7 @@ impl<'a, 'c, R: Wait> Serving<'a, 'c, R> {
         self.note_ready(worker);
         worker.begin_looks();
         if has_come {
-            read_envelopes(self, worker);
+            self.read_mail(worker);
         }
         self.spread(worker);
         self.serve_ready(worker);
@@ -232,6 +233,7 @@ impl<'a, 'c, R: Wait> Serving<'a, 'c, R> {
         ensures keeps { KeepsAll T.incoming T.outgoing T.closes worker.old.places.items
             worker.new.places.items }
         ensures agenda { worker.new.agenda ≡ worker.old.agenda }
+        ensures words { worker.new.rest ≡ worker.old.rest }
     {
         let before = worker.blocks_in_use(place);
         worker.go_on(place);
@@ -257,6 +259,7 @@ impl<'a, 'c, R: Wait> Serving<'a, 'c, R> {
         ensures moves { MovesOnly place worker.old.agenda.parking worker.new.agenda.parking }
         ensures rest { worker.new.agenda
             ≡ record worker.old.agenda { parking = worker.new.agenda.parking } }
+        ensures words { worker.new.rest ≡ worker.old.rest }
     {
         self.line_up(worker, place);
         self.close_if_over(worker, place);
@@ -272,6 +275,7 @@ impl<'a, 'c, R: Wait> Serving<'a, 'c, R> {
         ensures keeps { KeepsAll T.incoming T.outgoing T.closes worker.old.places.items
             worker.new.places.items }
         ensures agenda { worker.new.agenda ≡ worker.old.agenda }
+        ensures words { worker.new.rest ≡ worker.old.rest }
     {
         if self.server.may_hold() {
             let returns = worker.take_returns(place);
@@ -292,6 +296,7 @@ impl<'a, 'c, R: Wait> Serving<'a, 'c, R> {
         ensures moves { MovesOnly place worker.old.agenda.parking worker.new.agenda.parking }
         ensures rest { worker.new.agenda
             ≡ record worker.old.agenda { parking = worker.new.agenda.parking } }
+        ensures words { worker.new.rest ≡ worker.old.rest }
     {
         if worker.is_over(place) {
             self.close(worker, place);
@@ -307,6 +312,7 @@ impl<'a, 'c, R: Wait> Serving<'a, 'c, R> {
         ensures keeps { KeepsAll T.incoming T.outgoing T.closes worker.old.places.items
             worker.new.places.items }
         ensures agenda { worker.new.agenda ≡ worker.old.agenda }
+        ensures words { worker.new.rest ≡ worker.old.rest }
     {
         if worker.has_given_back(place) {
             self.server.count_return(false);
@@ -323,6 +329,7 @@ impl<'a, 'c, R: Wait> Serving<'a, 'c, R> {
         ensures keeps { KeepsAll T.incoming T.outgoing T.closes worker.old.places.items
             worker.new.places.items }
         ensures agenda { worker.new.agenda ≡ worker.old.agenda }
+        ensures words { worker.new.rest ≡ worker.old.rest }
     {
         worker.await_more(place);
         worker.set_time(place, self.server.patience());
@@ -338,6 +345,7 @@ impl<'a, 'c, R: Wait> Serving<'a, 'c, R> {
         ensures moves { MovesOnly place worker.old.agenda.parking worker.new.agenda.parking }
         ensures rest { worker.new.agenda
             ≡ record worker.old.agenda { parking = worker.new.agenda.parking } }
+        ensures words { worker.new.rest ≡ worker.old.rest }
     {
         let mut looked = false;
         for _ in self.rt.forever() {
@@ -364,6 +372,7 @@ impl<'a, 'c, R: Wait> Serving<'a, 'c, R> {
         ensures moves { MovesOnly place worker.old.agenda.parking worker.new.agenda.parking }
         ensures rest { worker.new.agenda
             ≡ record worker.old.agenda { parking = worker.new.agenda.parking } }
+        ensures words { worker.new.rest ≡ worker.old.rest }
     {
         let key = worker.key(place);
         if key == worker.agenda.lines().key(place) {
@@ -393,6 +402,7 @@ impl<'a, 'c, R: Wait> Serving<'a, 'c, R> {
         ensures moves { MovesOnly place worker.old.agenda.parking worker.new.agenda.parking }
         ensures rest { worker.new.agenda
             ≡ record worker.old.agenda { parking = worker.new.agenda.parking } }
+        ensures words { worker.new.rest ≡ worker.old.rest }
     {
         let Some(key) = worker.agenda.lines().key(place) else {
             return;
@@ -414,6 +424,7 @@ impl<'a, 'c, R: Wait> Serving<'a, 'c, R> {
         ensures moves { MovesOnly place worker.old.agenda.parking worker.new.agenda.parking }
         ensures rest { worker.new.agenda
             ≡ record worker.old.agenda { parking = worker.new.agenda.parking } }
+        ensures words { worker.new.rest ≡ worker.old.rest }
     {
         self.leave_line(worker, place);
         let Some(served) = worker.close(place) else {
@@ -434,6 +445,7 @@ impl<'a, 'c, R: Wait> Serving<'a, 'c, R> {
         ensures moves { MovesOnly place worker.old.agenda.parking worker.new.agenda.parking }
         ensures rest { worker.new.agenda
             ≡ record worker.old.agenda { parking = worker.new.agenda.parking } }
+        ensures words { worker.new.rest ≡ worker.old.rest }
     {
         let returns = worker.has_message(place);
         if returns {
@@ -452,6 +464,7 @@ impl<'a, 'c, R: Wait> Serving<'a, 'c, R> {
         ensures moves { MovesOnly place worker.old.agenda.parking worker.new.agenda.parking }
         ensures rest { worker.new.agenda
             ≡ record worker.old.agenda { parking = worker.new.agenda.parking } }
+        ensures words { worker.new.rest ≡ worker.old.rest }
     {
         let before = worker.blocks_in_use(place);
         worker.give_back(place);
@@ -461,7 +474,8 @@ impl<'a, 'c, R: Wait> Serving<'a, 'c, R> {
 
     /// Takes note that a place is vacant.
     fn vacate<T: NonBlocking, W: Watch<T>>(&self, worker: &mut Worker<'a, R, T, W>, place: usize)
-        ensures { (worker.new.places ≡ worker.old.places) × (worker.new.agenda ≡ worker.old.agenda) }
+        ensures { (worker.new.places ≡ worker.old.places) × (worker.new.agenda ≡ worker.old.agenda)
+            × (worker.new.rest ≡ worker.old.rest) }
     {
         if worker.free.len() < worker.free.capacity() {
             worker.free.push_reserved(place);
@@ -476,7 +490,36 @@ impl<'a, 'c, R: Wait> Serving<'a, 'c, R> {
             worker.new.places.items }
         ensures rest { (worker.new.agenda.looks ≡ 0) ⊎ IsAtRest worker.new.agenda }
     {
+        self.announce(worker);
+        self.heed(worker);
+    }
+
+    /// Reads the envelopes that were sent to the worker, as far as it keeps them.
+    fn read_mail<T: NonBlocking, W: Watch<T>>(&self, worker: &mut Worker<'a, R, T, W>)
+        ensures keeps { KeepsAll T.incoming T.outgoing T.closes worker.old.places.items
+            worker.new.places.items }
+    {
+        read_envelopes(self, worker);
+    }
+
+    /// Tells all whom it may concern what the calls of the worker have changed.
+    fn announce<T: NonBlocking, W: Watch<T>>(&self, worker: &mut Worker<'a, R, T, W>)
+        ensures keeps { KeepsAll T.incoming T.outgoing T.closes worker.old.places.items
+            worker.new.places.items }
+        ensures told { GoOn worker.old.rest.contacts worker.new.rest.contacts }
+        ensures work { KeepsWork worker.old.agenda worker.new.agenda }
+        ensures parking { worker.new.agenda.parking ≡ worker.old.agenda.parking }
+    {
         collect(self.rt, self, worker);
+    }
+
+    /// Heeds what has changed, and the messages that have arrived, as far as the worker's share of
+    /// looks goes.
+    fn heed<T: NonBlocking, W: Watch<T>>(&self, worker: &mut Worker<'a, R, T, W>)
+        ensures keeps { KeepsAll T.incoming T.outgoing T.closes worker.old.places.items
+            worker.new.places.items }
+        ensures rest { (worker.new.agenda.looks ≡ 0) ⊎ IsAtRest worker.new.agenda }
+    {
         heed_all(self.rt, self, worker);
     }
 
@@ -497,6 +540,7 @@ impl<'a, 'c, R: Wait> Serving<'a, 'c, R> {
         ensures over { (result ≡ Found.Message) ⊎ (result ≡ Found.Over)
             → key_at worker.new.agenda.parking place ≡ None }
         ensures work { KeepsWork worker.old.agenda worker.new.agenda }
+        ensures told { GoOn worker.old.rest.contacts worker.new.rest.contacts }
     {
         let before = worker.agenda.lines().key(place);
         self.go_on(worker, place);
@@ -505,7 +549,7 @@ impl<'a, 'c, R: Wait> Serving<'a, 'c, R> {
             worker.drain(place);
         }
         self.settle(worker, place);
-        collect(self.rt, self, worker);
+        self.announce(worker);
         found(before, worker.agenda.lines().key(place), has_taken)
     }
 

@@ -190,7 +190,8 @@ impl<'a, R: Wait, T: NonBlocking, W: Watch<T>> Worker<'a, R, T, W> {
     /// Counts an envelope that this worker writes. Returns whose turn it is to look first, counted
     /// on from turn to turn, or `None` for its own.
     pub(crate) fn next_first(&mut self) -> Option<usize>
-        ensures { (self.new.places ≡ self.old.places) × (self.new.agenda ≡ self.old.agenda) }
+        ensures { (self.new.places ≡ self.old.places) × (self.new.agenda ≡ self.old.agenda)
+            × (self.new.rest ≡ self.old.rest) }
     {
         self.messages = self.messages.wrapping_add(1);
         turn(self.messages, SHARE_OF_MESSAGES)
@@ -199,7 +200,7 @@ impl<'a, R: Wait, T: NonBlocking, W: Watch<T>> Worker<'a, R, T, W> {
     /// Counts a change that this worker heeds. Returns whether other workers heed it first.
     pub(crate) fn is_last_to_heed(&mut self) -> bool
         ensures { (self.new.places ≡ self.old.places) × (self.new.agenda ≡ self.old.agenda)
-            × (self.new.tools ≡ self.old.tools) }
+            × (self.new.tools ≡ self.old.tools) × (self.new.rest ≡ self.old.rest) }
     {
         self.changed = self.changed.wrapping_add(1);
         turn(self.changed, SHARE_OF_CHANGES).is_some()
@@ -310,6 +311,7 @@ impl<'a, R: Wait, T: NonBlocking, W: Watch<T>> Worker<'a, R, T, W> {
         ensures keeps { KeepsAll T.incoming T.outgoing T.closes self.old.places.items
             self.new.places.items }
         ensures agenda { self.new.agenda ≡ self.old.agenda }
+        ensures rest { self.new.rest ≡ self.old.rest }
     {
         if let Some(there) = self.places.get_mut(place) {
             there.give_back(&mut self.tools);
@@ -323,6 +325,7 @@ impl<'a, R: Wait, T: NonBlocking, W: Watch<T>> Worker<'a, R, T, W> {
         ensures keeps { KeepsAll T.incoming T.outgoing T.closes self.old.places.items
             self.new.places.items }
         ensures agenda { self.new.agenda ≡ self.old.agenda }
+        ensures rest { self.new.rest ≡ self.old.rest }
     {
         match self.places.get_mut(place) {
             Some(there) => there.has_given_back(),
@@ -353,6 +356,7 @@ impl<'a, R: Wait, T: NonBlocking, W: Watch<T>> Worker<'a, R, T, W> {
         ensures keeps { KeepsAll T.incoming T.outgoing T.closes self.old.places.items
             self.new.places.items }
         ensures agenda { self.new.agenda ≡ self.old.agenda }
+        ensures rest { self.new.rest ≡ self.old.rest }
     {
         match self.places.get_mut(place) {
             Some(there) => there.take_returns(),
@@ -399,6 +403,7 @@ impl<'a, R: Wait, T: NonBlocking, W: Watch<T>> Worker<'a, R, T, W> {
         ensures keeps { KeepsAll T.incoming T.outgoing T.closes self.old.places.items
             self.new.places.items }
         ensures agenda { self.new.agenda ≡ self.old.agenda }
+        ensures rest { self.new.rest ≡ self.old.rest }
     {
         if let Some(there) = self.places.get_mut(place) {
             there.lapse(&mut self.tools);
@@ -411,6 +416,7 @@ impl<'a, R: Wait, T: NonBlocking, W: Watch<T>> Worker<'a, R, T, W> {
         ensures keeps { KeepsAll T.incoming T.outgoing T.closes self.old.places.items
             self.new.places.items }
         ensures agenda { self.new.agenda ≡ self.old.agenda }
+        ensures rest { self.new.rest ≡ self.old.rest }
     {
         if let Some(there) = self.places.get_mut(ready.place) {
             there.note(ready);
@@ -434,6 +440,7 @@ impl<'a, R: Wait, T: NonBlocking, W: Watch<T>> Worker<'a, R, T, W> {
         ensures keeps { KeepsAll T.incoming T.outgoing T.closes self.old.places.items
             self.new.places.items }
         ensures agenda { self.new.agenda ≡ self.old.agenda }
+        ensures rest { self.new.rest ≡ self.old.rest }
     {
         if let Some(there) = self.places.get_mut(place) {
             there.go_on(&mut self.tools);
@@ -446,6 +453,7 @@ impl<'a, R: Wait, T: NonBlocking, W: Watch<T>> Worker<'a, R, T, W> {
         ensures keeps { KeepsAll T.incoming T.outgoing T.closes self.old.places.items
             self.new.places.items }
         ensures agenda { self.new.agenda ≡ self.old.agenda }
+        ensures rest { self.new.rest ≡ self.old.rest }
     {
         if let Some(there) = self.places.get_mut(place) {
             there.drain();
@@ -458,6 +466,7 @@ impl<'a, R: Wait, T: NonBlocking, W: Watch<T>> Worker<'a, R, T, W> {
         ensures keeps { KeepsAll T.incoming T.outgoing T.closes self.old.places.items
             self.new.places.items }
         ensures agenda { self.new.agenda ≡ self.old.agenda }
+        ensures rest { self.new.rest ≡ self.old.rest }
     {
         if let Some(there) = self.places.get_mut(place) {
             there.cut(limit);
@@ -470,6 +479,7 @@ impl<'a, R: Wait, T: NonBlocking, W: Watch<T>> Worker<'a, R, T, W> {
         ensures keeps { KeepsAll T.incoming T.outgoing T.closes self.old.places.items
             self.new.places.items }
         ensures agenda { self.new.agenda ≡ self.old.agenda }
+        ensures rest { self.new.rest ≡ self.old.rest }
     {
         if let Some(there) = self.places.get_mut(place) {
             there.cut_idle();
@@ -482,6 +492,7 @@ impl<'a, R: Wait, T: NonBlocking, W: Watch<T>> Worker<'a, R, T, W> {
         ensures keeps { KeepsAll T.incoming T.outgoing T.closes self.old.places.items
             self.new.places.items }
         ensures agenda { self.new.agenda ≡ self.old.agenda }
+        ensures rest { self.new.rest ≡ self.old.rest }
     {
         if let Some(there) = self.places.get_mut(place) {
             there.cut_late();
@@ -494,6 +505,7 @@ impl<'a, R: Wait, T: NonBlocking, W: Watch<T>> Worker<'a, R, T, W> {
         ensures keeps { KeepsAll T.incoming T.outgoing T.closes self.old.places.items
             self.new.places.items }
         ensures agenda { self.new.agenda ≡ self.old.agenda }
+        ensures rest { self.new.rest ≡ self.old.rest }
     {
         let Some(there) = self.places.get_mut(place) else {
             return None;
@@ -507,6 +519,7 @@ impl<'a, R: Wait, T: NonBlocking, W: Watch<T>> Worker<'a, R, T, W> {
         ensures keeps { KeepsAll T.incoming T.outgoing T.closes self.old.places.items
             self.new.places.items }
         ensures agenda { self.new.agenda ≡ self.old.agenda }
+        ensures rest { self.new.rest ≡ self.old.rest }
     {
         self.await_room(place);
         self.await_turn(place);
@@ -518,6 +531,7 @@ impl<'a, R: Wait, T: NonBlocking, W: Watch<T>> Worker<'a, R, T, W> {
         ensures keeps { KeepsAll T.incoming T.outgoing T.closes self.old.places.items
             self.new.places.items }
         ensures agenda { self.new.agenda ≡ self.old.agenda }
+        ensures rest { self.new.rest ≡ self.old.rest }
     {
         if let Some(there) = self.places.get_mut(place) {
             there.await_room(&mut self.watch, place);
@@ -530,6 +544,7 @@ impl<'a, R: Wait, T: NonBlocking, W: Watch<T>> Worker<'a, R, T, W> {
         ensures keeps { KeepsAll T.incoming T.outgoing T.closes self.old.places.items
             self.new.places.items }
         ensures agenda { self.new.agenda ≡ self.old.agenda }
+        ensures rest { self.new.rest ≡ self.old.rest }
     {
         let Some(there) = self.places.get_mut(place) else {
             return;
@@ -563,7 +578,8 @@ impl<'a, R: Wait, T: NonBlocking, W: Watch<T>> Worker<'a, R, T, W> {
     /// Has the worker look soon whether the client has more bytes to read, if it may have some that
     /// nothing reports.
     pub(crate) fn look_again(&mut self, place: usize)
-        ensures { (self.new.places ≡ self.old.places) × (self.new.agenda ≡ self.old.agenda) }
+        ensures { (self.new.places ≡ self.old.places) × (self.new.agenda ≡ self.old.agenda)
+            × (self.new.rest ≡ self.old.rest) }
     {
         if self.again.is_none() && self.may_hold_more(place) {
             self.again = Some(Moment::now().plus_millis(AGAIN_MILLIS));
@@ -577,6 +593,7 @@ impl<'a, R: Wait, T: NonBlocking, W: Watch<T>> Worker<'a, R, T, W> {
         ensures keeps { KeepsAll T.incoming T.outgoing T.closes self.old.places.items
             self.new.places.items }
         ensures agenda { self.new.agenda ≡ self.old.agenda }
+        ensures rest { self.new.rest ≡ self.old.rest }
     {
         if let Some(there) = self.places.get_mut(place) {
             let due = there.limit(patience);
