@@ -93,7 +93,8 @@ static struct request read_words(char **words)
     if (*request.path == '\0' || *request.path == '-')
         refuse("the path comes first, and does not begin with -");
     char why[WHY_BYTES];
-    if (!options_are_valid(request.options, why))
+    if (!options_are_valid(request.options, why)
+        || !users_take(&request.options, &request.users, why))
         refuse(why);
     return request;
 }
@@ -113,6 +114,6 @@ int main(int count, char **words)
     }
     if (count == 0)
         refuse("a path is missing");
-    const struct request request = read_words(words + 1);
+    struct request request = read_words(words + 1);
     return run(&request);
 }

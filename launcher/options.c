@@ -7,6 +7,9 @@
 
 enum { WIDTH = 80, INDENT = 9 };
 
+/* The option that may be given more than once. */
+#define AS "--as"
+
 /* An option, and what its value is: a number in these bounds, or a path if the base is 0. */
 struct option {
     const char *name;
@@ -19,6 +22,10 @@ struct option {
 static const struct option options[] = {
     {"--mode", "OCTAL", "an octal number", 8, 0, 0777},
     {"--replace", NULL, NULL, 0, 0, 0},
+    {AS, "SOCKET=UID:GID", NULL, 0, 0, 0},
+    {"--no-main", NULL, NULL, 0, 0, 0},
+    {"--users", "GROUP|LIST", NULL, 0, 0, 0},
+    {"--run", "DIR", NULL, 0, 0, 0},
     {"--blocks", "B", "a number", 10, 128, 65536},
     {"--workers", "W", "a number", 10, 1, 16},
     {"--at-once", "N", "a number", 10, 1, 16384},
@@ -96,7 +103,7 @@ static bool judge(char ***word, bool is_given[OPTIONS], char why[WHY_BYTES])
     }
     bool was_given = is_given[option - options];
     is_given[option - options] = true;
-    if (was_given) {
+    if (was_given && strcmp(option->name, AS) != 0) {
         snprintf(why, WHY_BYTES, "%s is given twice", option->name);
         return false;
     }

@@ -26,7 +26,8 @@ enum {
     BY_SIGNAL = 128,      /* and the number of the signal that ended a process */
     APART_MS = 200,       /* signals that are closer together are one */
     LAST_LINES_MS = 1000, /* how long the last lines may wait for room on standard error */
-    PARENT_END = SIGUSR1  /* reports that a thread of the parent ended, with --with */
+    PARENT_END = SIGUSR1, /* reports that a thread of the parent ended, with --with */
+    MOST_OTHERS = 64      /* sockets of --as */
 };
 
 /* A file that the server made. */
@@ -44,9 +45,11 @@ struct run {
     int server_status;
     int status; /* of the command, once it has ended, and else -1 */
     int input;  /* of the server, which shuts down once it is closed */
+    bool is_serving;
     struct made socket, stats;
-    int stopped_by;  /* the signal that ended the run, or 0 */
-    long ends_since; /* in milliseconds, once `input` is closed */
+    struct made others[MOST_OTHERS]; /* the sockets of --as */
+    int stopped_by;                  /* the signal that ended the run, or 0 */
+    long ends_since;                 /* in milliseconds, once `input` is closed */
     bool is_killed;
     struct relay relay;
 };
@@ -179,8 +182,12 @@ static void keep(struct made *made)
 /* The server listens now. */
 static void take_serving(struct run *run)
 {
+    run->is_serving = true;
     keep(&run->socket);
     keep(&run->stats);
+    for (size_t i = 0; i < MOST_OTHERS; i++)
+        keep(&run->others[i]);
+    users_give(&run->request->users);
     if (run->stopped_by != 0)
         return;
     notify("READY=1");
@@ -200,7 +207,7 @@ static void take_lines(struct run *run)
 {
     enum line line;
     while ((line = relay_front(&run->relay)) != NO_LINE) {
-        if (line == SERVING_LINE && run->socket.file < 0)
+        if (line == SERVING_LINE && !run->is_serving)
             take_serving(run);
         if (run->request->command && line != OTHER_LINE)
             relay_drop(&run->relay);
@@ -268,6 +275,25 @@ static const char *value_of(char **options, const char *name)
     if (!rest)
         return NULL;
     return *rest == '=' ? rest + 1 : options[1];
+}
+
+/* Notes the sockets of --as, each of which is what comes before the last = of its value. */
+static void note_others(struct run *run)
+{
+    char **word = run->request->options;
+    for (size_t i = 0; i < MOST_OTHERS; i++)
+        run->others[i] = (struct made){NULL, -1};
+    const char *rest;
+    for (size_t i = 0; i < MOST_OTHERS && (rest = find_option(&word, "--as")); i++) {
+        const char *value = *rest == '=' ? rest + 1 : *++word;
+        const char *end = value ? strrchr(value, '=') : NULL;
+        if (!end)
+            return;
+        run->others[i].path = strndup(value, (size_t)(end - value));
+        if (!run->others[i].path)
+            fail(NOT_STARTED, "strndup");
+        word++;
+    }
 }
 
 /* The words of the server's command line. */
@@ -384,7 +410,18 @@ static int ended(const struct run *run)
     return run->request->command && status != NOT_UNDERSTOOD ? NOT_STARTED : status;
 }
 
-int run(const struct request *request)
+/* Makes the directories of the users. */
+static void begin_users(struct request *request)
+{
+    char why[WHY_BYTES];
+    if (users_make(&request->users, why))
+        return;
+    users_remove(&request->users);
+    fprintf(stderr, "sysvmsg-serve: %s\n", why);
+    exit(request->command ? NOT_STARTED : 1);
+}
+
+int run(struct request *request)
 {
     struct run state = {
         .request = request,
@@ -393,17 +430,23 @@ int run(const struct request *request)
         .stats = {value_of(request->options, "--stats"), -1},
         .status = -1,
     };
+    note_others(&state);
     begin_signals(&state);
     if (request->command) {
+        const char *own = users_own(&request->users);
         watch_parent(&state);
-        export_path(request->path);
+        export_path(own && has_option(request->options, "--no-main") ? own : request->path);
     } else {
         notify_begin();
     }
+    begin_users(request);
     begin_server(&state);
     while (state.server > 0 || state.command > 0 || !relay_is_over(&state.relay))
         step(&state);
     remove_made(&state.socket);
     remove_made(&state.stats);
+    for (size_t i = 0; i < MOST_OTHERS; i++)
+        remove_made(&state.others[i]);
+    users_remove(&request->users);
     return ended(&state);
 }

@@ -2,10 +2,13 @@
 #ifndef RUN_H
 #define RUN_H
 
+#include "users.h"
+
 /* What the command line requests. */
 struct request {
     const char *path;
     char **options; /* of the server */
+    struct users users;
     char **command; /* null: none */
 };
 
@@ -13,6 +16,6 @@ struct request {
 enum { NOT_UNDERSTOOD = 2 };
 
 /* Returns the status to exit with. It ends the process if it cannot begin. */
-int run(const struct request *request);
+int run(struct request *request);
 
 #endif

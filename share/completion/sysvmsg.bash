@@ -2,7 +2,7 @@
 # PATH, complete to file names.
 
 # The options of a server with which sysvmsg-serve can be called too.
-_sysvmsg_server="--mode --replace --blocks --workers --at-once --sessions --idle --stall --drain --hold --stats"
+_sysvmsg_server="--mode --replace --as --no-main --blocks --workers --at-once --sessions --idle --stall --drain --hold --stats"
 
 _sysvmsg_commands="serve snd rcv ipcs ipcrm ipcmk save load stats script"
 
@@ -63,7 +63,7 @@ _sysvmsg_serve() {
     elif [[ $word == -* ]]; then
         case $COMP_CWORD in
         1) mapfile -t COMPREPLY < <(compgen -W "--with --help --version" -- "$word") ;;
-        *) mapfile -t COMPREPLY < <(compgen -W "$_sysvmsg_server" -- "$word") ;;
+        *) mapfile -t COMPREPLY < <(compgen -W "$_sysvmsg_server --users --run" -- "$word") ;;
         esac
     fi
 }

@@ -53,6 +53,8 @@ complete $clients -l pid -x -d "The caller's process ID"
 function __sysvmsg_complete_server
     complete $argv -l mode -x -d 'The mode of the socket'
     complete $argv -l replace -d 'Remove PATH first if no server listens there'
+    complete $argv -l as -r -d 'Create one more socket, for one user'
+    complete $argv -l no-main -d 'Create only the sockets of --as'
     complete $argv -l blocks -x -d 'The number of 64-byte blocks, 128 to 65536'
     complete $argv -l workers -x -d 'The number of threads, 1 to 16'
     complete $argv -l at-once -x -d 'The maximum number of sessions at once, 1 to 16384'
@@ -66,7 +68,10 @@ end
 
 complete -c sysvmsg-serve -e
 __sysvmsg_complete_server -c sysvmsg -n '__sysvmsg_is serve'
-__sysvmsg_complete_server -c sysvmsg-serve -n 'not __sysvmsg_has_words 1; and not __sysvmsg_is_in_command'
+set -l launcher -c sysvmsg-serve -n 'not __sysvmsg_has_words 1; and not __sysvmsg_is_in_command'
+__sysvmsg_complete_server $launcher
+complete $launcher -l users -x -a '(__fish_complete_groups)' -d 'Create a socket for each of these users'
+complete $launcher -l run -r -d 'The directory for the sockets of users'
 complete -c sysvmsg -n '__sysvmsg_is serve' -l until-eof -d 'End once standard input has ended'
 
 set -l snd -c sysvmsg -n '__sysvmsg_is snd'

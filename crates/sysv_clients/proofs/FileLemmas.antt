@@ -1,7 +1,7 @@
 -- A save writes a file of the queues that it was given.
-use Rattle.std.proofs.Common.{◌≡◌, ◌≢◌, ◌<◌, ◌≤◌, ◌+◌, ◌∙◌, ℕ, zero, suc, ℤ, pos, List, [], ◌∷◌, ◌++◌, map, flat_map}
-use Rattle.std.proofs.Common.{Option, None, Some, Result, Ok, Err, min, inl, inr, refl, sym, ap, subst, arith, append_assoc}
-use Rattle.std.proofs.Common.{fold, true}
+use Rattle.std.proofs.Common.{◌≡◌, ◌≢◌, ◌≤◌, ◌+◌, ◌∙◌, ℕ, zero, suc, ℤ, pos, List, [], ◌∷◌, ◌++◌, flat_map, Option}
+use Rattle.std.proofs.Common.{None, Some, Result, Ok, Err, min, inl, inr, refl, sym, ap, subst, append_assoc, fold}
+use Rattle.std.proofs.Common.{true}
 use Rattle.std.proofs.lemmas.Bool.{cases_lt}
 use Rattle.std.proofs.lemmas.List.Sums.{fold-append}
 use Rattle.std.specs.Prelude.{⊤, slice_get}
@@ -9,8 +9,6 @@ use Rattle.std.specs.List.{AllByRecursion}
 use Rattle.std.specs.Int.{w32}
 use Rattle.std.specs.Int.RustNames.{FitsSigned}
 use Rattle.std.specs.Io.KnownBytes.{Appends}
-use Rattle.sysv_clients.specs.declared.clearing.Refusal.{Refusal}
-use Rattle.sysv_clients.specs.declared.fault.ClientFault.{ClientFault}
 use Rattle.sysv_clients.specs.declared.fault.ClientFault.TheVariants as fault
 use Rattle.sysv_clients.specs.declared.holding.Unheld.{Unheld}
 use Rattle.sysv_clients.specs.declared.holding.Unheld.TheVariants.{Fault, Screen, Undone}
@@ -22,13 +20,12 @@ use Rattle.sysv_clients.specs.Calls.{Call, FollowsPlan}
 use Rattle.sysv_clients.specs.Clearing.{id_of_row}
 use Rattle.sysv_clients.specs.Copies.{Message, objects_of}
 use Rattle.sysv_clients.specs.Object.{object_line}
-use Rattle.sysv_clients.specs.Restored.{AreKept, AreOfServer, HasMessage, HasNothing, HasQueue, HasScreen, Kept, Opens}
-use Rattle.sysv_clients.specs.Restored.{Part, RestoresSaved, SavesFile, file_of, first_messages, kept_text, part_of}
-use Rattle.sysv_clients.specs.Restored.{parts_of, queues_in, queues_of}
+use Rattle.sysv_clients.specs.Restored.{AreKept, AreOfServer, HasMessage, HasNothing, HasQueue, HasScreen, Opens, Part}
+use Rattle.sysv_clients.specs.Restored.{RestoresSaved, SavesFile, file_of, first_messages, kept_text, part_of, parts_of}
+use Rattle.sysv_clients.specs.Restored.{queues_in, queues_of}
 use Rattle.sysv_clients.specs.Saved.{format_line, queue_text}
-use Rattle.sysv_clients.specs.Saving.{EndsSave, IsTried, SavesAll, after_hold, after_row, after_stat, ask_next, begun}
-use Rattle.sysv_clients.specs.Saving.{first_ask}
-use Rattle.sysv_clients.specs.Saving.{move, moved, saved_by, saved_text, saving_ask, saving_plan, text_of_call}
+use Rattle.sysv_clients.specs.Saving.{EndsSave, IsTried, after_hold, after_row, after_stat, ask_next, begun, first_ask}
+use Rattle.sysv_clients.specs.Saving.{move, moved, saved_text, saving_plan, text_of_call}
 use Rattle.sysv_clients.proofs.RestoreLemmas.{restores_text}
 use Rattle.sysv_clients.proofs.RowLemmas.{row_at, row_past}
 use Rattle.sysv_model.specs.declared.attributes.Stat.{Stat as Attributes}

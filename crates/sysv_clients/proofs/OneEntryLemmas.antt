@@ -1,19 +1,14 @@
 -- A line of a file states at most one thing.
-use Rattle.std.proofs.Common.{◌≡◌, ◌∙◌, ◌⊎◌, ℕ, zero, suc, ℤ, pos, List, [], ◌∷◌, ◌++◌, codes, refl, sym, ap}
-use Rattle.std.proofs.Common.{subst, inl, inr, arith}
+use Rattle.std.proofs.Common.{◌≡◌, ◌∙◌, ◌⊎◌, ℕ, zero, suc, ℤ, pos, List, [], ◌∷◌, refl, sym, ap, subst, inl, inr, arith}
 use Rattle.std.specs.Int.{w32, cast_signed}
 use Rattle.std.specs.Str.Parse.{digits_value}
 use Rattle.json.specs.Lex.{tokens}
-use Rattle.json.specs.Token.{Token, begin_object, end_object, key, number, string}
-use Rattle.base64.specs.Engines.{standard}
-use Rattle.base64.specs.GeneralPurpose.{encode_of}
-use Rattle.sysv_clients.specs.declared.saved.Entry.{Entry}
+use Rattle.json.specs.Token.{Token, key, number, string}
 use Rattle.sysv_clients.specs.declared.saved.Entry.TheVariants.{Format, Queue, Message}
 use Rattle.sysv_clients.specs.declared.saved.SavedQueue.{SavedQueue}
-use Rattle.sysv_clients.specs.Restored.{HasSameBody, StatesOneEntry}
-use Rattle.sysv_clients.specs.Saved.{IsFormatLine, IsQueueIn, IsQueueLine, Values, format_tokens, queue_tokens}
-use Rattle.sysv_clients.specs.Stated.{IsObjectOf, IsObjectWith, StatesBody, coded_member, object_tokens, text_member}
-use Rattle.sysv_clients.specs.Stated.{type_member}
+use Rattle.sysv_clients.specs.Restored.{StatesOneEntry}
+use Rattle.sysv_clients.specs.Saved.{IsFormatLine, IsQueueIn, IsQueueLine, Values, queue_tokens}
+use Rattle.sysv_clients.specs.Stated.{IsObjectOf, IsObjectWith, StatesBody, object_tokens, type_member}
 use Rattle.sysv_clients.specs.Words.{IsHexKey, IsId, IsPerms}
 use Rattle.sysv_clients.proofs.CopyLemmas.{states_one}
 use Rattle.sysv_words.specs.Words.{IsNat32}

@@ -1,10 +1,10 @@
 -- The line of a queue in a file is read back.
 use Rattle.std.proofs.Common.{◌≡◌, ◌≢◌, ◌<◌, ◌≤◌, ◌+◌, ◌*◌, ◌/◌, ◌%◌, ◌∙◌, ◌&&◌, not, ltb, ℕ, zero, suc, ℤ, pos, negsuc}
-use Rattle.std.proofs.Common.{Bool, true, false, List, [], ◌∷◌, ◌++◌, length, slice_index, get_or, Option, Some}
-use Rattle.std.proofs.Common.{refl, sym, ap, ap₂, subst, arith, append_assoc, append-nil, length-append, codes, IsUtf8}
-use Rattle.std.proofs.Common.{decimal, ◌^◌, ◌==◌, ◌≤ℤ◌, flat_map, inl, inr}
-use Rattle.std.proofs.lemmas.Bool.{and_from, and_parts, cases_eq, cases_lt, false≢true, le-ltb, lt-ltb, ltb-false}
-use Rattle.std.proofs.lemmas.Bool.{ltb-true, ne_eqb, not-true, eqb-true}
+use Rattle.std.proofs.Common.{Bool, true, false, List, [], ◌∷◌, ◌++◌, length, slice_index, get_or, Option, Some, refl}
+use Rattle.std.proofs.Common.{sym, ap, ap₂, subst, arith, append_assoc, length-append, codes, decimal, ◌^◌, ◌==◌, ◌≤ℤ◌}
+use Rattle.std.proofs.Common.{flat_map, inl, inr}
+use Rattle.std.proofs.lemmas.Bool.{and_from, and_parts, cases_eq, le-ltb, lt-ltb, ltb-false, ltb-true, ne_eqb, not-true}
+use Rattle.std.proofs.lemmas.Bool.{eqb-true}
 use Rattle.std.proofs.lemmas.Fmt.{decimal_by_steps, decimal_digit, decimal_is_IsNumeral, first_decimal}
 use Rattle.std.proofs.lemmas.Fmt.{length-decimal-le}
 use Rattle.std.proofs.lemmas.List.Elements.{All-cons, All-nil}
@@ -12,26 +12,23 @@ use Rattle.std.proofs.lemmas.Int.{ints, to_z-of_z}
 use Rattle.std.proofs.lemmas.Nat.{be_bytes_4}
 use Rattle.std.specs.Char.{digit_value}
 use Rattle.std.specs.Fmt.{signed_decimal}
-use Rattle.std.specs.Int.{w32, cast_signed, cast_unsigned, to_be_bytes, from_be_bytes}
+use Rattle.std.specs.Int.{w32, cast_signed, cast_unsigned, to_be_bytes}
 use Rattle.std.specs.Int.RustNames.{FitsSigned}
-use Rattle.std.specs.Str.Parse.{AllDigits, IsNumeral, digits_value, digits_value_after}
+use Rattle.std.specs.Str.Parse.{AllDigits, digits_value, digits_value_after}
 use Rattle.json.specs.Lex.{Lexeme, between, colon, comma, fresh, in_string, lex, punctuate, string_token, token, tokens}
 use Rattle.json.specs.Print.{IsNumber}
 use Rattle.json.specs.Text.{content, plain}
-use Rattle.json.specs.Token.{Token, begin_object, end_object, key, number, string}
+use Rattle.json.specs.Token.{begin_object, end_object, key, number, string}
 use Rattle.json.specs.Word.{ends_word}
 use Rattle.json.proofs.Printed.Decimals.{IsNumber-signed_decimal}
 use Rattle.json.proofs.Printed.Numbers.{lex-number}
 use Rattle.json.proofs.Printed.Utf8.{IsUtf8-are_ascii, are_ascii}
-use Rattle.sysv_clients.specs.declared.stated.TheConstants.{OBJECT_BYTES}
 use Rattle.sysv_clients.specs.Lines.{HasNoEnd}
-use Rattle.sysv_clients.specs.Object.{json_text}
-use Rattle.sysv_clients.specs.Restored.{IsQueueReadBack, IsServed, saved_of}
+use Rattle.sysv_clients.specs.Restored.{IsQueueReadBack, IsServed}
 use Rattle.sysv_clients.specs.Saved.{Values, number_text, queue_text, queue_tokens, saved_counts, saved_perm}
 use Rattle.sysv_clients.specs.Table.{glyph, hex_byte, key_text, mode_text}
 use Rattle.sysv_clients.specs.Words.{IsHexKey, IsId, IsPerms}
 use Rattle.sysv_clients.proofs.JsonLemmas.{are_plain, content-json, is_plain, lex-json, plain_text}
-use Rattle.sysv_model.specs.declared.attributes.Perm.{Perm}
 use Rattle.sysv_model.specs.declared.attributes.Stat.{Stat as Attributes}
 use Rattle.sysv_words.specs.Words.{IsNat32, IsNumeralOf}
 
@@ -523,29 +520,18 @@ four_bytes n small =
     each n small (suc (suc (suc zero))) = omega arith
     each n small (suc (suc (suc (suc i)))) = omega arith
 
+byte_below : (byte : ℕ) (rest : List ℕ) → byte < 256 → AreBelow 16 rest
+    → AreBelow 16 (byte / 16 ∷ byte % 16 ∷ rest)
+byte_below byte rest small below = (omega (arith, small), (omega arith, below))
+
 nibbles_below : (n : ℕ) → n < 2 ^ 32 → AreBelow 16 (nibbles n)
-nibbles_below n small = (
-  omega (arith, small),
-  (
-    omega arith,
-    (
-      omega arith,
-      (
-        omega arith,
-        (
-          omega arith,
-          (
-            omega arith,
-            (
-              omega arith,
-              (omega arith, tt),
-            ),
-          ),
-        ),
-      ),
-    ),
-  ),
-)
+nibbles_below n small =
+    let last = n % 256 / 16 ∷ n % 256 % 16 ∷ [] in
+    let low = n / 256 % 256 / 16 ∷ n / 256 % 256 % 16 ∷ last in
+    let most = n / 65536 % 256 / 16 ∷ n / 65536 % 256 % 16 ∷ low in
+    byte_below (n / 16777216) most (omega (arith, small))
+    (byte_below (n / 65536 % 256) low (omega arith)
+    (byte_below (n / 256 % 256) last (omega arith) (byte_below (n % 256) [] (omega arith) tt)))
 
 nibbles_value : (n : ℕ) → n < 2 ^ 32 → value_after 16 0 (nibbles n) ≡ n
 nibbles_value n small = omega (arith, small)

@@ -1,18 +1,17 @@
 -- The requests of a load leave the queue that was saved.
-use Rattle.std.proofs.Common.{◌≡◌, ◌≤◌, ◌%◌, ◌∙◌, ◌⊎◌, ◌&&◌, ◌||◌, ◌==◌, ℕ, ℤ, Bool, true, false, not, List, [], ◌∷◌}
-use Rattle.std.proofs.Common.{◌++◌, map, flat_map, filter, fold, Option, None, Some, inl, inr, refl, sym, ap, ap₂}
-use Rattle.std.proofs.Common.{subst, arith, bit_or, if◌then◌else◌}
+use Rattle.std.proofs.Common.{◌≡◌, ◌≤◌, ◌∙◌, ◌&&◌, ◌||◌, ◌==◌, ℕ, ℤ, Bool, true, false, not, List, [], ◌∷◌, ◌++◌, map}
+use Rattle.std.proofs.Common.{filter, fold, Option, None, Some, inl, inr, refl, sym, ap, ap₂, subst, arith, bit_or}
+use Rattle.std.proofs.Common.{if◌then◌else◌}
 use Rattle.std.proofs.lemmas.Bool.{and_parts, eqb-true, false≢true}
 use Rattle.std.proofs.lemmas.List.Concat.{flat_map-append}
 use Rattle.std.proofs.lemmas.List.Sums.{fold-append}
-use Rattle.std.specs.Prelude.{⊤}
 use Rattle.std.proofs.lemmas.Cmp.{int_eq_equiv}
 use Rattle.std.specs.Ordering.{int_eq}
 use Rattle.sysv_clients.specs.declared.loading.Loading.{Loading}
 use Rattle.sysv_clients.specs.Copies.{Message as Copy}
 use Rattle.sysv_clients.specs.Asks.{flags_to_make}
 use Rattle.sysv_clients.specs.Loading.{MayLoad, plain, send_of}
-use Rattle.sysv_clients.specs.Refilled.{AreCarriedOut, CarriesOut, IsQueueAgain, IsVacant, Refills, copy_of, only_reads}
+use Rattle.sysv_clients.specs.Refilled.{AreCarriedOut, IsVacant, Refills, copy_of, only_reads}
 use Rattle.sysv_clients.specs.Restored.{Kept, saved_of}
 use Rattle.sysv_clients.specs.Sending.{Sent}
 use Rattle.sysv_model.specs.declared.attributes.Attributes.{Attributes}
@@ -23,11 +22,10 @@ use Rattle.sysv_model.specs.declared.flags.Flags.{Flags}
 use Rattle.sysv_model.specs.declared.flags.TheConstants.Flags.{IPC_CREAT}
 use Rattle.sysv_model.specs.History.{Call, Install, Probe, Look, Place, Take, ReadStat, Set, Remove, ReadRow, Reply}
 use Rattle.sysv_model.specs.History.{Accepted, Done, Entry, History, Installed}
-use Rattle.sysv_model.specs.Live.{changed_to, created, live, live_after, low_nine, sent_to}
+use Rattle.sysv_model.specs.Live.{changed_to, created, live_after, low_nine, sent_to}
 use Rattle.sysv_model.specs.Message.{Message}
 use Rattle.sysv_model.specs.Waiting.{accepted, accepted_by, delivered, delivered_by, discarded, discarded_by}
 use Rattle.sysv_model.specs.Waiting.{has_number, waiting}
-use Rattle.sysv_wire.specs.declared.request.Ask.{Ask}
 use Rattle.sysv_wire.specs.declared.request.Ask.TheVariants as ask
 
 -- The live queue after these turns, if this one was live before.

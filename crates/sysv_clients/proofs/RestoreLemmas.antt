@@ -1,15 +1,15 @@
 -- A load of a file of queues makes these queues, and sends their messages.
-use Rattle.std.proofs.Common.{◌≡◌, ◌≢◌, ◌<◌, ◌≤◌, ◌+◌, ◌∙◌, ◌⊎◌, ℕ, zero, suc, ℤ, pos, true, false, List, [], ◌∷◌, ◌++◌}
-use Rattle.std.proofs.Common.{length, map, flat_map, Option, None, Some, Result, Ok, Err, OnOk, inl, inr, refl, sym, ap}
-use Rattle.std.proofs.Common.{ap₂, subst, arith, append_assoc, append-nil, bit_or, codes, if◌then◌else◌}
+use Rattle.std.proofs.Common.{◌≡◌, ◌≢◌, ◌≤◌, ◌+◌, ◌∙◌, ◌⊎◌, ℕ, suc, ℤ, pos, true, false, List, [], ◌∷◌, ◌++◌, length}
+use Rattle.std.proofs.Common.{map, flat_map, Option, None, Some, Result, Ok, Err, OnOk, inl, inr, refl, sym, ap, ap₂}
+use Rattle.std.proofs.Common.{subst, arith, append_assoc, append-nil, bit_or, codes, if◌then◌else◌}
 use Rattle.std.proofs.lemmas.Fmt.{decimal_digit}
 use Rattle.std.proofs.lemmas.List.Elements.{All-head, All-tail}
 use Rattle.std.specs.Prelude.{⊤}
-use Rattle.std.specs.Io.KnownBytes.{Appends, Consumes}
-use Rattle.json.specs.Lex.{Lexeme, between, colon, comma, fresh, in_string, lex, punctuate, token, tokens}
+use Rattle.std.specs.Io.KnownBytes.{Consumes}
+use Rattle.json.specs.Lex.{Lexeme, between, colon, comma, fresh, lex, punctuate, token, tokens}
 use Rattle.json.specs.Print.{IsNumber}
 use Rattle.json.specs.Text.{content}
-use Rattle.json.specs.Token.{Token, begin_object, end_object, number, string}
+use Rattle.json.specs.Token.{begin_object, end_object, number, string}
 use Rattle.json.proofs.Printed.Decimals.{IsNumber-signed_decimal}
 use Rattle.json.proofs.Printed.Numbers.{lex-number}
 use Rattle.json.proofs.Printed.Utf8.{IsUtf8-are_ascii}
@@ -22,24 +22,23 @@ use Rattle.sysv_clients.specs.declared.loading.Unloaded.TheVariants.{Fault, Cut,
 use Rattle.sysv_clients.specs.declared.saved.Entry.{Entry}
 use Rattle.sysv_clients.specs.declared.saved.Entry.TheVariants as entry
 use Rattle.sysv_clients.specs.declared.saved.SavedQueue.{SavedQueue}
-use Rattle.sysv_clients.specs.declared.sending.Cut.{Cut as ACut}
 use Rattle.sysv_clients.specs.declared.stated.TheConstants.{OBJECT_BYTES}
 use Rattle.sysv_clients.specs.Asks.{flags_to_make}
 use Rattle.sysv_clients.specs.Calls.{Call}
 use Rattle.sysv_clients.specs.Copies.{AreMessages, IsMessage, Message, objects_of}
 use Rattle.sysv_clients.specs.Dialogue.{id_after}
-use Rattle.sysv_clients.specs.Lines.{HasNoEnd, HasNone, IsNext, IsText, IsTooLong}
-use Rattle.sysv_clients.specs.Loading.{AreTaken, Asks, EndsAtQueue, EndsLoad, IsLoaded, IsUnfit, LoadsAll, MayLoad}
-use Rattle.sysv_clients.specs.Loading.{NamesFound, NamesQueue, Step, Takes, Wants, WantsOfQueue, asks_in, line_calls}
-use Rattle.sysv_clients.specs.Loading.{make_ask, outset, plain, send_of, set_ask}
+use Rattle.sysv_clients.specs.Lines.{HasNoEnd, HasNone, IsNext, IsTooLong}
+use Rattle.sysv_clients.specs.Loading.{AreTaken, Asks, EndsLoad, IsUnfit, LoadsAll, MayLoad, NamesFound, NamesQueue}
+use Rattle.sysv_clients.specs.Loading.{Step, Takes, Wants, WantsOfQueue, asks_in, line_calls, make_ask, outset, plain}
+use Rattle.sysv_clients.specs.Loading.{send_of, set_ask}
 use Rattle.sysv_clients.specs.Object.{object_line}
 use Rattle.sysv_clients.specs.Restored.{AreKept, IsKept, IsNoLine, IsRestored, Kept, MayAllLoad, RestoresFile, file_of}
-use Rattle.sysv_clients.specs.Restored.{found_by, found_ids, kept_text, load_of, loads_of, saved_of}
+use Rattle.sysv_clients.specs.Restored.{found_by, found_ids, kept_text, loads_of, saved_of}
 use Rattle.sysv_clients.specs.Saved.{IsFormatLine, IsQueueLine, StatesEntry, format_line, format_tokens, queue_text}
 use Rattle.sysv_clients.specs.Sending.{Sent, sent_by}
 use Rattle.sysv_clients.proofs.CopyLemmas.{next_is, no_next, read_back}
 use Rattle.sysv_clients.proofs.OneEntryLemmas.{one_entry}
-use Rattle.sysv_clients.proofs.QueueLineLemmas.{are_mild, mild_end, queue_back}
+use Rattle.sysv_clients.proofs.QueueLineLemmas.{mild_end, queue_back}
 use Rattle.sysv_model.specs.declared.attributes.SetTo.{SetTo}
 use Rattle.sysv_model.specs.declared.flags.Flags.{Flags}
 use Rattle.sysv_model.specs.declared.flags.TheConstants.Flags.{IPC_CREAT}
@@ -920,6 +919,16 @@ found_queue queue id name flags more first (second ∷ later) asked same named =
     second_ask : (a b : Sent) (x y : List Sent) → a ∷ x ≡ b ∷ y → a.ask ≡ b.ask
     second_ask a b x y same = let whole : a ≡ b = cc same in ap (λ (s : Sent). s.ask) whole
 
+-- The identifiers of its calls.
+queue_found : (queue : SavedQueue) (id name : ℤ) (flags : Flags) (calls later rest : List Call) (first second : Call)
+    → calls ≡ first ∷ later → later ≡ second ∷ rest → first.ask ≡ Get name flags → second.ask ≡ set_ask queue id
+    → found_ids calls ≡ id_after (pos 0) first.answer ∷ found_ids rest
+queue_found queue id name flags calls later rest first second one two asked set =
+    ap found_ids one
+    ∙ ap (λ (l : List Call). found_by first.ask first.answer ++ found_ids l) two
+    ∙ ap (λ (a : Ask). found_by a first.answer ++ found_ids (second ∷ rest)) asked
+    ∙ ap (λ (a : Ask). id_after (pos 0) first.answer ∷ (found_by a second.answer ++ found_ids rest)) set
+
 -- The flags of a msgget that makes this queue.
 abbrev flags_to_load : Loading → SavedQueue → Flags
 flags_to_load loading queue =
@@ -949,10 +958,8 @@ ids_returned loading (id ∷ ids) (kept ∷ queues) calls each same named =
     let rest = after_sends loading id kept.messages more two.later two.others second.1 in
     let later = ids_returned loading ids queues rest.0 (omega (arith, each)) rest.1 rest.2 in
     ap₂ (λ (i : ℤ) (l : List ℤ). i ∷ l) (sym found) (later ∙ sym rest.3)
-    ∙ sym (ap found_ids one.are
-    ∙ ap₂ (λ (a : Ask) (l : List Call). found_by a one.call.answer ++ found_ids l) one.asked two.are
-    ∙ ap (λ (a : Ask).
-    id_after (pos 0) one.call.answer ∷ (found_by a two.call.answer ++ found_ids two.later)) two.asked)
+    ∙ sym (queue_found queue id queue.key (flags_to_load loading queue) calls one.later two.later one.call two.call
+    one.are two.are one.asked two.asked)
 
 all_returned : (loading : Loading) (queues : List Kept) (ended : Result ⊤ Unloaded) (place : Place) (steps : List Step)
     (calls every : List Call) (partial waiting : List Sent) (left rest taken more fed unfed : Option (List ℕ))

@@ -1,7 +1,7 @@
 -- What a load leaves in a service that has none of the queues (this project's programs): a queue with the same key,
 -- owner, mode, limit and messages. What a service has of a queue is the history of its slot: the turns that were made
 -- there.
-use Rattle.std.specs.Prelude.{◌≡◌, ◌⊎◌, ⊤, ℕ, ℤ, Bool, true, false, List, [], ◌∷◌, ◌++◌, map, Option, None, Some}
+use Rattle.std.specs.Prelude.{◌≡◌, ◌⊎◌, ⊤, ℕ, ℤ, Bool, true, false, List, [], ◌∷◌, ◌++◌, map, None, Some}
 use Rattle.sysv_clients.specs.declared.loading.Loading.{Loading}
 use Rattle.sysv_clients.specs.Copies.{Message as Copy}
 use Rattle.sysv_clients.specs.Loading.{MayLoad}
@@ -10,7 +10,7 @@ use Rattle.sysv_clients.specs.Sending.{Sent}
 use Rattle.sysv_model.specs.declared.attributes.Attributes.{Attributes}
 use Rattle.sysv_model.specs.declared.cred.Cred.{Cred}
 use Rattle.sysv_model.specs.History.{Call, Install, Probe, Look, Place, Take, ReadStat, Set, Remove, ReadRow, Reply}
-use Rattle.sysv_model.specs.History.{Accepted, Done, Entry, History, Installed}
+use Rattle.sysv_model.specs.History.{Accepted, Done, History, Installed}
 use Rattle.sysv_model.specs.Live.{live}
 use Rattle.sysv_model.specs.Message.{Message}
 use Rattle.sysv_model.specs.Waiting.{accepted, delivered, discarded, waiting}

@@ -9,7 +9,6 @@ use Rattle.sysv_clients.specs.declared.clearing.Refusal.{Refusal}
 use Rattle.sysv_clients.specs.declared.holding.Unheld.{Unheld}
 use Rattle.sysv_clients.specs.declared.holding.Unheld.TheVariants as unheld
 use Rattle.sysv_clients.specs.declared.loading.Loading.{Loading}
-use Rattle.sysv_clients.specs.declared.loading.Unfit.{Unfit}
 use Rattle.sysv_clients.specs.declared.loading.Unfit.TheVariants as unfit
 use Rattle.sysv_clients.specs.declared.loading.Unloaded.{Unloaded}
 use Rattle.sysv_clients.specs.declared.loading.Unloaded.TheVariants.{Fault, Cut, Line, Many, Input}

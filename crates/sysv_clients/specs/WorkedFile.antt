@@ -5,7 +5,6 @@ use Rattle.sysv_clients.specs.Loading.{plain}
 use Rattle.sysv_clients.specs.Restored.{Kept, file_of, loads_of}
 use Rattle.sysv_clients.specs.Asks.{flags_to_make, no_flags}
 use Rattle.sysv_clients.specs.Sending.{Sent}
-use Rattle.sysv_model.specs.declared.cred.Cred.{Cred}
 use Rattle.sysv_wire.specs.declared.request.Ask.TheVariants.{Get, Set, Snd}
 
 -- A queue of user and group 1000 with key 7, the message "hello" of type 5, and an empty one of type 9.

@@ -1,4 +1,6 @@
 pub mod SessionMakesCalls
+pub mod CallsLetIn
+pub mod PrivateQueues
 pub mod SessionsPerConnection
 pub mod SumsOfSessions
 pub mod FatesOfSessions

@@ -1,5 +1,5 @@
 -- The lifetime of a server's service is that of a service with workers whose sessions make its calls.
-use Rattle.std.proofs.Common.{◌≡◌, ◌∙◌, ℕ, List, [], ◌∷◌, ◌++◌, Option, Some, None, ap, refl, sym, subst}
+use Rattle.std.proofs.Common.{◌≡◌, ◌∙◌, ℕ, List, [], ◌∷◌, ◌++◌, Option, Some, None, ap, inl, inr, refl, sym, subst}
 use Rattle.std.specs.Prelude.{⊤, Bool, true, false}
 use Rattle.std.specs.List.{All, AllByRecursion, FoldsTo}
 use Rattle.std.proofs.lemmas.List.{append-nil, append_assoc}
@@ -9,6 +9,7 @@ use Rattle.sysv_thread_laws.specs.AtRest.{Rests}
 use Rattle.sysv_thread_laws.specs.Order.{Called}
 use Rattle.sysv_session.specs.declared.served.Served.{Served}
 use Rattle.sysv_wire.specs.declared.frame.Version.{Version}
+use Rattle.sysv_seats.specs.declared.callers.Callers.{Callers}
 use Rattle.sysv_seats.specs.Holding.{Timed, begun_with}
 use Rattle.sysv_thread_laws.specs.Hiring.{all_of, first_pass, Hires, IsRemoval, EveryHiringObeys, EveryStopRemoves}
 use Rattle.sysv_thread_laws.specs.PoolWhole.{EveryHiringLeavesThePoolWhole, NoHiringLeavesAGateHeld}
@@ -20,7 +21,7 @@ use Rattle.sysv_objects.specs.LegalOp.{AreLegal}
 use Rattle.sysv_service.specs.Ran.{Pass}
 use Rattle.sysv_thread_laws.specs.Working as working
 use Rattle.sysv_thread_laws.specs.Working.{Works}
-use Rattle.sysv_engine.specs.Made.{log, held_in, timed_in, EachReturnMakesACall, EachSessionMakesCalls, GivesBackIn}
+use Rattle.sysv_engine.specs.Made.{log, held_in, timed_in, EachReturnMakesACall, EachSessionIsLetIn, GivesBackIn}
 use Rattle.sysv_engine.specs.Handled.{Shift, first_passes, last_passes, AreMadeBy}
 use Rattle.sysv_thread_laws.specs.Team.{IsServed}
 use Rattle.sysv_engine.specs.Looking as looking
@@ -48,34 +49,59 @@ works_without before after looking.begins = working.begins
 works_without before after (looking.reads slot result new looked told) =
     working.asks_row slot result new (works_without before _ looked) told
 
-module _ (law : EachSessionMakesCalls zero_moment ⊤) (returning : EachReturnMakesACall) where
+module _ (law : EachSessionIsLetIn zero_moment ⊤) (returning : EachReturnMakesACall) where
   -- The calls that were made in a session with this report.
-  record InSession (newest : Version) (start old : Pass) (told : Option Served) (left rest taken more : Option (List ℕ))
-      (new : Timed Pass) (made : List Called) : Type 0 where
+  record InSession (newest : Version) (callers : Callers) (start old : Pass) (told : Option Served)
+      (left rest taken more : Option (List ℕ)) (new : Timed Pass) (made : List Called) : Type 0 where
     calls : List Called
     rests : AllByRecursion Resting calls
     works : Works start (made ++ calls) new.holder.at
-    dialogues : ConversesAsIn newest (log old made) told left rest taken more (timed_in (made ++ calls) new)
+    dialogues : ConversesAsIn newest callers (log old made) told left rest taken more (timed_in (made ++ calls) new)
 
-  in_session : (newest : Version) (start old : Pass) (told : Option Served) (left rest taken more : Option (List ℕ))
-      (new : Timed Pass) (made : List Called) → Works start made old →
-      ConversesAs newest old told left rest taken more new →
-      InSession newest start old told left rest taken more new made
-  in_session newest start old None left rest taken more new made works dialogues = record {
+  -- The session left the same pass and held nothing.
+  quiet_log : (old : Pass) (new : Timed Pass) (made : List Called) → new ≡ begun_with old →
+      timed_in (made ++ []) new ≡ begun_with (log old made)
+  quiet_log old new made is =
+      ap (λ (t : Timed Pass). timed_in (made ++ []) t) is
+      ∙ ap (λ (calls : List Called). begun_with (log old calls)) (append-nil made)
+
+  quiet_works : (start old : Pass) (new : Timed Pass) (made : List Called) → new ≡ begun_with old →
+      Works start made old → Works start (made ++ []) new.holder.at
+  quiet_works start old new made is works =
+      subst (Works start (made ++ [])) (sym (ap (λ (t : Timed Pass). t.holder.at) is))
+      (subst (λ calls. Works start calls old) (sym (append-nil made)) works)
+
+  in_session : (newest : Version) (callers : Callers) (start old : Pass) (told : Option Served)
+      (left rest taken more : Option (List ℕ)) (new : Timed Pass) (made : List Called) → Works start made old →
+      ConversesAs newest callers old told left rest taken more new →
+      InSession newest callers start old told left rest taken more new made
+  in_session newest callers start old None left rest taken more new made works dialogues = record {
     calls = [];
     rests = tt;
-    works = subst (Works start (made ++ [])) (sym (ap (λ (t : Timed Pass). t.holder.at) dialogues.0))
-        (subst (λ calls. Works start calls old) (sym (append-nil made)) works);
-    dialogues = (
-      ap (λ (t : Timed Pass). timed_in (made ++ []) t) dialogues.0
-          ∙ ap (λ (calls : List Called). begun_with (log old calls)) (append-nil made),
-      dialogues.1,
-      dialogues.2,
-    );
+    works = quiet_works start old new made dialogues.0 works;
+    dialogues = (quiet_log old new made dialogues.0, dialogues.1, dialogues.2);
   }
-  in_session newest start old (Some served) left rest taken more new made works dialogues =
-      let one = law newest start old new made served left rest taken more works dialogues in
-      record { calls = one.0; rests = one.3; works = one.1; dialogues = one.2 }
+  in_session newest callers start old (Some served) left rest taken more new made works (inl dialogues) =
+      let one = law newest callers start old new made served left rest taken more works dialogues.0 dialogues.1 in
+      record { calls = one.0; rests = one.3; works = one.1; dialogues = inl one.2 }
+  in_session newest callers start old (Some served) left rest taken more new made works (inr denied) = record {
+    calls = [];
+    rests = tt;
+    works = quiet_works start old new made denied.handler works;
+    dialogues = inr (record {
+      version = denied.version;
+      cred = denied.cred;
+      known = denied.known;
+      other = denied.other;
+      reads = denied.reads;
+      handler = quiet_log old new made denied.handler;
+      sent = denied.sent;
+      writes = denied.writes;
+      ends = denied.ends;
+      tallies = denied.tallies;
+      counts = denied.counts;
+    });
+  }
 
   -- The calls that were made in a session, and that which gave back what it held.
   record InDialogue (newest : Version) (start old : Pass) (dialogue : Dialogue) (new : Pass) (made : List Called) :
@@ -90,8 +116,8 @@ module _ (law : EachSessionMakesCalls zero_moment ⊤) (returning : EachReturnMa
       InDialogue newest start old dialogue new made
   in_dialogue newest start old dialogue new made works converses =
       let mid = converses.0 in
-      let one = in_session newest start old dialogue.told dialogue.left dialogue.rest dialogue.taken dialogue.more mid
-      made works converses.1.0 in
+      let one = in_session newest dialogue.callers start old dialogue.told dialogue.left dialogue.rest dialogue.taken
+      dialogue.more mid made works converses.1.0 in
       let back = returning start mid.holder (made ++ one.calls) dialogue.back new one.works converses.2 in
       let all = append_assoc made one.calls back.0 in
       record {

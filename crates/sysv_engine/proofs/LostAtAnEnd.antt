@@ -7,6 +7,7 @@ use Rattle.std.specs.List.{AllByRecursion, FoldsTo, sum_by}
 use Rattle.std.proofs.lemmas.List.Sums.{sum_by-cons}
 use Rattle.sysv_keys.specs.declared.identifier.TheConstants.{SLOTS}
 use Rattle.sysv_queue.specs.Tally.{Tallied}
+use Rattle.sysv_seats.specs.declared.callers.Callers.{Callers}
 use Rattle.sysv_seats.specs.Held.{holds_with}
 use Rattle.sysv_seats.specs.Holding.{Timed, begun_with}
 use Rattle.sysv_seats.specs.Sits.{zero_moment}
@@ -112,13 +113,15 @@ is_safe : (b : Bool) → ◌≡◌ {A = ℕ} (cond b 1 0) 0 → b ≡ false
 is_safe true one = absurd (omega arith)
 is_safe false one = refl
 
-dialogue_loses : (newest : Version) (told : Option Served) (before : Pass) (after : Timed Pass)
-    (left rest taken more : Option (List ℕ)) → ConversesAs newest before told left rest taken more after →
+dialogue_loses : (newest : Version) (callers : Callers) (told : Option Served) (before : Pass) (after : Timed Pass)
+    (left rest taken more : Option (List ℕ)) → ConversesAs newest callers before told left rest taken more after →
     LosesNone told
-dialogue_loses newest None before after left rest taken more dialogues none = refl
-dialogue_loses newest (Some served) before after left rest taken more dialogues none =
-    serves_all newest (holds_with zero_moment ⊤) SLOTS served (begun_with before) dialogues.0 left rest taken more
-    dialogues.1 (is_safe (may_lose served.«end») none)
+dialogue_loses newest callers None before after left rest taken more dialogues none = refl
+dialogue_loses newest callers (Some served) before after left rest taken more (inl dialogues) none =
+    serves_all newest (holds_with zero_moment ⊤) SLOTS served (begun_with before) dialogues.0.0 left rest taken more
+    dialogues.0.1 (is_safe (may_lose served.«end») none)
+dialogue_loses newest callers (Some served) before after left rest taken more (inr denied) none =
+    ap (λ (t : Tallied). t.lost) denied.tallies
 
 both : (xs ys : List (Option Served)) → AllByRecursion LosesNone xs → AllByRecursion LosesNone ys →
     AllByRecursion LosesNone (xs ++ ys)
@@ -129,7 +132,8 @@ shift_loses : (newest : Version) (before : Pass) (dialogues : List Dialogue) (af
     FoldsTo (Converses newest) before dialogues after → AllByRecursion LosesNone (reports_of dialogues)
 shift_loses newest before [] after folds = tt
 shift_loses newest before (dialogue ∷ dialogues) after folds = (
-  dialogue_loses newest dialogue.told before folds.1.0 dialogue.left dialogue.rest dialogue.taken dialogue.more
+  dialogue_loses newest dialogue.callers dialogue.told before folds.1.0 dialogue.left dialogue.rest dialogue.taken
+      dialogue.more
       folds.1.1.0,
   shift_loses newest folds.0 dialogues after folds.2,
 )

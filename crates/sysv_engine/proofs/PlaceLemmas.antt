@@ -31,7 +31,7 @@ use Rattle.sysv_seats.specs.Holding.{Holder, Message, Timed, begun_with, empty_h
 use Rattle.sysv_seats.specs.Holding.{timed}
 use Rattle.sysv_seats.specs.Replies.{done_reply}
 use Rattle.sysv_seats.specs.Sits.{IsAt, IsBehind, IsOver, Keeps, KeepsWith, Sits, Sitting, zero_moment}
-use Rattle.sysv_seats.specs.Untold.{Closing}
+use Rattle.sysv_seats.specs.Untold.{Closing, lets_in}
 use Rattle.sysv_engine.specs.declared.fates.Fates.{Fates}
 use Rattle.sysv_engine.specs.declared.sums.Sums.{Sums}
 use Rattle.sysv_engine.specs.Added.{added, capped, one_session}
@@ -106,7 +106,8 @@ module _ {T B C : Type 0} (incoming outgoing : T → Option (List ℕ)) (closes 
     pub rest : Option (List ℕ)
     pub kept : Option (List ℕ)
     pub more : Option (List ℕ)
-    pub dialogues : ConversesAs newest start told (incoming connection) rest (outgoing connection) more after
+    pub dialogues : ConversesAs newest (lets_in closes connection) start told (incoming connection) rest (outgoing
+        connection) more after
     pub behind : IsBehind rest kept
     pub closed : closes.leaves book kept more book'
     pub caused : MayTell (closes.breaks connection) told
@@ -121,6 +122,7 @@ module _ {T B C : Type 0} (incoming outgoing : T → Option (List ℕ)) (closes 
     told = told;
     holds = record {
       dialogue = record {
+        callers = lets_in closes connection;
         told = told;
         late = after.late;
         back = None;
@@ -132,7 +134,7 @@ module _ {T B C : Type 0} (incoming outgoing : T → Option (List ℕ)) (closes 
       reports = refl;
       returns = refl;
       dialogues = (done.dialogues, refl);
-      on = (refl, refl, done.caused, done.said);
+      on = (refl, refl, done.caused, done.said, refl);
       closed = (done.kept, done.behind, done.closed);
     };
     adds = adds;
@@ -335,7 +337,7 @@ module _ {T B : Type 0} (incoming outgoing : T → Option (List ℕ)) (closes : 
 
   went_on : (standing : Standing (View B) T) (view new : View B) (client client' : Sitting T)
       (message now : Option Message) → SameView view new → new.fates ≡ view.fates →
-      KeepsWith incoming outgoing client (record { at = view.pass; message = message }) client'
+      KeepsWith incoming outgoing (lets_in closes) client (record { at = view.pass; message = message }) client'
       (record { at = new.pass; message = now }) →
       closes.breaks client'.connection ≡ closes.breaks client.connection → KeepsAsSaid closes client client' →
       PlaceIs standing view (Some client) message None → PlaceIs standing new (Some client') now None
@@ -351,7 +353,7 @@ module _ {T B : Type 0} (incoming outgoing : T → Option (List ℕ)) (closes : 
         since_then mid view new left.late left.late is same (fated ∙ ap (λ (v : View B). v.fates) is),
         (
           keeps left.late mid.newest mid.pass connection
-              (subst (λ (h : Holder Pass). Sits incoming outgoing mid.newest mid.pass connection client
+              (subst (λ (h : Holder Pass). Sits incoming outgoing (lets_in closes) mid.newest mid.pass connection client
               (timed h left.late)) (sym at) sits.0),
           still ∙ sits.1,
           λ no. absurd (cc no),
@@ -363,7 +365,7 @@ module _ {T B : Type 0} (incoming outgoing : T → Option (List ℕ)) (closes : 
   -- The client made calls, and nothing else of the place changed but its pass and what is held.
   pub goes_on : (old new : Seated B T) (client client' : Sitting T) → old.client ≡ Some client →
       new.client ≡ Some client' → SameBut old new → old.returning ≡ None → new.returning ≡ old.returning →
-      KeepsWith incoming outgoing client (holder_at old) client' (holder_at new) →
+      KeepsWith incoming outgoing (lets_in closes) client (holder_at old) client' (holder_at new) →
       closes.breaks client'.connection ≡ closes.breaks client.connection → KeepsAsSaid closes client client' →
       KeepsPlace incoming outgoing closes old new
   goes_on old new client client' held holds same none waits keeps still said = λ gates standing stands.
@@ -378,7 +380,7 @@ module _ {T B : Type 0} (incoming outgoing : T → Option (List ℕ)) (closes : 
       )
 
   stayed : (standing : Standing (View B) T) (view : View B) (client client' : Sitting T) (message : Option Message)
-      (returning : Option SendWait) → Keeps incoming outgoing client client' →
+      (returning : Option SendWait) → Keeps incoming outgoing (lets_in closes) client client' →
       closes.breaks client'.connection ≡ closes.breaks client.connection →
       (client.parked ≡ None → client'.parked ≡ None) → KeepsAsSaid closes client client' →
       PlaceIs standing view (Some client) message returning → PlaceIs standing view (Some client') message returning
@@ -403,7 +405,7 @@ module _ {T B : Type 0} (incoming outgoing : T → Option (List ℕ)) (closes : 
   -- The client made no call, and nothing else of the place changed.
   pub stays_on : (old new : Seated B T) (client client' : Sitting T) → old.client ≡ Some client →
       new.client ≡ Some client' → SameBut old new → new.returning ≡ old.returning → new.pass ≡ old.pass →
-      new.message ≡ old.message → Keeps incoming outgoing client client' →
+      new.message ≡ old.message → Keeps incoming outgoing (lets_in closes) client client' →
       closes.breaks client'.connection ≡ closes.breaks client.connection →
       (client.parked ≡ None → client'.parked ≡ None) → KeepsAsSaid closes client client' →
       KeepsPlace incoming outgoing closes old new
@@ -423,7 +425,7 @@ module _ {T B : Type 0} (incoming outgoing : T → Option (List ℕ)) (closes : 
 
   -- The same, of a place whose fields say what it was.
   pub stays_as : (seen old : Seated B T) (client client' : Sitting T) → seen ≡ old → seen.client ≡ Some client →
-      Keeps incoming outgoing client client' →
+      Keeps incoming outgoing (lets_in closes) client client' →
       closes.breaks client'.connection ≡ closes.breaks client.connection →
       (client.parked ≡ None → client'.parked ≡ None) → KeepsAsSaid closes client client' →
       KeepsPlace incoming outgoing closes old (record seen { client = Some client' })
@@ -441,7 +443,7 @@ module _ {T B : Type 0} (incoming outgoing : T → Option (List ℕ)) (closes : 
   -- A vacant place was given to the client of a connection.
   pub takes : (old new : Seated B T) (connection : T) (client : Sitting T) → old.client ≡ None → old.message ≡ None →
       new ≡ taken_by client old → client.connection ≡ connection →
-      ((pass : Pass) → Sits incoming outgoing old.newest pass connection client (begun_with pass)) →
+      ((pass : Pass) → Sits incoming outgoing (lets_in closes) old.newest pass connection client (begun_with pass)) →
       (closes.said connection ≡ None → IsAsSaid closes client) →
       TakesIn incoming outgoing closes connection old new
   takes old new connection client none nothing is same sits said = λ gates standing stands.
@@ -465,8 +467,8 @@ module _ {T B : Type 0} (incoming outgoing : T → Option (List ℕ)) (closes : 
       new.sums ≡ added old.sums (one_session served.tally) →
       new.refused ≡ capped (old.refused + one_refused (Some served)) →
       ((newest : Version) (start : Pass) (now : Timed Pass) (origin : T) →
-      Sits incoming outgoing newest start origin client now →
-      IsOver incoming outgoing closes newest start origin served now old.book book') →
+      Sits incoming outgoing (lets_in closes) newest start origin client now →
+      IsOver incoming outgoing (lets_in closes) closes newest start origin served now old.book book') →
       MayEnd (closes.breaks client.connection) served.«end» →
       (IsAsSaid closes client → EndsAsSaid (closes.said client.connection) served.«end») →
       KeepsPlace incoming outgoing closes old new
@@ -517,24 +519,31 @@ module _ {T B : Type 0} (incoming outgoing : T → Option (List ℕ)) (closes : 
   lapsed_at : (newest : Version) (start : Pass) (origin : T) (client : Sitting T) (left : Timed Pass)
       (outcome : RequestOutcome) (next : Timed Pass) (sent : List ℕ) (stopped : Option End) →
       Lapses zero_moment left outcome next →
-      IsAt incoming outgoing newest start origin client left sent None stopped →
-      IsAt incoming outgoing newest start origin client next sent None stopped
+      IsAt incoming outgoing (lets_in closes) newest start origin client left sent None stopped →
+      IsAt incoming outgoing (lets_in closes) newest start origin client next sent None stopped
   lapsed_at newest start origin client left outcome next sent None lapse at =
-      (at.0, one_more at.0 left outcome next at.1 lapse, at.2)
-  lapsed_at newest start origin client left outcome next sent (Some why) lapse at =
-      (at.0, at.1, at.2, one_more at.2 left outcome next at.3 lapse, at.4)
+      (at.0, one_more at.0 left outcome next at.1 lapse, at.2, at.3)
+  lapsed_at newest start origin client left outcome next sent (Some why) lapse (inl at) =
+      inl (at.0, at.1, at.2, one_more at.2 left outcome next at.3 lapse, at.4, at.5)
+  lapsed_at newest start origin client left outcome next sent (Some why) lapse (inr denied) =
+      let no : None ≡ Some lapse.0 = sym (ap (λ (t : Timed Pass). t.holder.message) denied.handler) ∙ lapse.1 in
+      absurd (cc no)
 
   -- A client without a parked call is one of the same session after that.
   lapsed : (newest : Version) (start : Pass) (origin : T) (client : Sitting T) (left : Timed Pass)
       (outcome : RequestOutcome) (next : Timed Pass) → client.parked ≡ None → Lapses zero_moment left outcome next →
-      Sits incoming outgoing newest start origin client left → Sits incoming outgoing newest start origin client next
+      Sits incoming outgoing (lets_in closes) newest start origin client left → Sits incoming outgoing (lets_in closes)
+      newest start origin client next
   lapsed newest start origin client left outcome next none lapse sits = record {
     sent = sits.sent;
     wrote = sits.wrote;
-    at = subst (λ (p : Option Parked). IsAt incoming outgoing newest start origin client next sits.sent p
+    same = sits.same;
+    at = subst (λ (p : Option Parked). IsAt incoming outgoing (lets_in closes) newest start origin client next sits.sent
+        p
         client.stopped) (sym none)
         (lapsed_at newest start origin client left outcome next sits.sent client.stopped lapse
-        (subst (λ (p : Option Parked). IsAt incoming outgoing newest start origin client left sits.sent p
+        (subst (λ (p : Option Parked). IsAt incoming outgoing (lets_in closes) newest start origin client left sits.sent
+        p
         client.stopped) none sits.at));
   }
 
@@ -607,7 +616,7 @@ module _ {T B : Type 0} (incoming outgoing : T → Option (List ℕ)) (closes : 
       (result : Return) (done : List T) (connection : T) (mid : View B) (left : Timed Pass) →
       standing.had ≡ done ++ connection ∷ [] → FoldsTo (Handled incoming outgoing closes) standing.start done mid →
       view ≡ since view.pass left.late mid →
-      Sits incoming outgoing mid.newest mid.pass connection client left →
+      Sits incoming outgoing (lets_in closes) mid.newest mid.pass connection client left →
       closes.breaks client.connection ≡ closes.breaks connection →
       (closes.said connection ≡ None → IsAsSaid closes client) → client.parked ≡ None →
       1 ≤ seconds_of left.holder.message →

@@ -30,7 +30,7 @@ use Rattle.sysv_seats.specs.Holding.{Holder, Timed, begun_with, empty_handed, no
 use Rattle.sysv_seats.specs.Sits.{zero_moment}
 use Rattle.sysv_wire.specs.declared.frame.Version.TheVariants.{Three}
 use Rattle.sysv_engine.specs.Made.{log, held_in, timed_in, MakesCall, ReadsBeside, ShowsBeside, makes_with}
-use Rattle.sysv_engine.specs.Made.{EachSessionMakesCalls, EachReturnMakesACall}
+use Rattle.sysv_engine.specs.Made.{EachSessionIsLetIn, EachSessionMakesCalls, EachReturnMakesACall}
 use Rattle.sysv_seats.specs.Requests as requests
 
 -- The call is over or was left at a wait.
@@ -505,6 +505,22 @@ module _ (may : ℕ → Type 0) (may_leave : Type 0) (any : EachRunIsAtAnyMoment
         ),
         both done.calls_made last.calls done.rests last.rests,
       )
+
+module _ (may : ℕ → Type 0) (may_leave : Type 0) (any : EachRunIsAtAnyMoment may)
+    (unstamped : EachRunIsAtAnyMoment no_moment) where
+  -- The calls are made with the credentials of the same hello.
+  pub each_caller : EachSessionIsLetIn may may_leave
+  unfolding each_session
+  each_caller newest callers start old new made served left rest taken more works (settled, inl stays, lapsed)
+      let_in =
+      let one = each_session may may_leave any unstamped newest start old new made served left rest taken more works
+      (settled, inl stays, lapsed) in
+      (one.0, one.1, (one.2, tt), one.3)
+  each_caller newest callers start old new made served left rest taken more works (settled, inr dialogues, lapsed)
+      let_in =
+      let one = each_session may may_leave any unstamped newest start old new made served left rest taken more works
+      (settled, inr dialogues, lapsed) in
+      (one.0, one.1, (one.2, let_in), one.3)
 
 -- What gives a message back makes one call.
 pub each_return : EachRunIsAtAnyMoment zero_moment → EachRunIsAtAnyMoment no_moment → EachReturnMakesACall

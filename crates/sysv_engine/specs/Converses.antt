@@ -1,5 +1,5 @@
 -- Sessions, each with the bytes that it read and wrote (this project's profile).
-use Rattle.std.specs.Prelude.{◌≡◌, ℕ, ⊤, List, Option, None, Some, IfSome}
+use Rattle.std.specs.Prelude.{◌≡◌, ◌⊎◌, ℕ, ⊤, List, Option, None, Some, IfSome}
 use Rattle.sysv_queue.specs.Tally.{Tallied}
 use Rattle.sysv_session.specs.declared.served.Served.{Served}
 use Rattle.sysv_service.specs.Ran.{Pass}
@@ -8,20 +8,22 @@ use Rattle.sysv_session.specs.declared.handler.RequestOutcome.{RequestOutcome}
 use Rattle.sysv_wire.specs.declared.frame.Version.{Version}
 use Rattle.sysv_wire.specs.declared.reply.Reply.{Reply as Answer}
 use Rattle.sysv_seats.specs.GivingBack.{GivesBack}
-use Rattle.sysv_seats.specs.Held.{ServesHolding}
+use Rattle.sysv_seats.specs.declared.callers.Callers.{Callers}
 use Rattle.sysv_seats.specs.Holding.{Timed, begun_with}
 use Rattle.sysv_seats.specs.Breaking.{MayTell}
+use Rattle.sysv_seats.specs.LettingIn.{IsDenied, ServesFor}
 use Rattle.sysv_seats.specs.Said.{TellsAsSaid}
 use Rattle.sysv_seats.specs.Sits.{IsBehind, zero_moment}
-use Rattle.sysv_seats.specs.Untold.{Closing}
-use Rattle.sysv_engine.specs.Made.{GivesBackIn, Log, ServesLog}
+use Rattle.sysv_seats.specs.Untold.{Closing, lets_in}
+use Rattle.sysv_engine.specs.Made.{GivesBackIn, Log, ServesLogFor}
 
--- One session: what it reported, if anything; the bytes that could still be read before it and
--- after it; and the bytes that were written before it and after it. The bytes are known if the
--- connection tells them. `late` are the replies to the sends that gave back messages of the session before
+-- One session: the callers that its connection lets in; what it reported, if anything; the bytes that could
+-- still be read before it and after it; and the bytes that were written before it and after it. The bytes are
+-- known if the connection tells them. `late` are the replies to the sends that gave back messages of the session before
 -- its end, since their time was over. If the session held a message at its end, `back` is the outcome of the
 -- send that gave the message back, or that the send was left at a wait.
 pub record Dialogue : Type 0 where
+  pub callers : Callers
   pub told : Option Served
   pub late : List Answer
   pub back : Option RequestOutcome
@@ -31,21 +33,22 @@ pub record Dialogue : Type 0 where
   pub more : Option (List ℕ)
 
 -- A session that reported this, whose replies were gathered, led from the one pass to the other, and held
--- this at its end. It read versions up to the newest one. Without a report its memory was refused; it read
--- nothing, wrote nothing, and made no call.
-abbrev pub ConversesAs : Version → Pass → Option Served → (left rest taken more : Option (List ℕ)) → Timed Pass →
-    Type 0
-ConversesAs newest before None left rest taken more after =
+-- this at its end. It read versions up to the newest one, and let in only these callers: all its calls were made with
+-- the credentials of one of them, or it was answered EPERM and made none. Without a report its memory was refused; it
+-- read nothing, wrote nothing, and made no call.
+abbrev pub ConversesAs : Version → Callers → Pass → Option Served → (left rest taken more : Option (List ℕ)) →
+    Timed Pass → Type 0
+ConversesAs newest callers before None left rest taken more after =
     (after ≡ begun_with before) × (rest ≡ left) × (more ≡ taken)
-ConversesAs newest before (Some served) left rest taken more after =
-    ServesHolding newest zero_moment ⊤ served before after left rest taken more
+ConversesAs newest callers before (Some served) left rest taken more after =
+    ServesFor newest callers zero_moment ⊤ served before after left rest taken more
 
 -- The session led from the one pass to the other, and held this at its end. Its client may leave a call that
 -- waits.
 abbrev pub Talks : Version → Pass → Dialogue → Timed Pass → Type 0
 Talks newest before dialogue after =
-    ConversesAs newest before dialogue.told dialogue.left dialogue.rest dialogue.taken dialogue.more after
-    × (dialogue.late ≡ after.late)
+    ConversesAs newest dialogue.callers before dialogue.told dialogue.left dialogue.rest dialogue.taken dialogue.more
+    after × (dialogue.late ≡ after.late)
 
 -- The session and what gave back the message that it held led from the one pass to the other.
 abbrev pub Converses : Version → Pass → Dialogue → Pass → Type 0
@@ -64,17 +67,19 @@ tally_of (Some served) = served.tally
 -- ---- the calls of the service
 
 -- A session that reported this made these calls, and held this at its end.
-abbrev pub ConversesAsIn : Version → Log → Option Served → (left rest taken more : Option (List ℕ)) → Timed Log →
-    Type 0
-ConversesAsIn newest before None left rest taken more after =
+abbrev pub ConversesAsIn : Version → Callers → Log → Option Served → (left rest taken more : Option (List ℕ)) →
+    Timed Log → Type 0
+ConversesAsIn newest callers before None left rest taken more after =
     (after ≡ begun_with before) × (rest ≡ left) × (more ≡ taken)
-ConversesAsIn newest before (Some served) left rest taken more after =
-    ServesLog newest zero_moment ⊤ served before after left rest taken more
+ConversesAsIn newest callers before (Some served) left rest taken more after =
+    ServesLogFor newest callers zero_moment ⊤ served before after left rest taken more
+    ⊎ IsDenied newest callers served before after left rest taken more
 
 -- The session made these calls, and then the send that gave back what it held.
 abbrev pub ConversesIn : Version → Log → Dialogue → Log → Type 0
 ConversesIn newest before dialogue after = (mid : Timed Log)
-    × ConversesAsIn newest before dialogue.told dialogue.left dialogue.rest dialogue.taken dialogue.more mid
+    × ConversesAsIn newest dialogue.callers before dialogue.told dialogue.left dialogue.rest dialogue.taken
+    dialogue.more mid
     × (dialogue.late ≡ mid.late) × GivesBackIn zero_moment mid.holder dialogue.back after
 
 -- ---- the connection
@@ -82,11 +87,12 @@ ConversesIn newest before dialogue after = (mid : Timed Log)
 -- The session was one over this very connection: it began with the bytes that the connection had, and
 -- ended for a reason that there is. So it did not end with `Fault(Read)` unless reading from the
 -- connection may break off, nor with `Reset` unless its client may reset it, nor with `Write` or `Left`
--- unless writing to it may break off. It reported what the reads of the connection had said.
+-- unless writing to it may break off. It reported what the reads of the connection had said. It let in the callers that
+-- the connection lets in.
 abbrev pub IsOn : {T B : Type 0} → (incoming outgoing : T → Option (List ℕ)) → Closing T B → T → Dialogue → Type 0
 IsOn incoming outgoing closes connection dialogue = (dialogue.left ≡ incoming connection)
     × (dialogue.taken ≡ outgoing connection) × MayTell (closes.breaks connection) dialogue.told
-    × TellsAsSaid closes connection dialogue.told
+    × TellsAsSaid closes connection dialogue.told × (dialogue.callers ≡ lets_in closes connection)
 
 -- The connection of the session was closed with what the session had written, and with the bytes
 -- that the session left, except those that were read ahead.

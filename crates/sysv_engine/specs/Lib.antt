@@ -8,6 +8,7 @@ pub mod Added
 pub mod Fated
 pub mod Converses
 pub mod Handled
+pub mod LetIn
 pub mod Desks
 pub mod OneRun
 pub mod Serving

@@ -23,7 +23,9 @@ use Rattle.sysv_session.specs.declared.handler.RequestOutcome.{RequestOutcome}
 use Rattle.sysv_wire.specs.declared.frame.Version.{Version}
 use Rattle.sysv_seats.specs.Asked.{ReadsReleased}
 use Rattle.sysv_seats.specs.GivingBack.{GivesBack}
-use Rattle.sysv_seats.specs.Held.{ServesHolding}
+use Rattle.sysv_seats.specs.declared.callers.Callers.{Callers}
+use Rattle.sysv_seats.specs.Held.{ServesHolding, holds_with}
+use Rattle.sysv_seats.specs.LettingIn.{IsLetIn}
 use Rattle.sysv_seats.specs.Holding as holding
 use Rattle.sysv_seats.specs.Holding.{Holder, Timed, begun_with, timed}
 use Rattle.sysv_seats.specs.Sits.{zero_moment}
@@ -77,6 +79,13 @@ ServesLog newest may may_leave served old new left rest taken more = (settled : 
     × ServesTogether newest (makes_with may may_leave) SLOTS served (begun_with old) settled left rest taken more
     × LapsesIn may settled new
 
+-- The same, of a session that lets in only these callers, and whose hello states the credentials of one of them.
+abbrev pub ServesLogFor : Version → Callers → (ℕ → Type 0) → Type 0 → Served → (old : Log) → (new : Timed Log) →
+    (left rest taken more : Option (List ℕ)) → Type 0
+ServesLogFor newest callers may may_leave served old new left rest taken more =
+    (serves : ServesLog newest may may_leave served old new left rest taken more)
+    × IsLetIn newest callers (makes_with may may_leave) served (begun_with old) serves.0 left rest taken more serves.1
+
 -- The call that gave back what a session held at its end, if it held something.
 abbrev pub GivesBackIn : (ℕ → Type 0) → Holder Log → Option RequestOutcome → Log → Type 0
 GivesBackIn = holding.GivesBack MakesCall ReadsBeside ShowsBeside
@@ -92,6 +101,17 @@ EachSessionMakesCalls may may_leave =
     (calls : List Called) × Works start (made ++ calls) new.holder.at
     × ServesLog newest may may_leave served (log old made) (timed_in (made ++ calls) new) left rest taken more ×
     AllByRecursion (λ (call : Called). Rests call.state) calls
+
+-- So does a session that lets in only some callers, and its hello then states the credentials of one of them.
+abbrev pub EachSessionIsLetIn : (ℕ → Type 0) → Type 0 → Type 0
+EachSessionIsLetIn may may_leave = (newest : Version) (callers : Callers) (start old : Pass) (new : Timed Pass)
+    (made : List Called) (served : Served) (left rest taken more : Option (List ℕ)) → Works start made old →
+    (serves : ServesHolding newest may may_leave served old new left rest taken more) →
+    IsLetIn newest callers (holds_with may may_leave) served (begun_with old) serves.0 left rest taken more serves.1 →
+    (calls : List Called) × Works start (made ++ calls) new.holder.at
+    × ServesLogFor newest callers may may_leave served (log old made) (timed_in (made ++ calls) new) left rest taken
+    more
+    × AllByRecursion (λ (call : Called). Rests call.state) calls
 
 -- So does what gives back the message that a session held at its end.
 abbrev pub EachReturnMakesACall : Type 0

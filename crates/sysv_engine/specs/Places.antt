@@ -15,7 +15,7 @@ use Rattle.sysv_seats.specs.GivingBack.{WaitsBack}
 use Rattle.sysv_seats.specs.Holding.{Holder, Message, Timed, seconds_of}
 use Rattle.sysv_seats.specs.Said.{IsAsSaid}
 use Rattle.sysv_seats.specs.Sits.{Sits, Sitting}
-use Rattle.sysv_seats.specs.Untold.{Closing}
+use Rattle.sysv_seats.specs.Untold.{Closing, lets_in}
 use Rattle.sysv_engine.specs.declared.sums.Sums.{Sums}
 use Rattle.sysv_engine.specs.Fated.{none_fated, one_fated, with_unsent}
 use Rattle.sysv_engine.specs.declared.fates.Fates.{Fates}
@@ -204,7 +204,8 @@ module _ {T B : Type 0} (incoming outgoing : T → Option (List ℕ)) (closes : 
   -- anything then, the client stops for what they have said.
   abbrev pub SitsOn : Version → Pass → T → Sitting T → Timed Pass → (is_late : Bool) → Type 0
   SitsOn newest start origin client now is_late =
-      Sits incoming outgoing newest start origin client now × (closes.breaks client.connection ≡ closes.breaks origin)
+      Sits incoming outgoing (lets_in closes) newest start origin client now
+      × (closes.breaks client.connection ≡ closes.breaks origin)
       × (is_late ≡ true → client.parked ≡ None) × (closes.said origin ≡ None → IsAsSaid closes client)
 
   -- The place is one of a service with these gates, and is what it has to be after what it has had.

@@ -43,7 +43,10 @@ pub use connections::{serve_all, serve_connections};
 pub use counts::{Counted, SlotCounts, Totals};
 pub use fates::Fates;
 pub use fault::ServeFault;
-pub use laws::{each_lifetime_is_one_run, each_return_makes_a_call, each_session_makes_calls};
+pub use laws::{
+    each_call_is_let_in, each_lifetime_is_one_run, each_private_queue_is_kept,
+    each_return_makes_a_call, each_session_makes_calls,
+};
 pub use moment::Moment;
 pub use rows::Rows;
 pub use seeing::serve_arrivals;

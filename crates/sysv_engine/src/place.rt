@@ -3,6 +3,7 @@ ghost use Rattle.std.specs.Prelude.{◌≡◌, ◌+◌, None, Some, IfSome, cond
 ghost use Rattle.sysv_service.specs.Seats.{AreOf};
 ghost use Rattle.sysv_seats.specs.Said.{KeepsAsSaid};
 ghost use Rattle.sysv_seats.specs.Sits.{Keeps, is_finished};
+ghost use Rattle.sysv_seats.specs.Untold.{lets_in};
 ghost use Rattle.sysv_engine.specs.Added.{added, capped, nothing, one_session};
 ghost use Rattle.sysv_engine.specs.Fated.{none_fated, with_unsent};
 ghost use Rattle.sysv_engine.specs.Handled.{one_refused};
@@ -671,7 +672,7 @@ fn is_idle<T: NonBlocking>(client: &Client<T>) -> bool
 
 /// Has a client learn what a watch reports of its connection.
 fn learn<T: NonBlocking>(client: &mut Client<T>, ready: &Ready)
-    ensures keeps { Keeps T.incoming T.outgoing client.old client.new }
+    ensures keeps { Keeps T.incoming T.outgoing (lets_in T.closes) client.old client.new }
     ensures breaks { T.closes.breaks client.new.connection
         ≡ T.closes.breaks client.old.connection }
     ensures unparked { client.old.parked ≡ None → client.new.parked ≡ None }

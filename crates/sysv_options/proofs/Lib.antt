@@ -2,3 +2,4 @@
 pub mod WordLemmas
 pub mod AskedLemmas
 pub mod TimeLemmas
+pub mod EntranceLemmas

@@ -1,5 +1,5 @@
 -- The words of a time.
-use Rattle.std.proofs.Common.{◌≡◌, ◌⊎◌, inl, inr, ℕ, List, Option, Some, None, sym, subst}
+use Rattle.std.proofs.Common.{◌≡◌, inl, inr, ℕ, List, Option, Some, None, sym, subst}
 use Rattle.std.specs.Prelude.{Contains, MatchOption}
 use Rattle.sysv_words.specs.OneSplit.{OneSplit}
 use Rattle.sysv_words.specs.Words.{SplitsAt}

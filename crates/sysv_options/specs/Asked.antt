@@ -8,6 +8,10 @@ use Rattle.sysv_server.specs.declared.terms.Terms.{Terms}
 use Rattle.sysv_clients.specs.Run.{HasShortText}
 use Rattle.sysv_model.specs.declared.limits.TheConstants.{MIN_BLOCKS, MAX_BLOCKS}
 
+-- The requests of command lines.
+abbrev pub Requested : Type 0
+Requested = Asked Serving
+
 -- A pool may have this number of blocks.
 abbrev pub AreBlocks : ℕ → Type 0
 AreBlocks n = (MIN_BLOCKS ≤ n) × (n ≤ MAX_BLOCKS)
@@ -31,7 +35,7 @@ HasLimits serving = AreTerms serving.terms
 
 -- The request is within the limits of the server or the client: the terms of a server, and the body
 -- of a `snd`.
-abbrev pub IsWithinLimits : Asked → Type 0
+abbrev pub IsWithinLimits : Requested → Type 0
 IsWithinLimits Script = ⊤
 IsWithinLimits (Serve serving) = HasLimits serving
 IsWithinLimits (Look looking) = ⊤

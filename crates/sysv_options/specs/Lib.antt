@@ -4,5 +4,6 @@ pub mod Words
 pub mod Who
 pub mod Process
 pub mod Tasks
+pub mod Sockets
 pub mod Servers
 pub mod Requests

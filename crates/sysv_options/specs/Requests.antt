@@ -5,13 +5,13 @@ use Rattle.clap.specs.Words.{App, HasMatchesOf, Row, subcommand_rows_of, takes}
 use Rattle.clap.specs.declared.error.Error.{Error}
 use Rattle.clap.specs.declared.error.kind.ErrorKind.TheVariants.{OutOfMemory}
 use Rattle.clap.specs.declared.parser.matches.ArgMatches.{ArgMatches}
-use Rattle.sysv_options.specs.declared.asked.Asked.{Asked}
 use Rattle.sysv_options.specs.declared.asked.Asked.TheVariants.{Script, Serve, Look, Save, Load, Client}
+use Rattle.sysv_options.specs.Asked.{Requested}
 use Rattle.sysv_options.specs.Servers.{AsksToLoad, AsksToLook, AsksToSave, AsksToServe, HasPath}
 use Rattle.sysv_options.specs.Tasks.{HasHow, HasTask, StatesWho}
 
 -- A client's command of this name with these words makes this request.
-abbrev pub ClientAsks : List ℕ → List Row → Asked → Type 0
+abbrev pub ClientAsks : List ℕ → List Row → Requested → Type 0
 ClientAsks name words Script = ⊥
 ClientAsks name words (Serve serving) = ⊥
 ClientAsks name words (Look looking) = ⊥
@@ -21,7 +21,7 @@ ClientAsks name words (Client path who task how) =
     HasPath words path.now × StatesWho words who × HasTask name words task × HasHow words how
 
 -- A command of this name with these words makes this request.
-abbrev pub CommandAsks : List ℕ → List Row → Asked → Type 0
+abbrev pub CommandAsks : List ℕ → List Row → Requested → Type 0
 CommandAsks name words Script = name ≡ codes "script"
 CommandAsks name words (Serve serving) = (name ≡ codes "serve") × AsksToServe words serving
 CommandAsks name words (Look looking) = (name ≡ codes "stats") × AsksToLook words looking
@@ -32,13 +32,13 @@ CommandAsks name words (Load who loading) =
 CommandAsks name words (Client path who task how) = ClientAsks name words (Client path who task how)
 
 -- A command line with this command makes this request. Without a command it makes none.
-abbrev pub AsksFor : Option (List ℕ × List Row) → Asked → Type 0
+abbrev pub AsksFor : Option (List ℕ × List Row) → Requested → Type 0
 AsksFor (Some found) asked = CommandAsks found.0 found.1 asked
 AsksFor None asked = ⊥
 
 -- These words, on this command line, have matches that make this request. They are the matches that
 -- clap defines, if it defines any: it does so for a command line without groups of options.
-abbrev pub IsAskedBy : App → List (List ℕ) → Asked → Type 0
+abbrev pub IsAskedBy : App → List (List ℕ) → Requested → Type 0
 IsAskedBy line words asked =
     (matches : ArgMatches) × HasMatchesOf line words matches × AsksFor (subcommand_rows_of matches) asked
 
@@ -46,12 +46,12 @@ IsAskedBy line words asked =
 -- they make no request. It takes no words on a command line with groups of options.
 abbrev pub IsRefused : App → List (List ℕ) → Error → Type 0
 IsRefused line words error =
-    takes line words ≡ true → ¬ (kind_of error ≡ OutOfMemory) → (asked : Asked) → ¬ IsAskedBy line words asked
+    takes line words ≡ true → ¬ (kind_of error ≡ OutOfMemory) → (asked : Requested) → ¬ IsAskedBy line words asked
 
 -- These words were refused by this error, on the command line of some table of commands, or for want of memory.
 abbrev pub AreRefused : List (List ℕ) → Error → Type 0
 AreRefused words error = (kind_of error ≡ OutOfMemory) ⊎ ((line : App) × IsRefused line words error)
 
 -- These words, on the command line of some table of commands, make this request.
-abbrev pub IsMeant : List (List ℕ) → Asked → Type 0
+abbrev pub IsMeant : List (List ℕ) → Requested → Type 0
 IsMeant words asked = (line : App) × IsAskedBy line words asked

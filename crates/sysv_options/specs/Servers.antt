@@ -1,18 +1,24 @@
 -- What a `serve` asks for (this project's programs): its socket file and its terms.
-use Rattle.std.specs.Prelude.{◌≡◌, ◌≢◌, ◌≤◌, ⊤, ℕ, List, codes, length, is_some, not, Option, Some, None}
-use Rattle.clap.specs.Words.{Row}
+use Rattle.std.specs.Prelude.{◌≡◌, ◌≢◌, ◌≤◌, ◌+◌, ⊤, ℕ, Bool, true, false, List, [], ◌∷◌, ◌++◌, codes, length}
+use Rattle.std.specs.Prelude.{Contains, is_some, not, unwrap_or, Option, Some, None}
+use Rattle.clap.specs.Words.{Row, all_of}
+use Rattle.sysv_seats.specs.declared.callers.Callers.TheVariants.{Only}
 use Rattle.sysv_server.specs.declared.terms.Terms.{Terms}
-use Rattle.sysv_words.specs.Words.{IsNat32, IsNat64}
+use Rattle.sysv_words.specs.Words.{IsNat32, IsNat64, SplitsAt}
 use Rattle.sysv_connect.specs.declared.loads.Loading.{Loading}
 use Rattle.sysv_connect.specs.declared.saves.Saving.{Saving}
 use Rattle.sysv_connect.specs.declared.stats.Looking.{Looking}
 use Rattle.sysv_connect.specs.Telling.{has_line, has_sentence}
 use Rattle.sysv_options.specs.declared.asked.Serving.{Serving}
-use Rattle.sysv_options.specs.declared.asked.SocketFile.{SocketFile}
+use Rattle.sysv_options.specs.declared.sockets.Entrance.{Entrance}
+use Rattle.sysv_options.specs.declared.sockets.Entrances.{Entrances}
+use Rattle.sysv_options.specs.declared.sockets.SocketFile.{SocketFile}
+use Rattle.sysv_options.specs.declared.sockets.TheConstants.{MAX_OTHERS}
+use Rattle.sysv_options.specs.Sockets.{listed}
 use Rattle.sysv_options.specs.declared.asked.TheConstants.{WORKERS, MAX_PATH, MAX_PATH_WITH_MODE}
 use Rattle.sysv_server.specs.declared.serving.TheConstants.{MAX_CLIENTS}
 use Rattle.sysv_options.specs.Asked.{AreAtOnce, AreBlocks, AreWorkers}
-use Rattle.sysv_options.specs.Words.{HasFlag, HasMaybe, HasOr, IsMode, IsTime, word_of}
+use Rattle.sysv_options.specs.Words.{HasFlag, HasMaybe, HasOr, IsExactly, IsMode, IsTime, IsUnsigned, word_of}
 
 -- A command with these words asks for this number of blocks.
 abbrev pub AsksForBlocks : List Row → ℕ → Type 0
@@ -106,9 +112,64 @@ pub record AsksToLoad (words : List Row) (loading : Loading) : Type 0 where
   pub nowait : HasFlag words (codes "nowait") loading.nowait
   pub wait : HasMaybe IsTime (word_of words (codes "wait")) loading.wait
 
+-- The text is a part, the mark, and a rest without the mark.
+pub record SplitsAtLast (mark : ℕ) (text part rest : List ℕ) : Type 0 where
+  pub whole : text ≡ part ++ mark ∷ rest
+  pub unmarked : Contains rest mark → ⊥
+
+-- The words are the numerals of a user and a group.
+abbrev pub AreBoth : (user group : List ℕ) → ℕ × ℕ → Type 0
+AreBoth user group ids = IsUnsigned user ids.0 × IsUnsigned group ids.1
+
+-- The text is a user, `:` and a group.
+pub record AreIds (text : List ℕ) (ids : ℕ × ℕ) : Type 0 where
+  pub user : List ℕ
+  pub group : List ℕ
+  pub split : SplitsAt 58 text user group
+  pub both : AreBoth user group ids
+
+-- The word names this socket: a path, `=`, a user, `:` and a group. It lets in just this user with this group. A
+-- `serve` with these words has its file.
+pub record IsEntrance (words : List Row) (word : List ℕ) (entrance : Entrance) : Type 0 where
+  pub text : List ℕ
+  pub uid : ℕ
+  pub gid : ℕ
+  pub split : word ≡ entrance.file.path.now ++ 61 ∷ text
+  pub ids : AreIds text (uid, gid)
+  pub callers : entrance.callers ≡ Only uid gid
+  pub least : 1 ≤ length entrance.file.path.now
+  pub most : length entrance.file.path.now ≤ MAX_PATH
+  pub file : AsksForFileAt words entrance.file.path.now entrance.file
+
+-- The words name these sockets, one each.
+abbrev pub AreEntrances : List Row → List (List ℕ) → List Entrance → Type 0
+AreEntrances words [] [] = ⊤
+AreEntrances words [] (entrance ∷ entrances) = ⊥
+AreEntrances words (word ∷ more) [] = ⊥
+AreEntrances words (word ∷ more) (entrance ∷ entrances) =
+    IsEntrance words word entrance × AreEntrances words more entrances
+
+-- These words after `--as` name these sockets, at most 64.
+pub record AreOthers (words : List Row) (given : List (List ℕ)) (others : Entrances) : Type 0 where
+  pub entrances : AreEntrances words given (listed others)
+  pub count : others.count ≡ length (listed others)
+  pub most : others.count ≤ MAX_OTHERS
+
+-- A `serve` with these words has these sockets besides its first. Without `--as` it has none.
+abbrev pub AsksForOthers : List Row → Entrances → Type 0
+AsksForOthers words others = AreOthers words (unwrap_or (all_of (codes "as") words) []) others
+
+-- A server with this number of other sockets has so many sockets. If it has not its first one, it has another.
+abbrev pub CountsSockets : (no_main : Bool) (others sockets : ℕ) → Type 0
+CountsSockets true others sockets = (1 ≤ others) × (sockets ≡ others)
+CountsSockets false others sockets = sockets ≡ others + 1
+
 -- A `serve` with these words is this one.
 pub record AsksToServe (words : List Row) (serving : Serving) : Type 0 where
   pub file : AsksForFile words serving.file
+  pub others : AsksForOthers words serving.others
+  pub no_main : IsExactly (word_of words (codes "no-main")) serving.no_main
+  pub sockets : CountsSockets serving.no_main serving.others.count serving.terms.sockets
   pub stats : MayAskForStats words serving.stats
   pub terms : AsksForTerms words serving.terms
   pub until_eof : HasFlag words (codes "until-eof") serving.until_eof

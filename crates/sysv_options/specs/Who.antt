@@ -1,5 +1,5 @@
 -- Who a client is and how its faults are told, by its words and by where it runs (this project's programs).
-use Rattle.std.specs.Prelude.{Bool, not, ◌||◌, unwrap_or, if◌then◌else◌}
+use Rattle.std.specs.Prelude.{not, ◌||◌, unwrap_or, if◌then◌else◌}
 use Rattle.sysv_connect.specs.declared.how.Telling.{Telling}
 use Rattle.sysv_connect.specs.declared.how.Telling.TheVariants.{Line, Both, Sentence}
 use Rattle.sysv_connect.specs.Telling.{has_line}

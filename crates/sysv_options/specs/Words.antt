@@ -39,6 +39,10 @@ HasMaybe Says None None = ⊤
 abbrev pub IsOn : Option (List ℕ) → Type 0
 IsOn flag = flag ≡ Some (codes "true")
 
+-- It is on exactly if clap found it as `true`.
+abbrev pub IsExactly : Option (List ℕ) → Bool → Type 0
+IsExactly flag on = (on ≡ true → IsOn flag) × (on ≡ false → ¬ IsOn flag)
+
 -- A flag is on if clap found it as `true`. It is off if clap found it as `false` or did not find it.
 abbrev pub IsFlag : Option (List ℕ) → Bool → Type 0
 IsFlag (Some text) on = ((text ≡ codes "true") → on ≡ true) × ((text ≡ codes "false") → on ≡ false)

@@ -1,12 +1,13 @@
 //! The request that a command line makes.
 
-ghost use Rattle.std.specs.Prelude.{◌≡◌, ◌≤◌, ◌⊎◌, ℕ, IfErr, IfOk, IfSome, MatchOption, OnOk, Some, codes, false, is_some, map, not, pos, true};
+ghost use Rattle.std.specs.Prelude.{◌≡◌, ◌≤◌, ◌+◌, ◌⊎◌, ℕ, Contains, IfErr, IfOk, IfSome, MatchOption, OnOk, Some, codes, cond, false, is_some, length, map, not, pos, slice_get, true};
 ghost use Rattle.clap.specs.Values.{kind_of};
 ghost use Rattle.clap.specs.Words.{app_of, subcommand_rows_of};
 ghost use Rattle.clap.specs.declared.error.kind.ErrorKind.TheVariants.{InvalidValue, OutOfMemory};
 ghost use Rattle.sysv_options.specs.Asked.{AreAtOnce, AreBlocks, AreTerms, AreWorkers, HasLimits, IsWithinLimits};
 ghost use Rattle.sysv_options.specs.Requests.{AreRefused, AsksFor, ClientAsks, IsAskedBy, IsMeant, IsRefused};
-ghost use Rattle.sysv_options.specs.Servers.{AsksForAtOnce, AsksForBlocks, AsksForFile, AsksForFileAt, AsksForTerms, AsksForWorkers, AsksToLoad, AsksToLook, AsksToSave, AsksToServe, HasPath, IsLineNumber, MayAskForStats};
+ghost use Rattle.sysv_options.specs.Servers.{AsksForAtOnce, AsksForBlocks, AsksForFile, AsksForFileAt, AsksForOthers, AsksForTerms, AsksForWorkers, AsksToLoad, AsksToLook, AsksToSave, AsksToServe, AreBoth, AreIds, AreOthers, CountsSockets, HasPath, IsEntrance, IsLineNumber, MayAskForStats, SplitsAtLast};
+ghost use Rattle.sysv_options.specs.Sockets.{sockets_of};
 ghost use Rattle.sysv_options.specs.Tasks.{AsksToList, AsksToMake, AsksToReceive, AsksToRemove, AsksToSend, HasTask, HasHow, NamesTarget, IsAhead, Receives, ShowsIn, StatesWho, is_json};
 ghost use Rattle.sysv_options.specs.Words.{ArePartsOf, AreSeconds, Has, HasFlag, HasMaybe, HasOr, IsMode, IsOctalMode, IsOn, IsRead, IsThousandths, IsTime, IsUnsigned, WantsType, word_of, words_in};
 ghost use Rattle.sysv_connect.specs.Telling.{has_line, has_sentence};
@@ -15,6 +16,7 @@ ghost use Rattle.sysv_clients.specs.Run.{HasShortText};
 ghost use Rattle.sysv_clients.specs.Words.{IsKey, IsType};
 
 use crate::commands::{command, command_named, option_named};
+use crate::sockets::{Entrance, Entrances, MAX_OTHERS, SocketFile};
 use crate::who::Who;
 use clap::error::ErrorKind;
 use clap::{ArgMatches, Command as CommandLine, Error};
@@ -25,16 +27,16 @@ use sysv_clients::{
 };
 use sysv_connect::{How, Loading, Looking, Saving, Telling};
 use sysv_model::{BODY_ROOM, MAX_BLOCKS, MIN_BLOCKS};
-use sysv_server::{MAX_CLIENTS, Patience, Terms};
+use sysv_server::{Callers, MAX_CLIENTS, Patience, Terms};
 use sysv_words::{Reads, one_split, split_at_mark};
 
-/// The request that a command line makes.
+/// The request that a command line makes. `S` is what it asks of a server that it starts.
 #[derive(Clone, Copy, PartialEq, Eq, Debug)]
-pub enum Asked<'a> {
+pub enum Asked<'a, S> {
     /// Run the script on the standard input.
     Script,
     /// Serve at a path.
-    Serve(Serving<'a>),
+    Serve(S),
     /// Show the state of a server.
     Look(Looking<'a>),
     /// Save all queues of a server.
@@ -57,8 +59,12 @@ pub enum Asked<'a> {
 /// The socket files and the terms of a server.
 #[derive(Clone, Copy, PartialEq, Eq, Debug)]
 pub struct Serving<'a> {
-    /// The file of its socket.
+    /// The file of its socket, which lets in anyone.
     pub file: SocketFile<'a>,
+    /// Its other sockets, each of which lets in one user.
+    pub others: Entrances<'a>,
+    /// Whether it has only the others.
+    pub no_main: bool,
     /// The file of the socket on which its state is shown, if it is to be shown.
     pub stats: Option<SocketFile<'a>>,
     /// The terms of the server.
@@ -67,15 +73,34 @@ pub struct Serving<'a> {
     pub until_eof: bool,
 }
 
-/// The file of a server's socket.
-#[derive(Clone, Copy, PartialEq, Eq, Debug)]
-pub struct SocketFile<'a> {
-    /// The path of the file.
-    pub path: &'a str,
-    /// The mode of the file. Without one it is 0777 less the umask.
-    pub mode: Option<u32>,
-    /// Whether to remove the file first if it is a socket on which no server listens.
-    pub replace: bool,
+impl<'a> Serving<'a> {
+    /// Returns the number of sockets at which connections are accepted.
+    pub fn count(&self) -> usize
+        ensures { self.now.others.count ≤ MAX_OTHERS →
+            result ≡ self.now.others.count + cond self.now.no_main 0 1 }
+    {
+        if self.no_main {
+            self.others.count()
+        } else {
+            self.others.count().saturating_add(1)
+        }
+    }
+
+    /// Returns the socket of this number, if there is one. The one that lets in anyone is the first.
+    pub fn socket(&self, number: usize) -> Option<Entrance<'a>>
+        ensures { result ≡ slice_get (sockets_of self.now) number }
+    {
+        if self.no_main {
+            return self.others.get(number);
+        }
+        match number.checked_sub(1) {
+            Some(other) => self.others.get(other),
+            None => Some(Entrance {
+                file: self.file,
+                callers: Callers::Anyone,
+            }),
+        }
+    }
 }
 
 /// The maximum number of workers that `--workers` may ask for.
@@ -110,6 +135,24 @@ const PATH: &str = "a PATH has 1 to 107 bytes";
 const PATH_WITH_MODE: &str = "with --mode a PATH has 1 to 103 bytes";
 
 const OTHER_PATH: &str = "PATH2 is PATH: --stats names a socket of its own";
+
+/// A word after `--as` is none.
+const NO_ENTRANCE: Bad = Bad {
+    name: "",
+    valid: "--as takes SOCKET=UID:GID: a path of 1 to 107 bytes, a user and a group of 0 to 4294967295",
+};
+
+/// There are too many words after `--as`.
+const MANY_ENTRANCES: Bad = Bad {
+    name: "",
+    valid: "--as names at most 64 sockets",
+};
+
+/// There is no socket at all.
+const NO_SOCKET: Bad = Bad {
+    name: "",
+    valid: "--no-main needs --as",
+};
 
 const KEY: &str =
     "a KEY is 1 to 2147483647, or 0x and one to eight hexadecimal digits that are not all 0";
@@ -166,7 +209,10 @@ fn invalid(name: &'static str, valid: &'static str) -> Bad {
 ///
 /// Fails with the error to print if the words are not valid, and with the help or the version if
 /// the words request it.
-pub fn read_words<'a, S: AsStr>(alloc: Global, words: &'a [S]) -> Result<Asked<'a>, Error>
+pub fn read_words<'a, S: AsStr>(
+    alloc: Global,
+    words: &'a [S],
+) -> Result<Asked<'a, Serving<'a>>, Error>
     ensures limits { IfOk result IsWithinLimits }
     ensures meaning { IfOk result (IsMeant (map S.text words.entry.now)) }
     ensures refused { IfErr result (AreRefused (map S.text words.entry.now)) }
@@ -180,7 +226,7 @@ fn read_line<'a, S: AsStr>(
     alloc: Global,
     line: &mut CommandLine<'a>,
     words: &'a [S],
-) -> Result<Asked<'a>, Error>
+) -> Result<Asked<'a, Serving<'a>>, Error>
     ensures limits { IfOk result IsWithinLimits }
     ensures meaning { IfOk result (IsAskedBy (app_of line.old) (map S.text words.entry.now)) }
     ensures refused { IfErr result (IsRefused (app_of line.old) (map S.text words.entry.now)) }
@@ -252,7 +298,7 @@ fn fault(alloc: Global, text: &str) -> Result<Error, AllocError>
 }
 
 /// Returns the request of the parsed command.
-fn task_of<'a>(matches: &ArgMatches<'a>) -> Result<Asked<'a>, Bad>
+fn task_of<'a>(matches: &ArgMatches<'a>) -> Result<Asked<'a, Serving<'a>>, Bad>
     ensures limits { IfOk result IsWithinLimits }
     ensures meaning { IsRead result (AsksFor (subcommand_rows_of matches.now)) }
 {
@@ -319,7 +365,7 @@ fn first_line(words: &ArgMatches<'_>) -> Result<u64, Bad>
 }
 
 /// Returns the request of a client's command.
-fn client<'a>(name: &str, words: &ArgMatches<'a>) -> Result<Asked<'a>, Bad>
+fn client<'a>(name: &str, words: &ArgMatches<'a>) -> Result<Asked<'a, Serving<'a>>, Bad>
     ensures limits { IfOk result IsWithinLimits }
     ensures meaning { IsRead result (ClientAsks name.now (words_in words.now)) }
 {
@@ -411,12 +457,128 @@ fn server<'a>(words: &ArgMatches<'a>) -> Result<Serving<'a>, Bad>
     ensures meaning { IsRead result (AsksToServe (words_in words.now)) }
 {
     let file = file_of(words)?;
+    let others = others_of(words)?;
+    let no_main = is_on(words, "no-main");
+    let Some(sockets) = number_of_sockets(no_main, others.count()) else {
+        return Err(NO_SOCKET);
+    };
+    let stats = stats_of(words, file.path)?;
+    let terms = terms_of(words)?;
     Ok(Serving {
         file,
-        stats: stats_of(words, file.path)?,
-        terms: terms_of(words)?,
+        others,
+        no_main,
+        stats,
+        terms: Terms { sockets, ..terms },
         until_eof: has_flag(words, "until-eof"),
     })
+}
+
+/// Returns the number of sockets of a server with this number of other ones, or `None` if it has
+/// none at all.
+fn number_of_sockets(no_main: bool, others: usize) -> Option<u32>
+    requires { others ≤ MAX_OTHERS }
+    ensures { MatchOption result ((sockets : ℕ) → ¬ CountsSockets no_main others sockets)
+        (CountsSockets no_main others) }
+{
+    if no_main {
+        if others == 0 {
+            return None;
+        }
+        return Some(others as u32);
+    }
+    Some(others as u32 + 1)
+}
+
+/// Returns the sockets that let in one user each.
+fn others_of<'a>(words: &ArgMatches<'a>) -> Result<Entrances<'a>, Bad>
+    ensures { IsRead result (AsksForOthers (words_in words.now)) }
+{
+    match words.get_strs("as") {
+        Some(given) => others_in(words, given),
+        None => Ok(Entrances::none()),
+    }
+}
+
+/// Parses sockets that let in one user each.
+fn others_in<'a>(words: &ArgMatches<'a>, given: &[&'a str]) -> Result<Entrances<'a>, Bad>
+    ensures { IsRead result (AreOthers (words_in words.now) (map (λ word. word.now) given.now)) }
+{
+    let mut others = Entrances::none();
+    for number in 0..given.len() {
+        let entrance = match entrance_of(words, given[number]) {
+            Ok(entrance) => entrance,
+            Err(why) => return Err(why),
+        };
+        if !others.add(entrance) {
+            return Err(MANY_ENTRANCES);
+        }
+    }
+    Ok(others)
+}
+
+/// Parses a socket that lets in one user: `SOCKET=UID:GID`. Only the last `=` and the `:` after it have
+/// this meaning.
+fn entrance_of<'a>(words: &ArgMatches<'a>, word: &'a str) -> Result<Entrance<'a>, Bad>
+    ensures { IsRead result (IsEntrance (words_in words.now) word.now) }
+{
+    let Some((path, ids)) = split_at_last_equals(word) else {
+        return Err(NO_ENTRANCE);
+    };
+    let Some((uid, gid)) = ids_in(ids.as_bytes()) else {
+        return Err(NO_ENTRANCE);
+    };
+    if !is_path(path) {
+        return Err(NO_ENTRANCE);
+    }
+    match file_at(words, "as", path) {
+        Ok(file) => Ok(Entrance {
+            file,
+            callers: Callers::Only { uid, gid },
+        }),
+        Err(why) => Err(why),
+    }
+}
+
+/// Returns whether a text is as long as the path of a socket may be.
+fn is_path(path: &str) -> bool
+    ensures some { result ≡ true → (1 ≤ length path.now) × (length path.now ≤ MAX_PATH) }
+    ensures none { result ≡ false → ¬ ((1 ≤ length path.now) × (length path.now ≤ MAX_PATH)) }
+{
+    !path.is_empty() && path.len() <= MAX_PATH
+}
+
+/// Returns what is before the last `=` of a text, and what is after it, or `None` without one.
+fn split_at_last_equals(text: &str) -> Option<(&str, &str)>
+    ensures { MatchOption result (¬ Contains text.now 61)
+        (λ parts. SplitsAtLast 61 text.now parts.0.now parts.1.now) }
+{
+    text.rsplit_once('=')
+}
+
+/// Returns the user and the group of a text such as `1001:100`, or `None` for any other text.
+fn ids_in(text: &[u8]) -> Option<(u32, u32)>
+    ensures { MatchOption result ((ids : ℕ × ℕ) → ¬ AreIds text.now ids) (AreIds text.now) }
+{
+    one_split();
+    match split_at_mark(text, b':') {
+        Some((user, group)) => both_ids(user, group),
+        None => None,
+    }
+}
+
+/// Returns the numbers of a user and a group, or `None` for any other words.
+fn both_ids(user: &[u8], group: &[u8]) -> Option<(u32, u32)>
+    ensures { MatchOption result ((ids : ℕ × ℕ) → ¬ AreBoth user.now group.now ids)
+        (AreBoth user.now group.now) }
+{
+    let Some(uid) = unsigned(user) else {
+        return None;
+    };
+    match unsigned(group) {
+        Some(gid) => Some((uid, gid)),
+        None => None,
+    }
 }
 
 /// Returns the file of a server's socket.
@@ -477,6 +639,7 @@ fn terms_of(words: &ArgMatches<'_>) -> Result<Terms, Bad>
         drain: seconds_of(words, "drain")?,
         stats: has_word(words, "stats"),
         hold: has_flag(words, "hold"),
+        sockets: 1,
     })
 }
 

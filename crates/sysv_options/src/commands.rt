@@ -54,6 +54,8 @@ enum Form {
     Value(&'static str),
     /// As `--id VALUE`, and only together with the second one.
     ValueWith(&'static str, &'static str),
+    /// As `--id VALUE`, any number of times.
+    Values(&'static str),
     /// As `-l VALUE`.
     Letter(char, &'static str),
     /// As `--id`.
@@ -140,6 +142,16 @@ Example:
             "replace",
             Form::Flag,
             "Removes PATH first if it is a socket on which no server listens",
+        ),
+        (
+            "as",
+            Form::Values("SOCKET=UID:GID"),
+            "One more socket, which lets in only this user and group; up to 64 times",
+        ),
+        (
+            "no-main",
+            Form::Flag,
+            "Creates only the sockets of --as, and not PATH",
         ),
         (
             "blocks",
@@ -649,7 +661,9 @@ impl fmt::Display for Shown {
         match form {
             Form::Word(name) => write!(f, "<{name}>"),
             Form::OptionalWord(name) => write!(f, "[{name}]"),
-            Form::Value(name) | Form::ValueWith(name, _) => write!(f, "--{id} <{name}>"),
+            Form::Value(name) | Form::ValueWith(name, _) | Form::Values(name) => {
+                write!(f, "--{id} <{name}>")
+            }
             Form::Letter(letter, name) => write!(f, "-{letter} <{name}>"),
             Form::Flag | Form::ShortFlag(_) => write!(f, "--{id}"),
         }
@@ -690,6 +704,7 @@ fn argument_of<'a>(alloc: Global, given: Argument) -> Result<Arg<'a>, AllocError
         Form::OptionalWord(name) => valued(argument, name),
         Form::Value(name) => option(argument, name).long(id),
         Form::ValueWith(name, other) => option(argument, name).long(id).requires_arg(other)?,
+        Form::Values(name) => option(argument, name).action(ArgAction::Append).long(id),
         Form::Letter(letter, name) => option(argument, name).short(letter),
         Form::Flag => flag(argument, id),
         Form::ShortFlag(letter) => flag(argument, id).short(letter),

@@ -5,8 +5,10 @@
 mod asked;
 mod commands;
 mod process;
+mod sockets;
 mod who;
 
-pub use asked::{Asked, Serving, SocketFile, no_text, read_words};
+pub use asked::{Asked, Serving, no_text, read_words};
 pub use process::{NoWords, Process, surroundings};
+pub use sockets::{Entrance, Entrances, MAX_OTHERS, SocketFile};
 pub use who::{Surroundings, Who, credentials, telling};

@@ -1,26 +1,29 @@
 -- What the events of a client keep: how far its session is.
 use Rattle.std.proofs.Common.{◌≡◌, ◌≢◌, ◌≤◌, ◌<◌, ℕ, List, [], ◌∷◌, ◌++◌}
 use Rattle.std.proofs.Common.{length, take, Bool, Option, Result, Err}
-use Rattle.std.proofs.Common.{None, Some, refl, sym, ap, subst, subst₂, ◌∙◌, arith, inl, inr, append_assoc}
+use Rattle.std.proofs.Common.{None, Some, refl, sym, ap, ap₂, subst, subst₂, ◌∙◌, arith, inl, inr, append_assoc}
+use Rattle.std.proofs.Common.{drop}
+use Rattle.std.proofs.lemmas.List.{take-append-drop}
 use Rattle.std.specs.Prelude.{◌==◌, ◌||◌, ◌&&◌, ⊤, IfSome, true, false, is_some, unwrap_or}
 use Rattle.std.specs.Io.KnownBytes.{Appends, Consumes, Keeps as KeepsBytes, prepend_known}
 use Rattle.std.proofs.lemmas.Bool.{ne_eqb}
-use Rattle.std.proofs.KnownBytes.{Appends-kept, Appends-nil, Appends-trans, Keeps-refl, prepend_known-nil}
+use Rattle.std.proofs.KnownBytes.{Appends-kept, Appends-trans, Keeps-refl}
 use Rattle.sysv_keys.specs.declared.identifier.TheConstants.{SLOTS}
 use Rattle.sysv_model.specs.declared.cred.Cred.{Cred}
 use Rattle.sysv_session.specs.declared.served.End.{End}
 use Rattle.sysv_session.specs.declared.served.End.TheVariants.{Ended, NoMemory, NoHello, Fault, Write, Bound, Left}
 use Rattle.sysv_session.specs.declared.served.End.TheVariants.{Reset}
-use Rattle.sysv_session.specs.declared.served.Served.{Served}
 use Rattle.sysv_session.specs.declared.handler.RequestOutcome.{RequestOutcome}
 use Rattle.sysv_session.specs.declared.handler.RequestOutcome.TheVariants.{Left as WasLeft}
 use Rattle.sysv_session.specs.declared.session.Session.{Session}
 use Rattle.sysv_session.specs.declared.session.TakenUp.{TakenUp}
 use Rattle.sysv_session.specs.Answers.{IsReplied}
-use Rattle.sysv_session.specs.Conversation.{HasRoom, Puts, Dialogue, report, reported, sent_on}
+use Rattle.sysv_queue.specs.Tally.{Tallied}
+use Rattle.sysv_session.specs.Conversation.{HasRoom, Puts, Dialogue, reported, sent_on}
+use Rattle.sysv_session.specs.Outbox.{Mark, beyond, more_written, passed}
 use Rattle.sysv_session.specs.Stands.{Stands, StandsAsking}
 use Rattle.sysv_session.specs.TakenUp.{EndsHere, TakesUp}
-use Rattle.sysv_session.proofs.GoesOn.{ends, leaves, opens, sends, sends_asking, sends_stopped}
+use Rattle.sysv_session.proofs.GoesOn.{leaves, sends, sends_asking, sends_stopped}
 use Rattle.sysv_session.proofs.GoesOn.{stops_memory, stops_read, stops_reset}
 use Rattle.sysv_session.proofs.GoesOn.{stops_write}
 use Rattle.sysv_session.proofs.OutboxLemmas.{each_once}
@@ -29,16 +32,17 @@ use Rattle.sysv_wire.specs.declared.fault.Fault.TheVariants.{Truncated, TooLong,
 use Rattle.sysv_wire.specs.declared.frame.Version.{Version}
 use Rattle.sysv_seats.specs.declared.parked.Parked.{Parked}
 use Rattle.sysv_seats.specs.Breaking.{Breaks, HasCause, MayEnd}
-use Rattle.sysv_seats.specs.Held.{holds_with}
+use Rattle.sysv_seats.specs.declared.callers.Callers.{Callers}
 use Rattle.sysv_seats.specs.Holding.{Holder, Timed, begun_with, timed}
 use Rattle.sysv_seats.proofs.HeldPieces.{hold_left}
-use Rattle.sysv_seats.specs.Sits.{Arrives, HasFrame, HasStopped, IsAt, IsBehind, IsCounted, IsFree, IsOver}
+use Rattle.sysv_seats.proofs.LetIn.{known_cred}
+use Rattle.sysv_seats.specs.Sits.{Arrives, GathersDenial, HasDenied, HasFrame, HasStopped, IsAt, IsBehind}
+use Rattle.sysv_seats.specs.Sits.{IsCounted, IsFree, means_for}
 use Rattle.sysv_seats.specs.Sits.{IsReady, end_at_close, is_finished, is_early}
-use Rattle.sysv_seats.specs.Sits.{Keeps, KeepsWith, Sits, Sitting, broken_off, broken_off_for, stopped_for, with_input}
+use Rattle.sysv_seats.specs.Sits.{Keeps, KeepsWith, Sitting, broken_off, broken_off_for, stopped_for, with_input}
 use Rattle.sysv_seats.specs.Sits.{zero_moment}
 use Rattle.sysv_seats.specs.declared.non_blocking.Drained.TheVariants.{Took}
 use Rattle.sysv_seats.specs.NonBlocking.{DrainAppends}
-use Rattle.sysv_seats.specs.Untold.{Closing}
 
 -- ---- what every client keeps
 
@@ -211,7 +215,7 @@ pub some_waits : (bytes : List ℕ) → (length bytes == 0) ≡ false → bytes 
 some_waits [] waits = absurd (cc waits)
 some_waits (x ∷ xs) waits = λ none. absurd (omega (arith, ap (length {A = ℕ}) none))
 
-module _ {T : Type 0} (incoming outgoing : T → Option (List ℕ)) where
+module _ {T : Type 0} (incoming outgoing : T → Option (List ℕ)) (callers : T → Callers) where
   -- The client with this connection.
   abbrev pub on : T → Sitting T → Sitting T
   on connection client = record {
@@ -237,75 +241,103 @@ module _ {T : Type 0} (incoming outgoing : T → Option (List ℕ)) where
   -- One event after another.
   pub keeps_on : (old : Sitting T) (before : Holder Pass) (mid : Sitting T) (between : Holder Pass)
       (new : Sitting T) (after : Holder Pass) →
-      KeepsWith incoming outgoing old before mid between → KeepsWith incoming outgoing mid between new after →
-      KeepsWith incoming outgoing old before new after
+      KeepsWith incoming outgoing callers old before mid between → KeepsWith incoming outgoing callers mid between new
+      after →
+      KeepsWith incoming outgoing callers old before new after
   keeps_on old before mid between new after first second =
       λ late newest start origin sits. second late newest start origin (first late newest start origin sits)
 
   -- The fields of the client say the same.
-  pub keeps_from : (old client new : Sitting T) → client ≡ old → Keeps incoming outgoing client new →
-      Keeps incoming outgoing old new
-  keeps_from old client new is keeps = subst (λ (c : Sitting T). Keeps incoming outgoing c new) is keeps
+  pub keeps_from : (old client new : Sitting T) → client ≡ old → Keeps incoming outgoing callers client new →
+      Keeps incoming outgoing callers old new
+  keeps_from old client new is keeps = subst (λ (c : Sitting T). Keeps incoming outgoing callers c new) is keeps
 
   pub keeps_with_from : (old client : Sitting T) (before : Holder Pass) (new : Sitting T) (after : Holder Pass) →
       client ≡ old →
-      KeepsWith incoming outgoing client before new after → KeepsWith incoming outgoing old before new after
+      KeepsWith incoming outgoing callers client before new after → KeepsWith incoming outgoing callers old before new
+      after
   keeps_with_from old client before new after is keeps =
-      subst (λ (c : Sitting T). KeepsWith incoming outgoing c before new after) is keeps
+      subst (λ (c : Sitting T). KeepsWith incoming outgoing callers c before new after) is keeps
 
-  pub keeps_to : (old new last : Sitting T) → last ≡ new → Keeps incoming outgoing old new →
-      Keeps incoming outgoing old last
-  keeps_to old new last is keeps = subst (Keeps incoming outgoing old) (sym is) keeps
+  pub keeps_to : (old new last : Sitting T) → last ≡ new → Keeps incoming outgoing callers old new →
+      Keeps incoming outgoing callers old last
+  keeps_to old new last is keeps = subst (Keeps incoming outgoing callers old) (sym is) keeps
 
-  pub keeps_then : (old mid new : Sitting T) → Keeps incoming outgoing old mid → Keeps incoming outgoing mid new →
-      Keeps incoming outgoing old new
+  pub keeps_then : (old mid new : Sitting T) → Keeps incoming outgoing callers old mid → Keeps incoming outgoing callers
+      mid new →
+      Keeps incoming outgoing callers old new
   keeps_then old mid new first second = λ now. keeps_on old now mid now new now (first now) (second now)
 
   -- ---- a client that is free
 
   is_ready : (newest : Version) (start : Pass) (origin : T) (client : Sitting T) (now : Timed Pass)
       (sent : List ℕ) → IsFree client →
-      IsAt incoming outgoing newest start origin client now sent client.parked client.stopped →
-      IsReady incoming outgoing newest start origin client now sent
+      IsAt incoming outgoing callers newest start origin client now sent client.parked client.stopped →
+      IsReady incoming outgoing callers newest start origin client now sent
   is_ready newest start origin client now sent free at =
-      subst₂ (λ (p : Option Parked) (s : Option End). IsAt incoming outgoing newest start origin client now sent p
+      subst₂ (λ (p : Option Parked) (s : Option End). IsAt incoming outgoing callers newest start origin client now sent
+      p
       s) free.0
       free.1 at
 
-  is_at : (newest : Version) (start : Pass) (origin : T) (client : Sitting T) (now : Timed Pass) (sent : List ℕ) →
+  pub is_at : (newest : Version) (start : Pass) (origin : T) (client : Sitting T) (now : Timed Pass) (sent : List ℕ) →
       IsFree client →
-      IsReady incoming outgoing newest start origin client now sent →
-      IsAt incoming outgoing newest start origin client now sent client.parked client.stopped
+      IsReady incoming outgoing callers newest start origin client now sent →
+      IsAt incoming outgoing callers newest start origin client now sent client.parked client.stopped
   is_at newest start origin client now sent free ready =
-      subst₂ (λ (p : Option Parked) (s : Option End). IsAt incoming outgoing newest start origin client now sent p s)
+      subst₂ (λ (p : Option Parked) (s : Option End). IsAt incoming outgoing callers newest start origin client now sent
+      p s)
       (sym free.0) (sym free.1) ready
 
   is_stopped : (newest : Version) (start : Pass) (origin : T) (client : Sitting T) (now : Timed Pass)
       (sent : List ℕ) (why : End) →
-      client.parked ≡ None → HasStopped incoming outgoing newest start origin client now sent why →
-      IsAt incoming outgoing newest start origin client now sent client.parked (Some why)
+      client.parked ≡ None → HasStopped incoming outgoing callers newest start origin client now sent why →
+      IsAt incoming outgoing callers newest start origin client now sent client.parked (Some why)
   is_stopped newest start origin client now sent why none stopped =
-      subst (λ (p : Option Parked). IsAt incoming outgoing newest start origin client now sent p (Some why))
-      (sym none) stopped
+      subst (λ (p : Option Parked). IsAt incoming outgoing callers newest start origin client now sent p (Some why))
+      (sym none) (inl stopped)
+
+  -- A client whose hello was denied, with the same dialogue, whose connection has as much to be read.
+  denied_same : (newest : Version) (start : Pass) (origin : T) (client new : Sitting T) (now : Timed Pass)
+      (sent : List ℕ) (why : End) → incoming new.connection ≡ incoming client.connection →
+      new.dialogue ≡ client.dialogue → HasDenied incoming outgoing callers newest start origin client now sent why →
+      HasDenied incoming outgoing callers newest start origin new now sent why
+  denied_same newest start origin client new now sent why same dialogue at = record {
+    version = at.version;
+    cred = at.cred;
+    known = at.known;
+    other = at.other;
+    rest = at.rest;
+    reads = at.reads;
+    behind = subst (IsBehind at.rest) (sym same) at.behind;
+    handler = at.handler;
+    gathered = subst (λ (d : Dialogue). GathersDenial at.version why (sent ++ d.unsent.bytes)) (sym dialogue)
+        at.gathered;
+    marks = ap (λ (d : Dialogue). d.unsent.marks) dialogue ∙ at.marks;
+    tallies = ap (λ (d : Dialogue). d.session.tally) dialogue ∙ at.tallies;
+    counts = ap (λ (d : Dialogue). d.session.requests) dialogue ∙ at.counts;
+  }
 
   -- The connection cannot be read.
-  read_at : (newest : Version) (start : Pass) (origin : T) (client : Sitting T) (now : Timed Pass) (sent : List ℕ) →
-      IsReady incoming outgoing newest start origin client now sent →
-      HasStopped incoming outgoing newest start origin client now sent (Fault Read)
+  pub read_at : (newest : Version) (start : Pass) (origin : T) (client : Sitting T) (now : Timed Pass) (sent : List ℕ) →
+      IsReady incoming outgoing callers newest start origin client now sent →
+      HasStopped incoming outgoing callers newest start origin client now sent (Fault Read)
   read_at newest start origin client now sent ready = (
     prepend_known client.input (incoming client.connection),
     behind client.input (incoming client.connection),
     ready.0,
     ready.1,
-    stops_read newest (holds_with zero_moment ⊤) SLOTS client.dialogue (begun_with start) ready.0 (incoming origin)
+    stops_read newest (means_for (callers origin)) SLOTS client.dialogue (begun_with start) ready.0 (incoming origin)
         (prepend_known client.input (incoming client.connection)) sent ready.2,
+    ready.3,
   )
 
   pub stops_reading : (client : Sitting T) → IsFree client →
-      Keeps incoming outgoing client (stopped_for (Fault Read) client)
+      Keeps incoming outgoing callers client (stopped_for (Fault Read) client)
   stops_reading client free = λ here late newest start origin sits. let now : Timed Pass = timed here late in record {
     sent = sits.sent;
     wrote = sits.wrote;
+    same = sits.same;
     at = is_stopped newest start origin (stopped_for (Fault Read) client) now sits.sent (Fault Read) free.0
         (read_at newest start origin client now sits.sent (is_ready newest start origin client now sits.sent free
         sits.at));
@@ -313,22 +345,24 @@ module _ {T : Type 0} (incoming outgoing : T → Option (List ℕ)) where
 
   -- The client has reset the connection.
   reset_at : (newest : Version) (start : Pass) (origin : T) (client : Sitting T) (now : Timed Pass) (sent : List ℕ) →
-      IsReady incoming outgoing newest start origin client now sent →
-      HasStopped incoming outgoing newest start origin client now sent Reset
+      IsReady incoming outgoing callers newest start origin client now sent →
+      HasStopped incoming outgoing callers newest start origin client now sent Reset
   reset_at newest start origin client now sent ready = (
     prepend_known client.input (incoming client.connection),
     behind client.input (incoming client.connection),
     ready.0,
     ready.1,
-    stops_reset newest (holds_with zero_moment ⊤) SLOTS client.dialogue (begun_with start) ready.0 (incoming origin)
+    stops_reset newest (means_for (callers origin)) SLOTS client.dialogue (begun_with start) ready.0 (incoming origin)
         (prepend_known client.input (incoming client.connection)) sent ready.2,
+    ready.3,
   )
 
   pub stops_resetting : (client : Sitting T) → IsFree client →
-      Keeps incoming outgoing client (stopped_for Reset client)
+      Keeps incoming outgoing callers client (stopped_for Reset client)
   stops_resetting client free = λ here late newest start origin sits. let now : Timed Pass = timed here late in record {
     sent = sits.sent;
     wrote = sits.wrote;
+    same = sits.same;
     at = is_stopped newest start origin (stopped_for Reset client) now sits.sent Reset free.0
         (reset_at newest start origin client now sits.sent (is_ready newest start origin client now sits.sent free
         sits.at));
@@ -336,20 +370,22 @@ module _ {T : Type 0} (incoming outgoing : T → Option (List ℕ)) where
 
   -- The connection takes no more.
   pub stops_writing : (client : Sitting T) → IsFree client → client.dialogue.unsent.bytes ≢ [] →
-      Keeps incoming outgoing client (stopped_for Write client)
+      Keeps incoming outgoing callers client (stopped_for Write client)
   stops_writing client free some = λ here late newest start origin sits.
       let now : Timed Pass = timed here late in record {
         sent = sits.sent;
         wrote = sits.wrote;
+        same = sits.same;
         at = let ready = is_ready newest start origin client now sits.sent free sits.at in
             is_stopped newest start origin (stopped_for Write client) now sits.sent Write free.0 (
               prepend_known client.input (incoming client.connection),
               behind client.input (incoming client.connection),
               ready.0,
               ready.1,
-              stops_write newest (holds_with zero_moment ⊤) SLOTS client.dialogue (begun_with start) ready.0
+              stops_write newest (means_for (callers origin)) SLOTS client.dialogue (begun_with start) ready.0
                   (incoming origin) (prepend_known client.input (incoming client.connection)) sits.sent
                   (some_bytes client.dialogue.unsent.bytes some) ready.2,
+              ready.3,
             );
       }
 
@@ -357,39 +393,43 @@ module _ {T : Type 0} (incoming outgoing : T → Option (List ℕ)) where
   arrives_more : (client : Sitting T) (connection : T) (bytes : List ℕ) → IsFree client →
       Consumes (incoming client.connection) (incoming connection) bytes →
       (incoming client.connection ≡ None → incoming connection ≡ None) →
-      outgoing connection ≡ outgoing client.connection →
-      Keeps incoming outgoing client (with_input (client.input ++ bytes) (on connection client))
+      (outgoing connection ≡ outgoing client.connection) × (callers connection ≡ callers client.connection) →
+      Keeps incoming outgoing callers client (with_input (client.input ++ bytes) (on connection client))
   arrives_more client connection bytes free took none same = λ here late newest start origin sits.
       let now : Timed Pass = timed here late in record {
         sent = sits.sent;
-        wrote = subst (λ (o : Option (List ℕ)). Appends (outgoing origin) o sits.sent) (sym same) sits.wrote;
+        wrote = subst (λ (o : Option (List ℕ)). Appends (outgoing origin) o sits.sent) (sym same.0) sits.wrote;
+        same = same.1 ∙ sits.same;
         at = let ready = is_ready newest start origin client now sits.sent free sits.at in
             is_at newest start origin (with_input (client.input ++ bytes) (on connection client)) now sits.sent free (
               ready.0,
               ready.1,
-              subst (λ (o : Option (List ℕ)). Stands newest (holds_with zero_moment ⊤) SLOTS client.dialogue
+              subst (λ (o : Option (List ℕ)). Stands newest (means_for (callers origin)) SLOTS client.dialogue
                   (begun_with start) ready.0 (incoming origin) o sits.sent)
                   (same_unread client.input bytes (incoming client.connection) (incoming connection) took none) ready.2,
+              ready.3,
             );
       }
 
   -- Bytes were read, and memory for them was refused.
   arrives_not : (client : Sitting T) (connection : T) (bytes : List ℕ) → IsFree client →
       Consumes (incoming client.connection) (incoming connection) bytes →
-      outgoing connection ≡ outgoing client.connection →
-      Keeps incoming outgoing client (stopped_for NoMemory (on connection client))
+      (outgoing connection ≡ outgoing client.connection) × (callers connection ≡ callers client.connection) →
+      Keeps incoming outgoing callers client (stopped_for NoMemory (on connection client))
   arrives_not client connection bytes free took same = λ here late newest start origin sits.
       let now : Timed Pass = timed here late in record {
         sent = sits.sent;
-        wrote = subst (λ (o : Option (List ℕ)). Appends (outgoing origin) o sits.sent) (sym same) sits.wrote;
+        wrote = subst (λ (o : Option (List ℕ)). Appends (outgoing origin) o sits.sent) (sym same.0) sits.wrote;
+        same = same.1 ∙ sits.same;
         at = let ready = is_ready newest start origin client now sits.sent free sits.at in
             is_stopped newest start origin (stopped_for NoMemory (on connection client)) now sits.sent NoMemory free.0 (
               prepend_known client.input (incoming client.connection),
               behind_read client.input bytes (incoming client.connection) (incoming connection) took,
               ready.0,
               ready.1,
-              stops_memory newest (holds_with zero_moment ⊤) SLOTS client.dialogue (begun_with start) ready.0
+              stops_memory newest (means_for (callers origin)) SLOTS client.dialogue (begun_with start) ready.0
                   (incoming origin) (prepend_known client.input (incoming client.connection)) sits.sent ready.2,
+              ready.3,
             );
       }
 
@@ -397,18 +437,19 @@ module _ {T : Type 0} (incoming outgoing : T → Option (List ℕ)) where
   pub arrives : (client new : Sitting T) (connection : T) (bytes : List ℕ) → IsFree client →
       Consumes (incoming client.connection) (incoming connection) bytes →
       (incoming client.connection ≡ None → incoming connection ≡ None) →
-      outgoing connection ≡ outgoing client.connection → Arrives bytes (on connection client) new →
-      Keeps incoming outgoing client new
+      (outgoing connection ≡ outgoing client.connection) × (callers connection ≡ callers client.connection) → Arrives
+      bytes (on connection client) new →
+      Keeps incoming outgoing callers client new
   arrives client new connection bytes free took none same (inl is) =
-      subst (Keeps incoming outgoing client) (sym is) (arrives_more client connection bytes free took none same)
+      subst (Keeps incoming outgoing callers client) (sym is) (arrives_more client connection bytes free took none same)
   arrives client new connection bytes free took none same (inr is) =
-      subst (Keeps incoming outgoing client) (sym is) (arrives_not client connection bytes free took same)
+      subst (Keeps incoming outgoing callers client) (sym is) (arrives_not client connection bytes free took same)
 
   -- The connection takes no more replies.
   broken_at : (newest : Version) (start : Pass) (origin : T) (client : Sitting T) (now : Timed Pass)
       (sent : List ℕ) (parked : Option Parked)
-      (stopped : Option End) → IsAt incoming outgoing newest start origin client now sent parked stopped →
-      IsAt incoming outgoing newest start origin (broken_off client) now sent parked stopped
+      (stopped : Option End) → IsAt incoming outgoing callers newest start origin client now sent parked stopped →
+      IsAt incoming outgoing callers newest start origin (broken_off client) now sent parked stopped
   broken_at newest start origin client now sent None None at = at
   broken_at newest start origin client now sent (Some parked) None at = record {
     text = at.text;
@@ -421,21 +462,25 @@ module _ {T : Type 0} (incoming outgoing : T → Option (List ℕ)) where
     size = at.size;
     waits = at.waits;
     late = at.late;
+    known = at.known;
   }
-  broken_at newest start origin client now sent None (Some why) at = at
+  broken_at newest start origin client now sent None (Some why) (inl at) = inl at
+  broken_at newest start origin client now sent None (Some why) (inr at) =
+      inr (denied_same newest start origin client (broken_off client) now sent why refl refl at)
   broken_at newest start origin client now sent (Some parked) (Some why) at = absurd at
 
-  breaks : (client : Sitting T) → Keeps incoming outgoing client (broken_off client)
+  breaks : (client : Sitting T) → Keeps incoming outgoing callers client (broken_off client)
   breaks client = λ here late newest start origin sits. let now : Timed Pass = timed here late in record {
     sent = sits.sent;
     wrote = sits.wrote;
+    same = sits.same;
     at = broken_at newest start origin client now sits.sent client.parked client.stopped sits.at;
   }
 
   -- The client is broken off: it stops for this reason, unless it has stopped.
   broken_at_last : (client : Sitting T) (why : End) (stopped : Option End) → client.stopped ≡ stopped →
-      (client.stopped ≡ None → Keeps incoming outgoing client (stopped_for why client)) →
-      Keeps incoming outgoing client (broken_off_for why client)
+      (client.stopped ≡ None → Keeps incoming outgoing callers client (stopped_for why client)) →
+      Keeps incoming outgoing callers client (broken_off_for why client)
   broken_at_last client why None same stops =
       let last = stopped_for why client in
       let is : broken_off_for why client ≡ broken_off last = ap (λ (o : Option End). let s : Sitting T = record {
@@ -459,16 +504,16 @@ module _ {T : Type 0} (incoming outgoing : T → Option (List ℕ)) where
       } in s) (ap (λ (o : Option End). let p : Option End = Some (unwrap_or o why) in p) same ∙ sym same) in
       keeps_to client (broken_off client) (broken_off_for why client) is (breaks client)
 
-  pub breaks_reading : (old mid new : Sitting T) → Keeps incoming outgoing old mid → mid.parked ≡ None →
-      new ≡ broken_off_for (Fault Read) mid → Keeps incoming outgoing old new
+  pub breaks_reading : (old mid new : Sitting T) → Keeps incoming outgoing callers old mid → mid.parked ≡ None →
+      new ≡ broken_off_for (Fault Read) mid → Keeps incoming outgoing callers old new
   breaks_reading old mid new keeps none is =
       keeps_to old (broken_off_for (Fault Read) mid) new is
       (keeps_then old mid (broken_off_for (Fault Read) mid) keeps
       (broken_at_last mid (Fault Read) mid.stopped refl (λ going. stops_reading mid (none, going))))
 
-  pub breaks_writing : (old mid new : Sitting T) → Keeps incoming outgoing old mid → mid.parked ≡ None →
+  pub breaks_writing : (old mid new : Sitting T) → Keeps incoming outgoing callers old mid → mid.parked ≡ None →
       mid.dialogue ≡ old.dialogue → old.dialogue.unsent.bytes ≢ [] → new ≡ broken_off_for Write mid →
-      Keeps incoming outgoing old new
+      Keeps incoming outgoing callers old new
   breaks_writing old mid new keeps none same some is =
       let left = subst (λ (t : Dialogue). t.unsent.bytes ≢ []) (sym same) some in
       keeps_to old (broken_off_for Write mid) new is
@@ -482,11 +527,11 @@ module _ {T : Type 0} (incoming outgoing : T → Option (List ℕ)) where
   -- ---- any client
 
   -- The call is left.
-  left_at : (newest : Version) (start : Pass) (origin : T) (client : Sitting T) (input : List ℕ) (now : Timed Pass)
+  pub left_at : (newest : Version) (start : Pass) (origin : T) (client : Sitting T) (input : List ℕ) (now : Timed Pass)
       (sent : List ℕ)
       (parked : Parked) (stopped : Option End) →
-      IsAt incoming outgoing newest start origin client now sent (Some parked) stopped →
-      HasStopped incoming outgoing newest start origin (left_with input client) now sent Left
+      IsAt incoming outgoing callers newest start origin client now sent (Some parked) stopped →
+      HasStopped incoming outgoing callers newest start origin (left_with input client) now sent Left
   left_at newest start origin client input now sent parked None waits =
       let told = hold_left zero_moment parked.request.version parked.cred ⊤ parked.request.ask waits.text
       waits.before.holder parked.waiting now.holder tt waits.waits in (
@@ -494,36 +539,42 @@ module _ {T : Type 0} (incoming outgoing : T → Option (List ℕ)) where
         behind waits.later (incoming client.connection),
         now,
         ([], refl),
-        leaves newest (holds_with zero_moment ⊤) SLOTS parked.cred parked.request waits.text [] client.dialogue
+        leaves newest (means_for (callers origin)) SLOTS parked.cred parked.request waits.text [] client.dialogue
             (begun_with start) waits.settled now (incoming origin)
-            (prepend_known waits.later (incoming client.connection)) sent waits.asking
-            (waits.before, waits.lapsed, told, waits.late) refl,
+            (prepend_known waits.later (incoming client.connection)) sent waits.asking (
+              known_cred newest (callers origin) (incoming origin) client.dialogue.session.caller
+                  waits.asking.asking.version parked.cred waits.asking.asking.caller waits.known,
+              (waits.before, waits.lapsed, told, waits.late),
+            ) refl,
+        waits.known,
       )
   left_at newest start origin client input now sent parked (Some why) none = absurd none
 
   pub gives_up : (client : Sitting T) (input : List ℕ) (parked : Parked) → client.parked ≡ Some parked →
-      Keeps incoming outgoing client (left_with input client)
+      Keeps incoming outgoing callers client (left_with input client)
   gives_up client input parked is = λ here late newest start origin sits.
       let now : Timed Pass = timed here late in record {
         sent = sits.sent;
         wrote = sits.wrote;
-        at = left_at newest start origin client input now sits.sent parked client.stopped
-            (subst (λ (p : Option Parked). IsAt incoming outgoing newest start origin client now sits.sent p
+        same = sits.same;
+        at = inl (left_at newest start origin client input now sits.sent parked client.stopped
+            (subst (λ (p : Option Parked). IsAt incoming outgoing callers newest start origin client now sits.sent p
             client.stopped) is
-            sits.at);
+            sits.at));
       }
 
   -- The connection took or gave nothing.
   turned_at : (newest : Version) (start : Pass) (origin : T) (client : Sitting T) (connection : T)
       (now : Timed Pass) (sent : List ℕ)
       (parked : Option Parked) (stopped : Option End) → incoming connection ≡ incoming client.connection →
-      IsAt incoming outgoing newest start origin client now sent parked stopped →
-      IsAt incoming outgoing newest start origin (on connection client) now sent parked stopped
+      IsAt incoming outgoing callers newest start origin client now sent parked stopped →
+      IsAt incoming outgoing callers newest start origin (on connection client) now sent parked stopped
   turned_at newest start origin client connection now sent None None same at = (
     at.0,
     at.1,
-    subst (λ (o : Option (List ℕ)). Stands newest (holds_with zero_moment ⊤) SLOTS client.dialogue (begun_with start)
+    subst (λ (o : Option (List ℕ)). Stands newest (means_for (callers origin)) SLOTS client.dialogue (begun_with start)
         at.0 (incoming origin) (prepend_known client.input o) sent) (sym same) at.2,
+    at.3,
   )
   turned_at newest start origin client connection now sent (Some parked) None same at = record {
     text = at.text;
@@ -531,7 +582,7 @@ module _ {T : Type 0} (incoming outgoing : T → Option (List ℕ)) where
     before = at.before;
     lapsed = at.lapsed;
     later = at.later;
-    asking = subst (λ (o : Option (List ℕ)). StandsAsking newest (holds_with zero_moment ⊤) SLOTS parked.cred
+    asking = subst (λ (o : Option (List ℕ)). StandsAsking newest (means_for (callers origin)) SLOTS parked.cred
         parked.request
         at.text client.dialogue (begun_with start) at.settled (incoming origin) (prepend_known at.later o) sent)
         (sym same) at.asking;
@@ -539,38 +590,46 @@ module _ {T : Type 0} (incoming outgoing : T → Option (List ℕ)) where
     size = at.size;
     waits = at.waits;
     late = at.late;
+    known = at.known;
   }
-  turned_at newest start origin client connection now sent None (Some why) same at =
-      (at.0, subst (λ (o : Option (List ℕ)). IsBehind at.0 o) (sym same) at.1, at.2, at.3, at.4)
+  turned_at newest start origin client connection now sent None (Some why) same (inl at) =
+      inl (at.0, subst (λ (o : Option (List ℕ)). IsBehind at.0 o) (sym same) at.1, at.2, at.3, at.4, at.5)
+  turned_at newest start origin client connection now sent None (Some why) same (inr at) =
+      inr (denied_same newest start origin client (on connection client) now sent why same refl at)
   turned_at newest start origin client connection now sent (Some parked) (Some why) same at = absurd at
 
-  pub turned : (client : Sitting T) (connection : T) → incoming connection ≡ incoming client.connection →
+  pub turned : (client : Sitting T) (connection : T) → (incoming connection ≡ incoming client.connection) × (callers
+      connection ≡ callers client.connection) →
       KeepsBytes (outgoing client.connection) (outgoing connection) →
-      Keeps incoming outgoing client (on connection client)
+      Keeps incoming outgoing callers client (on connection client)
   turned client connection same kept = λ here late newest start origin sits.
       let now : Timed Pass = timed here late in record {
         sent = sits.sent;
         wrote =
             Appends-kept (outgoing origin) (outgoing client.connection) (outgoing connection) sits.sent sits.wrote kept;
-        at = turned_at newest start origin client connection now sits.sent client.parked client.stopped same sits.at;
+        same = same.1 ∙ sits.same;
+        at = turned_at newest start origin client connection now sits.sent client.parked client.stopped same.0 sits.at;
       }
 
   -- A read returned nothing.
   pub unread_still : (client : Sitting T) (connection : T) →
       KeepsBytes (incoming client.connection) (incoming connection) →
       (incoming client.connection ≡ None → incoming connection ≡ None) →
-      outgoing connection ≡ outgoing client.connection → Keeps incoming outgoing client (on connection client)
+      (outgoing connection ≡ outgoing client.connection) × (callers connection ≡ callers client.connection) → Keeps
+      incoming outgoing callers client (on connection client)
   unread_still client connection kept none same =
-      turned client connection (none_read (incoming client.connection) (incoming connection) kept none)
-      (subst (λ (o : Option (List ℕ)). KeepsBytes (outgoing client.connection) o) (sym same)
+      turned client connection (none_read (incoming client.connection) (incoming connection) kept none, same.1)
+      (subst (λ (o : Option (List ℕ)). KeepsBytes (outgoing client.connection) o) (sym same.0)
       (Keeps-refl (outgoing client.connection)))
 
   -- One read, and then what is taken up.
   pub filled : (old client mid new : Sitting T) (connection : T) (bytes : List ℕ) (before after : Holder Pass) →
       client ≡ old → IsFree old → Consumes (incoming client.connection) (incoming connection) bytes →
       (incoming client.connection ≡ None → incoming connection ≡ None) →
-      outgoing connection ≡ outgoing client.connection → Arrives bytes (on connection client) mid →
-      KeepsWith incoming outgoing mid before new after → KeepsWith incoming outgoing old before new after
+      (outgoing connection ≡ outgoing client.connection) × (callers connection ≡ callers client.connection) → Arrives
+      bytes (on connection client) mid →
+      KeepsWith incoming outgoing callers mid before new after → KeepsWith incoming outgoing callers old before new
+      after
   filled old client mid new connection bytes before after view free took none same arrived taken =
       keeps_with_from old client before new after view
       (keeps_on client before mid before new after
@@ -580,9 +639,9 @@ module _ {T : Type 0} (incoming outgoing : T → Option (List ℕ)) where
   pub filled_last : (old client new : Sitting T) (connection : T) (before after : Holder Pass) → client ≡ old →
       KeepsBytes (incoming client.connection) (incoming connection) →
       (incoming client.connection ≡ None → incoming connection ≡ None) →
-      outgoing connection ≡ outgoing client.connection →
-      KeepsWith incoming outgoing (on connection client) before new after →
-      KeepsWith incoming outgoing old before new after
+      (outgoing connection ≡ outgoing client.connection) × (callers connection ≡ callers client.connection) →
+      KeepsWith incoming outgoing callers (on connection client) before new after →
+      KeepsWith incoming outgoing callers old before new after
   filled_last old client new connection before after view kept none same taken =
       keeps_with_from old client before new after view
       (keeps_on client before (on connection client) before new after
@@ -591,18 +650,19 @@ module _ {T : Type 0} (incoming outgoing : T → Option (List ℕ)) where
   pub filled_none : (old client : Sitting T) (connection : T) (now : Holder Pass) → client ≡ old →
       KeepsBytes (incoming client.connection) (incoming connection) →
       (incoming client.connection ≡ None → incoming connection ≡ None) →
-      outgoing connection ≡ outgoing client.connection →
-      KeepsWith incoming outgoing old now (on connection client) now
+      (outgoing connection ≡ outgoing client.connection) × (callers connection ≡ callers client.connection) →
+      KeepsWith incoming outgoing callers old now (on connection client) now
   filled_none old client connection now view kept none same =
       keeps_with_from old client now (on connection client) now view
       (unread_still client connection kept none same now)
 
-  pub filled_not : (why : End) → ((c : Sitting T) → IsFree c → Keeps incoming outgoing c (stopped_for why c)) →
+  pub filled_not : (why : End) → ((c : Sitting T) → IsFree c → Keeps incoming outgoing callers c (stopped_for why c)) →
       (old client new : Sitting T) (connection : T) (now : Holder Pass) → client ≡ old → IsFree old →
       KeepsBytes (incoming client.connection) (incoming connection) →
       (incoming client.connection ≡ None → incoming connection ≡ None) →
-      outgoing connection ≡ outgoing client.connection → new ≡ stopped_for why (on connection client) →
-      KeepsWith incoming outgoing old now new now
+      (outgoing connection ≡ outgoing client.connection) × (callers connection ≡ callers client.connection) → new ≡
+      stopped_for why (on connection client) →
+      KeepsWith incoming outgoing callers old now new now
   filled_not why stops old client new connection now view free kept none same is =
       keeps_with_from old client now new now view
       (keeps_to client (stopped_for why (on connection client)) new is
@@ -612,8 +672,8 @@ module _ {T : Type 0} (incoming outgoing : T → Option (List ℕ)) where
 
   -- A turn: what is taken up, then the leave of a peer, then what changes nothing.
   pub turns : (old : Sitting T) (before : Holder Pass) (mid left new : Sitting T) (after : Holder Pass) →
-      KeepsWith incoming outgoing old before mid after → Keeps incoming outgoing mid left → new ≡ left →
-      KeepsWith incoming outgoing old before new after
+      KeepsWith incoming outgoing callers old before mid after → Keeps incoming outgoing callers mid left → new ≡ left →
+      KeepsWith incoming outgoing callers old before new after
   turns old before mid left new after taken keeps is =
       keeps_on old before mid after new after taken (keeps_to mid left new is keeps after)
 
@@ -628,20 +688,47 @@ module _ {T : Type 0} (incoming outgoing : T → Option (List ℕ)) where
     broken = client.broken;
   }
 
+  -- A client whose hello was denied, once the connection took n bytes of the answer.
+  denied_sent : (newest : Version) (start : Pass) (origin : T) (client : Sitting T) (connection : T) (n : ℕ)
+      (now : Timed Pass) (sent : List ℕ) (why : End) → incoming connection ≡ incoming client.connection →
+      HasDenied incoming outgoing callers newest start origin client now sent why →
+      HasDenied incoming outgoing callers newest start origin (with_sent connection n client) now
+      (sent ++ take n client.dialogue.unsent.bytes) why
+  denied_sent newest start origin client connection n now sent why same at =
+      let bytes = client.dialogue.unsent.bytes in
+      record {
+        version = at.version;
+        cred = at.cred;
+        known = at.known;
+        other = at.other;
+        rest = at.rest;
+        reads = at.reads;
+        behind = subst (IsBehind at.rest) (sym same) at.behind;
+        handler = at.handler;
+        gathered = subst (GathersDenial at.version why)
+            (sym (append_assoc sent (take n bytes) (drop n bytes)
+            ∙ ap (λ (l : List ℕ). sent ++ l) (take-append-drop n bytes))) at.gathered;
+        marks = ap (beyond n) at.marks;
+        tallies = ap₂ (λ (m : List Mark) (t : Tallied). more_written (passed n m) t) at.marks at.tallies;
+        counts = at.counts;
+      }
+
   drained_at : (newest : Version) (start : Pass) (origin : T) (client : Sitting T) (connection : T) (n : ℕ)
       (now : Timed Pass) (sent : List ℕ)
       (parked : Option Parked) (stopped : Option End) → n ≤ length client.dialogue.unsent.bytes →
       incoming connection ≡ incoming client.connection →
-      IsAt incoming outgoing newest start origin client now sent parked stopped →
-      IsAt incoming outgoing newest start origin (with_sent connection n client) now
+      IsAt incoming outgoing callers newest start origin client now sent parked stopped →
+      IsAt incoming outgoing callers newest start origin (with_sent connection n client) now
       (sent ++ take n client.dialogue.unsent.bytes) parked stopped
   drained_at newest start origin client connection n now sent None None fits same at = (
     at.0,
     at.1,
-    sends newest (holds_with zero_moment ⊤) SLOTS n client.dialogue (sent_on n client.dialogue) (begun_with start) at.0
+    sends newest (means_for (callers origin)) SLOTS n client.dialogue (sent_on n client.dialogue) (begun_with start)
+        at.0
         (incoming origin) (prepend_known client.input (incoming connection)) sent fits refl
-        (subst (λ (o : Option (List ℕ)). Stands newest (holds_with zero_moment ⊤) SLOTS client.dialogue
+        (subst (λ (o : Option (List ℕ)). Stands newest (means_for (callers origin)) SLOTS client.dialogue
         (begun_with start) at.0 (incoming origin) (prepend_known client.input o) sent) (sym same) at.2),
+    at.3,
   )
   drained_at newest start origin client connection n now sent (Some parked) None fits same at = record {
     text = at.text;
@@ -649,12 +736,13 @@ module _ {T : Type 0} (incoming outgoing : T → Option (List ℕ)) where
     before = at.before;
     lapsed = at.lapsed;
     later = at.later;
-    asking = sends_asking newest (holds_with zero_moment ⊤) SLOTS parked.cred parked.request at.text n client.dialogue
+    asking = sends_asking newest (means_for (callers origin)) SLOTS parked.cred parked.request at.text n client.dialogue
         (sent_on n client.dialogue) (begun_with start) at.settled (incoming origin)
         (prepend_known at.later (incoming connection))
         sent
         fits refl
-        (subst (λ (o : Option (List ℕ)). StandsAsking newest (holds_with zero_moment ⊤) SLOTS parked.cred parked.request
+        (subst (λ (o : Option (List ℕ)). StandsAsking newest (means_for (callers origin)) SLOTS parked.cred
+        parked.request
         at.text client.dialogue (begun_with start) at.settled (incoming origin) (prepend_known at.later o) sent)
         (sym same)
         at.asking);
@@ -662,28 +750,33 @@ module _ {T : Type 0} (incoming outgoing : T → Option (List ℕ)) where
     size = at.size;
     waits = at.waits;
     late = at.late;
+    known = at.known;
   }
-  drained_at newest start origin client connection n now sent None (Some why) fits same at = (
+  drained_at newest start origin client connection n now sent None (Some why) fits same (inr at) =
+      inr (denied_sent newest start origin client connection n now sent why same at)
+  drained_at newest start origin client connection n now sent None (Some why) fits same (inl at) = inl (
     at.0,
     subst (λ (o : Option (List ℕ)). IsBehind at.0 o) (sym same) at.1,
     at.2,
     at.3,
-    sends_stopped newest (holds_with zero_moment ⊤) SLOTS why n client.dialogue (sent_on n client.dialogue)
+    sends_stopped newest (means_for (callers origin)) SLOTS why n client.dialogue (sent_on n client.dialogue)
         (begun_with start) at.2 (incoming origin) at.0 sent fits refl at.4,
+    at.5,
   )
   drained_at newest start origin client connection n now sent (Some parked) (Some why) fits same at = absurd at
 
   pub drained : (client : Sitting T) (connection : T) (n : ℕ) → n ≤ length client.dialogue.unsent.bytes →
-      incoming connection ≡ incoming client.connection →
+      (incoming connection ≡ incoming client.connection) × (callers connection ≡ callers client.connection) →
       Appends (outgoing client.connection) (outgoing connection) (take n client.dialogue.unsent.bytes) →
-      Keeps incoming outgoing client (with_sent connection n client)
+      Keeps incoming outgoing callers client (with_sent connection n client)
   drained client connection n fits same wrote = λ here late newest start origin sits.
       let now : Timed Pass = timed here late in record {
         sent = sits.sent ++ take n client.dialogue.unsent.bytes;
         wrote = Appends-trans (outgoing origin) (outgoing client.connection) (outgoing connection) sits.sent
             (take n client.dialogue.unsent.bytes) sits.wrote wrote;
-        at = drained_at newest start origin client connection n now sits.sent client.parked client.stopped fits same
-            sits.at;
+        same = same.1 ∙ sits.same;
+        at = drained_at newest start origin client connection n now sits.sent client.parked client.stopped fits
+            same.0 sits.at;
       }
 
   abbrev pub with_dialogue : T → Dialogue → Sitting T → Sitting T
@@ -698,81 +791,11 @@ module _ {T : Type 0} (incoming outgoing : T → Option (List ℕ)) where
 
   pub took : (client : Sitting T) (connection : T) (dialogue : Dialogue) (n : ℕ) (bytes : List ℕ) →
       bytes ≡ client.dialogue.unsent.bytes → dialogue ≡ sent_on n client.dialogue →
-      incoming connection ≡ incoming client.connection →
+      (incoming connection ≡ incoming client.connection) × (callers connection ≡ callers client.connection) →
       DrainAppends (outgoing client.connection) (outgoing connection) (Took n) bytes →
-      Keeps incoming outgoing client (with_dialogue connection dialogue client)
+      Keeps incoming outgoing callers client (with_dialogue connection dialogue client)
   took client connection dialogue n bytes all is same appends =
       keeps_to client (with_sent connection n client) (with_dialogue connection dialogue client)
       (ap (λ (t : Dialogue). with_dialogue connection t client) is)
       (drained client connection n (subst (λ (l : List ℕ). n ≤ length l) all appends.1.0) same
       (subst (λ (l : List ℕ). Appends (outgoing client.connection) (outgoing connection) (take n l)) all appends.2))
-
-  -- ---- the first and the last event
-
-  -- A new client.
-  pub opened : (client : Sitting T) (newest : Version) (pass : Pass) → client.dialogue.session.newest ≡ newest →
-      client.dialogue.session.caller ≡ None →
-      client.dialogue.session.tally ≡ record { written = 0; lost = 0 } → client.dialogue.session.requests ≡ 0 →
-      client.dialogue.unsent ≡ record { bytes = []; marks = [] } → client.input ≡ [] → IsFree client →
-      Sits incoming outgoing newest pass client.connection client (begun_with pass)
-  opened client newest pass limit caller tally requests unsent none free = record {
-    sent = [];
-    wrote = Appends-nil (outgoing client.connection);
-    at = is_at newest pass client.connection client (begun_with pass) [] free (
-      begun_with pass,
-      ([], refl),
-      subst (λ (o : Option (List ℕ)). Stands newest (holds_with zero_moment ⊤) SLOTS client.dialogue
-          (begun_with pass) (begun_with pass) (incoming client.connection) o [])
-          (sym (ap (λ (l : List ℕ). prepend_known l (incoming client.connection)) none
-          ∙ prepend_known-nil (incoming client.connection)))
-          (opens newest (holds_with zero_moment ⊤) SLOTS client.dialogue (begun_with pass) (incoming client.connection)
-          limit caller tally requests unsent),
-    );
-  }
-
-  -- A client is closed. Its call is left, if one is parked.
-  closing_at : (newest : Version) (start : Pass) (origin : T) (client : Sitting T) (now : Timed Pass) (sent : List ℕ)
-      (parked : Option Parked) (stopped : Option End) →
-      IsAt incoming outgoing newest start origin client now sent parked stopped →
-      HasStopped incoming outgoing newest start origin client now sent (end_at_close parked stopped)
-  closing_at newest start origin client now sent None None at = read_at newest start origin client now sent at
-  closing_at newest start origin client now sent None (Some why) at = at
-  closing_at newest start origin client now sent (Some parked) None at =
-      left_at newest start origin client client.input now sent parked None at
-  closing_at newest start origin client now sent (Some parked) (Some why) at = absurd at
-
-  closed : {B : Type 0} (closes : Closing T B) (newest : Version) (start : Pass) (origin : T) (client : Sitting T)
-      (now : Timed Pass)
-      (book book' : B) → Sits incoming outgoing newest start origin client now →
-      closes.leaves book (incoming client.connection) (outgoing client.connection) book' →
-      IsOver incoming outgoing closes newest start origin
-      (report (end_at_close client.parked client.stopped) client.dialogue) now book book'
-  closed closes newest start origin client now book book' sits done =
-      let why = end_at_close client.parked client.stopped in
-      let stopped = closing_at newest start origin client now sits.sent client.parked client.stopped sits.at in
-      record {
-        rest = stopped.0;
-        kept = incoming client.connection;
-        more = outgoing client.connection;
-        serves = (
-          stopped.2,
-          ends newest (holds_with zero_moment ⊤) SLOTS why client.dialogue (begun_with start) stopped.2
-              (incoming origin) stopped.0 (outgoing origin) (outgoing client.connection) sits.sent stopped.4 sits.wrote,
-          stopped.3,
-        );
-        behind = stopped.1;
-        closed = done;
-      }
-
-  pub closed_over : {B : Type 0} (closes : Closing T B) (old client : Sitting T) (why : End) (served : Served)
-      (book book' : B) → client ≡ old → why ≡ end_at_close client.parked client.stopped →
-      served ≡ report why client.dialogue →
-      closes.leaves book (incoming client.connection) (outgoing client.connection) book' →
-      (newest : Version) (start : Pass) (now : Timed Pass) (origin : T) →
-      Sits incoming outgoing newest start origin old now →
-      IsOver incoming outgoing closes newest start origin served now book book'
-  closed_over closes old client why served book book' same reason is done newest start now origin sits =
-      let here = subst (λ (c : Sitting T). Sits incoming outgoing newest start origin c now) (sym same) sits in
-      subst (λ (s : Served). IsOver incoming outgoing closes newest start origin s now book book')
-      (sym (is ∙ ap (λ (w : End). report w client.dialogue) reason))
-      (closed closes newest start origin client now book book' here done)

@@ -1,9 +1,10 @@
 -- The steps of a client: what is taken up from its input, and what becomes of a request.
 use Rattle.std.proofs.Common.{◌≡◌, ◌∙◌, ℕ, ℤ, ◌+◌, ◌-◌, ◌≤◌, List, [], ◌++◌, length, take, drop, Option, None, Some}
 use Rattle.std.proofs.Common.{Bool, Result, Ok, Err, true, false, inl, inr, refl, sym, ap, ap₂, subst, subst₂, arith}
-use Rattle.std.proofs.Common.{length-append, length-drop}
+use Rattle.std.proofs.Common.{◌∷◌, append_assoc, length-append, length-drop, unwrap_or}
 use Rattle.std.proofs.lemmas.List.{drop_at, take_all, take_at}
-use Rattle.std.specs.Prelude.{⊤}
+use Rattle.std.specs.Prelude.{⊤, MatchBool}
+use Rattle.std.specs.List.{FoldsTo}
 use Rattle.std.specs.Io.KnownBytes.{Appends, IsAtEnd, prepend_known}
 use Rattle.sysv_keys.specs.declared.identifier.TheConstants.{SLOTS}
 use Rattle.sysv_model.specs.declared.attributes.Row.{Row}
@@ -21,11 +22,13 @@ use Rattle.sysv_session.specs.declared.session.Session.{Session}
 use Rattle.sysv_session.specs.declared.session.TakenUp.{TakenUp}
 use Rattle.sysv_session.specs.declared.session.TakenUp.TheVariants.{Hello, Request as Asked}
 use Rattle.sysv_session.specs.Answers.{IsAsked, IsReplied as HasReply, MayAnswer}
-use Rattle.sysv_session.specs.Calls.{Meaning}
 use Rattle.sysv_session.specs.Conversation.{Puts, Dialogue, gathered}
+use Rattle.sysv_session.specs.Gathered.{Gathered, Gathers}
+use Rattle.sysv_session.specs.Input.{hello_encoding}
 use Rattle.sysv_session.specs.Outbox.{Unsent, with_frame}
 use Rattle.sysv_session.specs.Output.{hello_frame}
-use Rattle.sysv_session.specs.Stands.{Stands, StandsAsking, StandsGreeting}
+use Rattle.sysv_queue.specs.Tally.{Tallied}
+use Rattle.sysv_session.specs.Stands.{Stands, StandsAsking, StandsGreeting, only_lost}
 use Rattle.sysv_session.specs.TakenUp.{TakesUp}
 use Rattle.sysv_session.proofs.Arrived.{IsSettled, IsSettledEnd, takes_up_more}
 use Rattle.sysv_session.proofs.GoesOn.{greets, greet_ends, puts, put_ends, stops, takes_hello, takes_request}
@@ -47,26 +50,27 @@ use Rattle.sysv_wire.specs.declared.reply.ReplyContent.TheVariants as content
 use Rattle.sysv_wire.specs.declared.request.Ask.{Ask}
 use Rattle.sysv_wire.specs.declared.request.Ask.TheVariants as kind
 use Rattle.sysv_wire.specs.declared.request.Request.{Request}
-use Rattle.sysv_wire.specs.Requests.{ask_text, op_of, request_encoding}
+use Rattle.sysv_wire.specs.Requests.{FitsAsk, ask_text, op_of, request_encoding}
+use Rattle.sysv_seats.specs.declared.callers.Callers.{Callers}
 use Rattle.sysv_seats.specs.declared.parked.Parked.{Parked}
 use Rattle.sysv_seats.specs.declared.waiting.Waiting.{Waiting}
 use Rattle.sysv_seats.specs.declared.waiting.Waiting.TheVariants.{Send, Receive, Get}
 use Rattle.sysv_seats.specs.Asked.{Asks}
 use Rattle.sysv_seats.specs.Held.{AnyGoesOn, HoldAsks, HoldBegun, HoldProgress, IsHoldWaitOf, back_progress}
-use Rattle.sysv_seats.specs.Held.{LapsesTo, hold_progress, holds_with}
+use Rattle.sysv_seats.specs.Callers.{includes}
+use Rattle.sysv_seats.specs.Held.{Lapses, LapsesTo, hold_progress}
+use Rattle.sysv_seats.specs.LettingIn.{denial_frame}
 use Rattle.sysv_seats.specs.Holding.{Holder, Message, Timed, back_outcome, begun_with, done_outcome, hold_outcome}
 use Rattle.sysv_seats.specs.Holding.{no_flags, timed}
 use Rattle.sysv_seats.specs.Parked.{GoesOn, IsReplied, IsWaitOf, Proceeds}
 use Rattle.sysv_seats.specs.Parked.{kind_in, get_progress, receive_progress, send_progress}
 use Rattle.sysv_seats.specs.Replies.{done_reply, given_reply, id_reply, row_reply, stat_reply}
-use Rattle.sysv_seats.specs.Sits.{GreetsAs, HasAsked, HasFrame, HasStopped, IsAt, IsBehind, IsFree, IsPending, IsReady}
+use Rattle.sysv_seats.specs.Sits.{Denies, GreetsAs, HasAsked, HasDenied, HasFrame, HasStopped, IsAt, IsBehind}
+use Rattle.sysv_seats.specs.Sits.{IsFree, IsKnown, IsPending, IsReady, means_for}
 use Rattle.sysv_seats.specs.Sits.{IsWaiting, ReadsNext, Sits, Sitting, is_early, is_hold_wait_of, is_wait_of}
 use Rattle.sysv_seats.specs.Sits.{messages_so_far, stopped_for, conversing, with_input, zero_moment}
 use Rattle.sysv_seats.proofs.HeldPieces.{hold_asks_any}
-
--- What the calls of a client mean.
-abbrev Means : Meaning (Timed Pass)
-Means = holds_with zero_moment ⊤
+use Rattle.sysv_seats.proofs.LetIn.{known_cred}
 
 -- ---- lists
 
@@ -391,40 +395,91 @@ pending_next old new size result text cred request counted reads is =
       ap (λ (u : Unsent). length u.marks) reads.unsent,
     )
 
-module _ {T : Type 0} (incoming outgoing : T → Option (List ℕ)) where
+-- ---- hellos
+
+-- The caller of a session is one.
+one_caller : (version : Version) (one other : Cred) (caller : Option (Version × Cred)) →
+    caller ≡ Some (version, one) → caller ≡ Some (version, other) → one ≡ other
+one_caller version one other caller first second =
+    ap (λ (o : Option (Version × Cred)). (unwrap_or o (version, one)).1) (sym first ∙ second)
+
+-- A call whose reply was not gathered leaves the caller of its session.
+put_caller : (version : Version) (outcome : RequestOutcome) (given : List ℕ) (old new : Dialogue) (why : End) →
+    Puts (Err why) version outcome given old new → new.session.caller ≡ old.session.caller
+put_caller version outcome given old new NoMemory put = ap (λ (d : Dialogue). d.session.caller) put.1
+put_caller version outcome given old new Left put = ap (λ (d : Dialogue). d.session.caller) put.1
+put_caller version outcome given old new why put = absurd put
+
+-- Nothing was gathered before the reply to a hello.
+nothing_yet : (sent : List ℕ) (dialogue : Dialogue) (replies : List Gathered) → replies ≡ [] →
+    Gathers (only_lost 0) replies sent dialogue.unsent dialogue.session.tally →
+    (sent ++ dialogue.unsent.bytes ≡ []) × (dialogue.unsent.marks ≡ [])
+    × (dialogue.session.tally ≡ record { written = 0; lost = 0 })
+nothing_yet sent dialogue replies none gathers =
+    let none_gathered = subst (λ (l : List Gathered). Gathers (only_lost 0) l sent dialogue.unsent
+    dialogue.session.tally) none gathers in (
+      sym none_gathered.bytes,
+      none_gathered.marks,
+      ap₂ (λ (w l : ℕ). let t : Tallied = record { written = w; lost = l } in t) none_gathered.written
+          none_gathered.lost,
+    )
+
+-- A session that has taken up only its hello holds nothing.
+unlapsed_by : (start : Pass) (settled now : Timed Pass) (outcomes : List RequestOutcome) → settled ≡ begun_with start →
+    FoldsTo (Lapses zero_moment) settled outcomes now → now ≡ begun_with start
+unlapsed_by start settled now [] is same = sym same ∙ is
+unlapsed_by start settled now (outcome ∷ outcomes) is (mid, (message, some, limited, sends, held, late), rest) =
+    let no : None ≡ Some message = sym (ap (λ (t : Timed Pass). t.holder.message) is) ∙ some in absurd (cc no)
+
+unlapsed : (start : Pass) (settled now : Timed Pass) → settled ≡ begun_with start → LapsesTo zero_moment settled now →
+    now ≡ begun_with start
+unlapsed start settled now is lapsed = unlapsed_by start settled now lapsed.0 is lapsed.1
+
+module _ {T : Type 0} (incoming outgoing : T → Option (List ℕ)) (callers : T → Callers) where
   -- A client that is free can take up more.
   ready : (newest : Version) (start : Pass) (origin : T) (client : Sitting T) (now : Timed Pass) → IsFree client →
-      (sits : Sits incoming outgoing newest start origin client now) →
-      IsReady incoming outgoing newest start origin client now sits.sent
+      (sits : Sits incoming outgoing callers newest start origin client now) →
+      IsReady incoming outgoing callers newest start origin client now sits.sent
   ready newest start origin client now free sits =
-      subst₂ (λ (p : Option Parked) (s : Option End). IsAt incoming outgoing newest start origin client now
+      subst₂ (λ (p : Option Parked) (s : Option End). IsAt incoming outgoing callers newest start origin client now
       sits.sent p s)
       free.0 free.1 sits.at
 
   at_ready : (newest : Version) (start : Pass) (origin : T) (client : Sitting T) (now : Timed Pass)
       (sent : List ℕ) → client.parked ≡ None →
-      client.stopped ≡ None → IsReady incoming outgoing newest start origin client now sent →
-      IsAt incoming outgoing newest start origin client now sent client.parked client.stopped
+      client.stopped ≡ None → IsReady incoming outgoing callers newest start origin client now sent →
+      IsAt incoming outgoing callers newest start origin client now sent client.parked client.stopped
   at_ready newest start origin client now sent parked stopped at =
-      subst₂ (λ (p : Option Parked) (s : Option End). IsAt incoming outgoing newest start origin client now sent p s)
+      subst₂ (λ (p : Option Parked) (s : Option End). IsAt incoming outgoing callers newest start origin client now sent
+      p s)
       (sym parked) (sym stopped) at
 
   at_stopped : (newest : Version) (start : Pass) (origin : T) (client : Sitting T) (now : Timed Pass)
       (sent : List ℕ) (why : End) →
       client.parked ≡ None → client.stopped ≡ Some why →
-      HasStopped incoming outgoing newest start origin client now sent why →
-      IsAt incoming outgoing newest start origin client now sent client.parked client.stopped
+      HasStopped incoming outgoing callers newest start origin client now sent why →
+      IsAt incoming outgoing callers newest start origin client now sent client.parked client.stopped
   at_stopped newest start origin client now sent why parked stopped at =
-      subst₂ (λ (p : Option Parked) (s : Option End). IsAt incoming outgoing newest start origin client now sent p s)
-      (sym parked) (sym stopped) at
+      subst₂ (λ (p : Option Parked) (s : Option End). IsAt incoming outgoing callers newest start origin client now sent
+      p s)
+      (sym parked) (sym stopped) (inl at)
+
+  at_denied : (newest : Version) (start : Pass) (origin : T) (client : Sitting T) (now : Timed Pass)
+      (sent : List ℕ) (why : End) → client.parked ≡ None → client.stopped ≡ Some why →
+      HasDenied incoming outgoing callers newest start origin client now sent why →
+      IsAt incoming outgoing callers newest start origin client now sent client.parked client.stopped
+  at_denied newest start origin client now sent why parked stopped at =
+      subst₂ (λ (p : Option Parked) (s : Option End). IsAt incoming outgoing callers newest start origin client now
+      sent p s) (sym parked) (sym stopped) (inr at)
 
   at_waiting : (newest : Version) (start : Pass) (origin : T) (client : Sitting T) (now : Timed Pass)
       (sent : List ℕ) (parked : Parked) →
       client.parked ≡ Some parked → client.stopped ≡ None →
-      IsWaiting incoming outgoing newest start origin client now sent parked →
-      IsAt incoming outgoing newest start origin client now sent client.parked client.stopped
+      IsWaiting incoming outgoing callers newest start origin client now sent parked →
+      IsAt incoming outgoing callers newest start origin client now sent client.parked client.stopped
   at_waiting newest start origin client now sent parked parks stopped at =
-      subst₂ (λ (p : Option Parked) (s : Option End). IsAt incoming outgoing newest start origin client now sent p s)
+      subst₂ (λ (p : Option Parked) (s : Option End). IsAt incoming outgoing callers newest start origin client now sent
+      p s)
       (sym parks) (sym stopped) at
 
   -- ---- a request has an outcome, or waits
@@ -432,36 +487,50 @@ module _ {T : Type 0} (incoming outgoing : T → Option (List ℕ)) where
   module _ (newest : Version) (start : Pass) (before : Timed Pass) (now : Holder Pass) (origin : T)
       (old new : Sitting T)
       (cred : Cred) (request : Request)
-      (text : List ℕ) (size : ℕ) (asked : HasAsked incoming outgoing newest start origin old cred request text size
+      (text : List ℕ) (size : ℕ) (asked : HasAsked incoming outgoing callers newest start origin old cred request text
+      size
       before)
       (connection : new.connection ≡ old.connection) where
     wrote : Appends (outgoing origin) (outgoing new.connection) asked.sent
     wrote = subst (λ (t : T). Appends (outgoing origin) (outgoing t) asked.sent) (sym connection) asked.wrote
 
+    same : callers new.connection ≡ callers origin
+    same = ap callers connection ∙ asked.same
+
+    -- The caller of the session is the same.
+    known : (dialogue : Dialogue) → dialogue.session.caller ≡ old.dialogue.session.caller →
+        IsKnown newest (callers origin) (incoming origin) dialogue.session.caller
+    known dialogue is = subst (IsKnown newest (callers origin) (incoming origin)) (sym is) asked.known
+
     module _ (came : Progress Waiting RequestOutcome) (outcome : RequestOutcome) (given : List ℕ)
         (is : came ≡ progress.Over outcome)
         (begun : HoldBegun zero_moment request.version cred request.ask text before.holder came given now)
         (may : HoldProgress request.version request.ask came given) where
-      means : Means asked.settled cred request text outcome given (timed now before.late)
+      means : means_for (callers origin) asked.settled cred request text outcome given (timed now before.late)
       means = (
-        before,
-        asked.lapsed,
-        hold_asks_any zero_moment request.version cred ⊤ request.ask text before.holder outcome given now
-            (subst (λ (p : Progress Waiting RequestOutcome). HoldBegun zero_moment request.version cred request.ask text
-            before.holder p given now) is begun),
-        refl,
+        known_cred newest (callers origin) (incoming origin) old.dialogue.session.caller asked.asking.asking.version
+            cred
+            asked.asking.asking.caller asked.known,
+        (
+          before,
+          asked.lapsed,
+          hold_asks_any zero_moment request.version cred ⊤ request.ask text before.holder outcome given now
+              (subst (λ (p : Progress Waiting RequestOutcome). HoldBegun zero_moment request.version cred request.ask
+              text before.holder p given now) is begun),
+          refl,
+        ),
       )
 
       -- Its reply was gathered.
       pub put_reply : Puts (Ok tt) request.version outcome given old.dialogue new.dialogue →
           new.input ≡ drop size old.input →
           new.parked ≡ None → new.stopped ≡ old.stopped →
-          Sits incoming outgoing newest start origin new (timed now before.late)
+          Sits incoming outgoing callers newest start origin new (timed now before.late)
       put_reply put input parked stopped =
           let after : Timed Pass = timed now before.late in
           let stands =
-          puts newest Means SLOTS cred request text outcome given old.dialogue (begun_with start) asked.settled after
-          (incoming origin)
+          puts newest (means_for (callers origin)) SLOTS cred request text outcome given old.dialogue (begun_with start)
+          asked.settled after (incoming origin)
           (prepend_known asked.later (incoming old.connection)) asked.sent asked.asking means
           (answers request.version request.ask came given outcome is may) new.dialogue put in
           let left : new.input ≡ asked.later =
@@ -469,29 +538,34 @@ module _ {T : Type 0} (incoming outgoing : T → Option (List ℕ)) where
           record {
             sent = asked.sent;
             wrote = wrote;
+            same = same;
             at = at_ready newest start origin new after asked.sent parked (stopped ∙ asked.going) (
               after,
               ([], refl),
-              subst₂ (λ (l : List ℕ) (t : T). Stands newest Means SLOTS new.dialogue (begun_with start) after
+              subst₂ (λ (l : List ℕ) (t : T). Stands newest (means_for (callers origin)) SLOTS new.dialogue
+                  (begun_with start) after
                   (incoming origin) (prepend_known l (incoming t)) asked.sent) (sym left) (sym connection) stands,
+              known new.dialogue (ap (λ (d : Dialogue). d.session.caller) put.1),
             );
           }
 
       -- It has no reply, and the client stops.
       pub put_none : (why : End) → Puts (Err why) request.version outcome given old.dialogue new.dialogue →
           new.parked ≡ None → new.stopped ≡ Some why →
-          Sits incoming outgoing newest start origin new (timed now before.late)
+          Sits incoming outgoing callers newest start origin new (timed now before.late)
       put_none why put parked stopped =
           let after : Timed Pass = timed now before.late in
           let rest = prepend_known asked.later (incoming old.connection) in
           let stood =
-          put_ends newest Means SLOTS cred request text outcome given old.dialogue (begun_with start) asked.settled
+          put_ends newest (means_for (callers origin)) SLOTS cred request text outcome given old.dialogue (begun_with
+          start) asked.settled
           after (incoming origin)
           rest asked.sent asked.asking means (answers request.version request.ask came given outcome is may) why
           new.dialogue put in
           record {
             sent = asked.sent;
             wrote = wrote;
+            same = same;
             at = at_stopped newest start origin new after asked.sent why parked stopped (
               rest,
               subst (λ (t : T). IsBehind rest (incoming t)) (sym connection)
@@ -499,6 +573,7 @@ module _ {T : Type 0} (incoming outgoing : T → Option (List ℕ)) where
               after,
               ([], refl),
               stood,
+              known new.dialogue (put_caller request.version outcome given old.dialogue new.dialogue why put),
             );
           }
 
@@ -508,13 +583,14 @@ module _ {T : Type 0} (incoming outgoing : T → Option (List ℕ)) where
         HoldBegun zero_moment request.version cred request.ask text before.holder came given now →
         new.dialogue ≡ old.dialogue → new.input ≡ old.input →
         new.parked ≡ Some (record { cred = cred; request = request; waiting = waiting; length = size }) →
-        new.stopped ≡ old.stopped → Sits incoming outgoing newest start origin new (timed now before.late)
+        new.stopped ≡ old.stopped → Sits incoming outgoing callers newest start origin new (timed now before.late)
     parks came waiting given is begun dialogue input parked stopped =
         let waits = subst (λ (p : Progress Waiting RequestOutcome). HoldBegun zero_moment request.version cred
         request.ask text before.holder p given now) is begun in
         record {
           sent = asked.sent;
           wrote = wrote;
+          same = same;
           at = at_waiting newest start origin new (timed now before.late) asked.sent
               (record { cred = cred; request = request; waiting = waiting; length = size }) parked
               (stopped ∙ asked.going) (record {
@@ -523,7 +599,8 @@ module _ {T : Type 0} (incoming outgoing : T → Option (List ℕ)) where
                 before = before;
                 lapsed = asked.lapsed;
                 later = asked.later;
-                asking = subst₂ (λ (k : Dialogue) (t : T). StandsAsking newest Means SLOTS cred request text k
+                asking = subst₂ (λ (k : Dialogue) (t : T). StandsAsking newest (means_for (callers origin)) SLOTS cred
+                    request text k
                     (begun_with start) asked.settled
                     (incoming origin) (prepend_known asked.later (incoming t)) asked.sent) (sym dialogue)
                     (sym connection)
@@ -532,6 +609,7 @@ module _ {T : Type 0} (incoming outgoing : T → Option (List ℕ)) where
                 size = asked.whole;
                 waits = waits.0;
                 late = refl;
+                known = known new.dialogue (ap (λ (d : Dialogue). d.session.caller) dialogue);
               });
         }
 
@@ -539,28 +617,29 @@ module _ {T : Type 0} (incoming outgoing : T → Option (List ℕ)) where
 
   parked_at : (newest : Version) (start : Pass) (origin : T) (client : Sitting T) (now : Timed Pass)
       (sent : List ℕ) (parked : Parked)
-      (stopped : Option End) → IsAt incoming outgoing newest start origin client now sent (Some parked) stopped →
-      (stopped ≡ None) × IsWaiting incoming outgoing newest start origin client now sent parked
+      (stopped : Option End) → IsAt incoming outgoing callers newest start origin client now sent (Some parked) stopped
+      →
+      (stopped ≡ None) × IsWaiting incoming outgoing callers newest start origin client now sent parked
   parked_at newest start origin client now sent parked None at = (refl, at)
   parked_at newest start origin client now sent parked (Some why) at = absurd at
 
   -- A client with a parked call waits.
   pub is_waiting : (newest : Version) (start : Pass) (origin : T) (client : Sitting T) (now : Timed Pass)
       (parked : Parked) →
-      client.parked ≡ Some parked → (sits : Sits incoming outgoing newest start origin client now) →
-      (client.stopped ≡ None) × IsWaiting incoming outgoing newest start origin client now sits.sent parked
+      client.parked ≡ Some parked → (sits : Sits incoming outgoing callers newest start origin client now) →
+      (client.stopped ≡ None) × IsWaiting incoming outgoing callers newest start origin client now sits.sent parked
   is_waiting newest start origin client now parked is sits =
       parked_at newest start origin client now sits.sent parked client.stopped
-      (subst (λ (p : Option Parked). IsAt incoming outgoing newest start origin client now sits.sent p
+      (subst (λ (p : Option Parked). IsAt incoming outgoing callers newest start origin client now sits.sent p
       client.stopped) is
       sits.at)
 
   -- Its request was taken up.
   pub asked_before : (newest : Version) (start : Pass) (origin : T) (client : Sitting T) (now : Timed Pass)
       (parked : Parked)
-      (sits : Sits incoming outgoing newest start origin client now) → client.stopped ≡ None →
-      (waits : IsWaiting incoming outgoing newest start origin client now sits.sent parked) →
-      HasAsked incoming outgoing newest start origin client parked.cred parked.request waits.text parked.length
+      (sits : Sits incoming outgoing callers newest start origin client now) → client.stopped ≡ None →
+      (waits : IsWaiting incoming outgoing callers newest start origin client now sits.sent parked) →
+      HasAsked incoming outgoing callers newest start origin client parked.cred parked.request waits.text parked.length
       waits.before
   asked_before newest start origin client now parked sits going waits = record {
     sent = sits.sent;
@@ -572,6 +651,8 @@ module _ {T : Type 0} (incoming outgoing : T → Option (List ℕ)) where
     frame = waits.frame;
     whole = waits.size;
     going = going;
+    same = sits.same;
+    known = waits.known;
   }
 
   -- ---- what is taken up
@@ -579,12 +660,15 @@ module _ {T : Type 0} (incoming outgoing : T → Option (List ℕ)) where
   module _ (newest : Version) (start : Pass) (now : Timed Pass) (origin : T) (old new : Sitting T) (size : ℕ)
       (result : Result TakenUp End)
       (text : List ℕ) (free : IsFree old) (reads : ReadsNext old size result text new)
-      (sits : Sits incoming outgoing newest start origin old now) where
+      (sits : Sits incoming outgoing callers newest start origin old now) where
     stays : new.connection ≡ old.connection
     stays = ap (λ (s : Sitting T). s.connection) reads.same
 
     wrote_still : Appends (outgoing origin) (outgoing new.connection) sits.sent
     wrote_still = subst (λ (t : T). Appends (outgoing origin) (outgoing t) sits.sent) (sym stays) sits.wrote
+
+    same_still : callers new.connection ≡ callers origin
+    same_still = ap callers stays ∙ sits.same
 
     took : (is : Result TakenUp End) → result ≡ is →
         TakesUp old.dialogue.session new.dialogue.session is (Some old.input) (Some reads.rest) text
@@ -594,14 +678,15 @@ module _ {T : Type 0} (incoming outgoing : T → Option (List ℕ)) where
 
     -- A request is taken up.
     pub asks_next : (cred : Cred) (request : Request) → result ≡ Ok (Asked cred request) →
-        HasAsked incoming outgoing newest start origin new cred request text size now
+        HasAsked incoming outgoing callers newest start origin new cred request text size now
     asks_next cred request is =
         let takes = took (Ok (Asked cred request)) is in
         let took_more = takes_up_more old.dialogue.session new.dialogue.session (Ok (Asked cred request)) old.input
         reads.rest text
         (incoming old.connection) tt takes in
         let at = ready newest start origin old now free sits in
-        let stands = takes_request newest Means SLOTS cred request old.dialogue new.dialogue (begun_with start)
+        let stands = takes_request newest (means_for (callers origin)) SLOTS cred request old.dialogue new.dialogue
+        (begun_with start)
         at.0 (incoming origin)
         (prepend_known old.input (incoming old.connection)) (prepend_known reads.rest (incoming old.connection))
         sits.sent text at.2 took_more reads.unsent in
@@ -612,68 +697,81 @@ module _ {T : Type 0} (incoming outgoing : T → Option (List ℕ)) where
           settled = at.0;
           lapsed = at.1;
           asking =
-              subst (λ (t : T). StandsAsking newest Means SLOTS cred request text new.dialogue (begun_with start)
+              subst (λ (t : T). StandsAsking newest (means_for (callers origin)) SLOTS cred request text new.dialogue
+              (begun_with start)
               at.0 (incoming origin)
               (prepend_known reads.rest (incoming t)) sits.sent) (sym stays) stands;
           frame = ap (λ (s : Sitting T). s.input) reads.same ∙ takes.3.0;
           whole = read_whole size old.input (request_encoding request text) reads.rest reads.read takes.3.0;
           going = ap (λ (s : Sitting T). s.stopped) reads.same ∙ free.1;
+          same = same_still;
+          known = subst (IsKnown newest (callers origin) (incoming origin))
+              (sym (ap (λ (s : Session). s.caller) takes.4)) at.3;
         }
 
     -- What is read ends the session.
     pub stops_next : (why : End) (last : Sitting T) → result ≡ Err why → IsSettled (Err why) (incoming old.connection) →
-        last ≡ stopped_for why new → Sits incoming outgoing newest start origin last now
+        last ≡ stopped_for why new → Sits incoming outgoing callers newest start origin last now
     stops_next why last is settled same =
         let took_more = takes_up_more old.dialogue.session new.dialogue.session (Err why) old.input reads.rest text
         (incoming old.connection) settled (took (Err why) is) in
         let rest = prepend_known reads.rest (incoming old.connection) in
         let at = ready newest start origin old now free sits in
-        let stood = stops newest Means SLOTS why old.dialogue new.dialogue (begun_with start) at.0 (incoming origin)
+        let stood = stops newest (means_for (callers origin)) SLOTS why old.dialogue new.dialogue (begun_with start)
+        at.0 (incoming origin)
         (prepend_known old.input (incoming old.connection)) rest sits.sent text at.2 took_more reads.unsent in
-        let at_new : HasStopped incoming outgoing newest start origin (stopped_for why new) now sits.sent why = (
+        let next = stopped_for why new in
+        let at_new : HasStopped incoming outgoing callers newest start origin next now sits.sent why = (
           rest,
           subst (λ (t : T). IsBehind rest (incoming t)) (sym stays)
               (behind reads.rest (incoming old.connection)),
           at.0,
           at.1,
           stood,
+          subst (IsKnown newest (callers origin) (incoming origin))
+              (sym (ap (λ (s : Session). s.caller) (took (Err why) is).0)) at.3,
         ) in
-        subst (λ (s : Sitting T). Sits incoming outgoing newest start origin s now) (sym same)
+        subst (λ (s : Sitting T). Sits incoming outgoing callers newest start origin s now) (sym same)
         (record {
           sent = sits.sent;
           wrote = wrote_still;
+          same = same_still;
           at = at_stopped newest start origin (stopped_for why new) now sits.sent why
               (ap (λ (s : Sitting T). s.parked) reads.same ∙ free.0) refl at_new;
         })
 
-    -- A hello is taken up, and its reply is gathered, or memory is refused for it.
+    -- A hello is taken up whose caller is let in. Its reply is gathered, or memory is refused for it.
     greeted : (version : Version) (last : Sitting T) (settled : Timed Pass) → LapsesTo zero_moment settled now →
         StandsGreeting newest version new.dialogue (begun_with start) settled (incoming origin)
         (prepend_known (drop size new.input) (incoming new.connection)) sits.sent →
+        IsKnown newest (callers origin) (incoming origin) new.dialogue.session.caller →
         GreetsAs version (with_input (drop size new.input) new) last →
-        Sits incoming outgoing newest start origin last now
-    greeted version last settled lapsed stands (inl same) =
+        Sits incoming outgoing callers newest start origin last now
+    greeted version last settled lapsed stands known (inl same) =
         let answered = conversing (gathered (with_frame (hello_frame version SLOTS)) new.dialogue)
         (with_input (drop size new.input) new) in
-        subst (λ (s : Sitting T). Sits incoming outgoing newest start origin s now) (sym same)
+        subst (λ (s : Sitting T). Sits incoming outgoing callers newest start origin s now) (sym same)
         (record {
           sent = sits.sent;
           wrote = wrote_still;
+          same = same_still;
           at = at_ready newest start origin answered now sits.sent (ap (λ (s : Sitting T). s.parked) reads.same ∙
               free.0)
               (ap (λ (s : Sitting T). s.stopped) reads.same ∙ free.1) (
                 settled,
                 lapsed,
-                greets newest Means SLOTS version new.dialogue answered.dialogue (begun_with start) settled
-                    (incoming origin) (prepend_known (drop size new.input) (incoming new.connection)) sits.sent stands
-                    refl,
+                greets newest (means_for (callers origin)) SLOTS version new.dialogue answered.dialogue
+                    (begun_with start) settled (incoming origin)
+                    (prepend_known (drop size new.input) (incoming new.connection)) sits.sent stands refl,
+                known,
               );
         })
-    greeted version last settled lapsed stands (inr same) =
-        subst (λ (s : Sitting T). Sits incoming outgoing newest start origin s now) (sym same)
+    greeted version last settled lapsed stands known (inr same) =
+        subst (λ (s : Sitting T). Sits incoming outgoing callers newest start origin s now) (sym same)
         (record {
           sent = sits.sent;
           wrote = wrote_still;
+          same = same_still;
           at = at_stopped newest start origin (stopped_for NoMemory (with_input (drop size new.input) new)) now
               sits.sent
               NoMemory
@@ -682,30 +780,116 @@ module _ {T : Type 0} (incoming outgoing : T → Option (List ℕ)) where
                 behind (drop size new.input) (incoming new.connection),
                 settled,
                 lapsed,
-                greet_ends newest Means SLOTS version new.dialogue (begun_with start) settled (incoming origin)
-                    (prepend_known (drop size new.input) (incoming new.connection)) sits.sent stands,
+                greet_ends newest (means_for (callers origin)) SLOTS version new.dialogue (begun_with start) settled
+                    (incoming origin) (prepend_known (drop size new.input) (incoming new.connection)) sits.sent stands,
+                known,
               );
         })
 
-    pub greets_next : (version : Version) (last : Sitting T) → result ≡ Ok (Hello version) →
-        GreetsAs version (with_input (drop size new.input) new) last →
-        Sits incoming outgoing newest start origin last now
-    greets_next version last is greets_as =
+    -- A hello is taken up whose caller is not let in. The answer is gathered, or memory is refused for it.
+    denied : (version : Version) (last : Sitting T) (settled : Timed Pass) → LapsesTo zero_moment settled now →
+        (stands : StandsGreeting newest version new.dialogue (begun_with start) settled (incoming origin)
+        (prepend_known (drop size new.input) (incoming new.connection)) sits.sent) →
+        includes (callers origin) stands.greets.cred ≡ false →
+        Denies version (with_input (drop size new.input) new) last →
+        Sits incoming outgoing callers newest start origin last now
+    denied version last settled lapsed stands other (inl same) =
+        let answered = stopped_for NoHello (conversing (gathered (with_frame (denial_frame version)) new.dialogue)
+        (with_input (drop size new.input) new)) in
+        subst (λ (s : Sitting T). Sits incoming outgoing callers newest start origin s now) (sym same)
+        (record {
+          sent = sits.sent;
+          wrote = wrote_still;
+          same = same_still;
+          at = at_denied newest start origin answered now sits.sent NoHello
+              (ap (λ (s : Sitting T). s.parked) reads.same ∙ free.0) refl (record {
+                version = version;
+                cred = stands.greets.cred;
+                known = stands.greets.known;
+                other = other;
+                rest = prepend_known (drop size new.input) (incoming new.connection);
+                reads = stands.greets.reads;
+                behind = behind (drop size new.input) (incoming new.connection);
+                handler = unlapsed start settled now stands.greets.handler lapsed;
+                gathered = sym (append_assoc sits.sent new.dialogue.unsent.bytes (denial_frame version))
+                    ∙ ap (λ (l : List ℕ). l ++ denial_frame version)
+                    (nothing_yet sits.sent new.dialogue stands.replies stands.greets.gathered stands.gathers).0;
+                marks = (nothing_yet sits.sent new.dialogue stands.replies stands.greets.gathered stands.gathers).1;
+                tallies = (nothing_yet sits.sent new.dialogue stands.replies stands.greets.gathered stands.gathers).2;
+                counts = stands.greets.counts;
+              });
+        })
+    denied version last settled lapsed stands other (inr same) =
+        let refused = stopped_for NoMemory (with_input (drop size new.input) new) in
+        subst (λ (s : Sitting T). Sits incoming outgoing callers newest start origin s now) (sym same)
+        (record {
+          sent = sits.sent;
+          wrote = wrote_still;
+          same = same_still;
+          at = at_denied newest start origin refused now sits.sent NoMemory
+              (ap (λ (s : Sitting T). s.parked) reads.same ∙ free.0) refl (record {
+                version = version;
+                cred = stands.greets.cred;
+                known = stands.greets.known;
+                other = other;
+                rest = prepend_known (drop size new.input) (incoming new.connection);
+                reads = stands.greets.reads;
+                behind = behind (drop size new.input) (incoming new.connection);
+                handler = unlapsed start settled now stands.greets.handler lapsed;
+                gathered = (nothing_yet sits.sent new.dialogue stands.replies stands.greets.gathered stands.gathers).0;
+                marks = (nothing_yet sits.sent new.dialogue stands.replies stands.greets.gathered stands.gathers).1;
+                tallies = (nothing_yet sits.sent new.dialogue stands.replies stands.greets.gathered stands.gathers).2;
+                counts = stands.greets.counts;
+              });
+        })
+
+    -- A hello is taken up. `is_let_in` is whether its caller is let in, whichever it is.
+    answered_as : (version : Version) (last : Sitting T) (is_let_in : Bool) (settled : Timed Pass) →
+        LapsesTo zero_moment settled now →
+        (stands : StandsGreeting newest version new.dialogue (begun_with start) settled (incoming origin)
+        (prepend_known (drop size new.input) (incoming new.connection)) sits.sent) →
+        includes (callers origin) stands.greets.cred ≡ is_let_in →
+        MatchBool is_let_in (GreetsAs version (with_input (drop size new.input) new) last)
+        (Denies version (with_input (drop size new.input) new) last) →
+        Sits incoming outgoing callers newest start origin last now
+    answered_as version last true settled lapsed stands included answers =
+        greeted version last settled lapsed stands
+        (subst (IsKnown newest (callers origin) (incoming origin)) (sym stands.greets.caller) (
+          included,
+          stands.greets.known,
+          (prepend_known (drop size new.input) (incoming new.connection), stands.greets.reads),
+        )) answers
+    answered_as version last false settled lapsed stands included answers =
+        denied version last settled lapsed stands included answers
+
+    pub greets_next : (version : Version) (last : Sitting T) (is_let_in : Bool) → result ≡ Ok (Hello version) →
+        ((cred : Cred) (later : List ℕ) → FitsAsk (kind.Hello cred) →
+        old.input ≡ hello_encoding version cred ++ later → is_let_in ≡ includes (callers old.connection) cred) →
+        MatchBool is_let_in (GreetsAs version (with_input (drop size new.input) new) last)
+        (Denies version (with_input (drop size new.input) new) last) →
+        Sits incoming outgoing callers newest start origin last now
+    greets_next version last is_let_in is lets answers =
         let takes = took (Ok (Hello version)) is in
         let encoded = takes.2.1 in
         let took_more =
         takes_up_more old.dialogue.session new.dialogue.session (Ok (Hello version)) old.input reads.rest text
         (incoming old.connection) tt takes in
         let at = ready newest start origin old now free sits in
-        let stands = takes_hello newest Means SLOTS version old.dialogue new.dialogue (begun_with start) at.0
-        (incoming origin)
+        let stands = takes_hello newest (means_for (callers origin)) SLOTS version old.dialogue new.dialogue
+        (begun_with start) at.0 (incoming origin)
         (prepend_known old.input (incoming old.connection)) (prepend_known reads.rest (incoming old.connection))
         sits.sent text at.2 took_more reads.unsent in
         let input : new.input ≡ old.input = ap (λ (s : Sitting T). s.input) reads.same in
         let left : drop size new.input ≡ reads.rest =
         drops size new.input _ reads.rest (read_whole size old.input _ reads.rest reads.read encoded)
         (input ∙ encoded) in
-        greeted version last at.0 at.1
-        (subst₂ (λ (l : List ℕ) (t : T). StandsGreeting newest version new.dialogue (begun_with start) at.0
-        (incoming origin)
-        (prepend_known l (incoming t)) sits.sent) (sym left) (sym stays) stands) greets_as
+        let there = subst₂ (λ (l : List ℕ) (t : T). StandsGreeting newest version new.dialogue (begun_with start) at.0
+        (incoming origin) (prepend_known l (incoming t)) sits.sent) (sym left) (sym stays) stands in
+        let same : there.greets.cred ≡ takes.0 =
+        one_caller version there.greets.cred takes.0 new.dialogue.session.caller there.greets.caller
+        (ap (λ (s : Session). s.caller) takes.3) in
+        let told : is_let_in ≡ includes (callers old.connection) takes.0 =
+        lets takes.0 reads.rest takes.2.0.0.0 encoded in
+        answered_as version last is_let_in at.0 at.1 there
+        (ap (includes (callers origin)) same
+        ∙ (ap (λ (c : Callers). includes c takes.0) (sym sits.same) ∙ sym told)) answers

@@ -1,8 +1,11 @@
 pub mod Sessions
 pub mod PieceAnswers
 pub mod SendFrame
+pub mod HelloFrame
 pub mod HeldPieces
+pub mod LetIn
 pub mod ClientLemmas
+pub mod ClientEnds
 pub mod ClientSteps
 pub mod Said
 pub mod Returns

@@ -1,10 +1,10 @@
 -- What the events of a client keep: it stops for what the reads of its connection have said.
 use Rattle.std.proofs.Common.{◌≡◌, ◌≢◌, ◌⊎◌, ℕ, Bool, List, [], ◌∷◌, Option, Result, Err, None, Some}
 use Rattle.std.proofs.Common.{refl, sym, ap, subst, ◌∙◌, inl, inr}
-use Rattle.std.specs.Prelude.{false, true, is_some, unwrap_or}
+use Rattle.std.specs.Prelude.{MatchBool, false, true, is_some, unwrap_or}
 use Rattle.sysv_session.specs.declared.handler.RequestOutcome.{RequestOutcome}
 use Rattle.sysv_session.specs.declared.served.End.{End}
-use Rattle.sysv_session.specs.declared.served.End.TheVariants.{Fault, Left, NoMemory, Reset, Write}
+use Rattle.sysv_session.specs.declared.served.End.TheVariants.{Fault, Left, NoHello, NoMemory, Reset, Write}
 use Rattle.sysv_session.specs.declared.session.Session.{Session}
 use Rattle.sysv_session.specs.declared.session.TakenUp.{TakenUp}
 use Rattle.sysv_session.specs.Answers.{IsReplied}
@@ -15,9 +15,10 @@ use Rattle.sysv_wire.specs.declared.frame.Version.{Version}
 use Rattle.sysv_seats.specs.declared.non_blocking.Over.{Over}
 use Rattle.sysv_seats.specs.declared.non_blocking.Over.TheVariants as over
 use Rattle.sysv_seats.specs.declared.parked.Parked.{Parked}
+use Rattle.sysv_seats.specs.declared.callers.Callers.TheVariants.{Anyone}
 use Rattle.sysv_seats.specs.Breaking.{Breaks, MayEnd}
 use Rattle.sysv_seats.specs.Said.{EndsAsSaid, IsAsSaid, KeepsAsSaid, StopsAsSaid}
-use Rattle.sysv_seats.specs.Sits.{Arrives, GreetsAs, IsFree, Sitting, broken_off_for, conversing, end_at_close}
+use Rattle.sysv_seats.specs.Sits.{Arrives, Denies, GreetsAs, IsFree, Sitting, broken_off_for, conversing, end_at_close}
 use Rattle.sysv_seats.specs.Sits.{is_early, stopped_for}
 use Rattle.sysv_seats.specs.Untold.{Closing}
 use Rattle.sysv_seats.proofs.ClientLemmas.{put_cause, taken_cause}
@@ -30,6 +31,7 @@ unbroken = record {
   writing = false;
   leaving = false;
   limits = record { idle = false; stall = false; drain = false };
+  callers = Anyone;
 }
 
 -- What stops a client of such a connection is no reset.
@@ -195,13 +197,27 @@ module _ {T B : Type 0} (closes : Closing T B) where
       (record { stops = broken (closes.said mid.connection) mid.parked mid.stopped why other (keeps has).stops })
 
   -- The reply to a hello was gathered, or memory for it was refused.
-  pub said_greeted : (client new : Sitting T) (version : Version) → client.stopped ≡ None →
+  said_greeted : (client new : Sitting T) (version : Version) → client.stopped ≡ None →
       GreetsAs version client new → KeepsAsSaid closes client new
   said_greeted client new version going (inl is) =
       said_same client new (ap (λ (c : Sitting T). closes.said c.connection) is) (ap (λ (c : Sitting T). c.parked) is)
       (ap (λ (c : Sitting T). c.stopped) is)
   said_greeted client new version going (inr is) =
       stops_for client new NoMemory (λ (no : NoMemory ≡ Reset). absurd (cc no)) going is
+
+  -- The answer to a hello that is not let in was gathered, or memory for it was refused.
+  said_denied : (client new : Sitting T) (version : Version) → client.stopped ≡ None →
+      Denies version client new → KeepsAsSaid closes client new
+  said_denied client new version going (inl is) =
+      said_stops client new NoHello (λ (no : NoHello ≡ Reset). absurd (cc no)) (inl going)
+      (ap (λ (c : Sitting T). c.connection) is) (ap (λ (c : Sitting T). c.stopped) is)
+  said_denied client new version going (inr is) =
+      stops_for client new NoMemory (λ (no : NoMemory ≡ Reset). absurd (cc no)) going is
+
+  pub said_answered : (client new : Sitting T) (version : Version) (is_let_in : Bool) → client.stopped ≡ None →
+      MatchBool is_let_in (GreetsAs version client new) (Denies version client new) → KeepsAsSaid closes client new
+  said_answered client new version true going answers = said_greeted client new version going answers
+  said_answered client new version false going answers = said_denied client new version going answers
 
   -- Bytes were read, or memory for them was refused.
   arrived : (client new : Sitting T) (bytes : List ℕ) → client.stopped ≡ None → Arrives bytes client new →

@@ -5,23 +5,33 @@ use Rattle.sysv_session.specs.declared.served.End.{End}
 use Rattle.sysv_session.specs.declared.served.End.TheVariants.{Ended, NoMemory, NoHello, Fault, Write, Bound, Left}
 use Rattle.sysv_session.specs.declared.served.End.TheVariants.{Reset}
 use Rattle.sysv_session.specs.declared.served.Served.{Served}
+use Rattle.sysv_seats.specs.declared.callers.Callers.{Callers}
 use Rattle.sysv_seats.specs.declared.limits.Limits.{Limits}
 use Rattle.sysv_wire.specs.declared.fault.Fault.TheVariants.{Truncated, TooLong, BadOp, BadField, Read}
 
 -- What may happen to a connection: a read of it may fail, a read may find that its client has reset it, a
 -- write to it may fail, its client may leave a call that waits, and the server may cut it off under
--- these limits. A cut ends reading and writing too.
+-- these limits. A cut ends reading and writing too. The server lets in only these callers: a session with the hello of
+-- another one ends with that.
 pub record Breaks : Type 0 where
   pub reading : Bool
   pub resetting : Bool
   pub writing : Bool
   pub leaving : Bool
   pub limits : Limits
+  pub callers : Callers
 
 -- Everything may happen to the connection, except that the server cuts it off under no other limits than
--- these.
-abbrev pub any_under : Limits → Breaks
-any_under limits = record { reading = true; resetting = true; writing = true; leaving = true; limits = limits }
+-- these, and lets in no other callers.
+abbrev pub any_under : Limits → Callers → Breaks
+any_under limits callers = record {
+  reading = true;
+  resetting = true;
+  writing = true;
+  leaving = true;
+  limits = limits;
+  callers = callers;
+}
 
 -- A session on such a connection may end for this reason. It ends with a read that failed only if
 -- reading may break off, with a reset only if a client may reset the connection, and with replies that

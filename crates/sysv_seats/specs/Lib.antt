@@ -7,6 +7,7 @@ pub mod Parked
 pub mod Notification
 pub mod InPieces
 pub mod Limits
+pub mod Callers
 pub mod Shares
 pub mod Breaking
 pub mod Untold
@@ -16,6 +17,7 @@ pub mod Sockets
 pub mod PacedStreams
 pub mod Holding
 pub mod Held
+pub mod LettingIn
 pub mod Sits
 pub mod Said
 pub mod GivingBack

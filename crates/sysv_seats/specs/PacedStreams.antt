@@ -2,6 +2,7 @@
 use Rattle.std.specs.Prelude.{◌≡◌, ◌-◌, ◌^◌, ◌==◌, ◌&&◌, ◌||◌, ◌++◌, ℕ, Bool, true, false, ⊤, not, List, [], ◌∷◌}
 use Rattle.std.specs.Prelude.{length, min, take, drop}
 use Rattle.std.specs.Prelude.{Option, None, Some, if◌then◌else◌}
+use Rattle.sysv_seats.specs.declared.callers.Callers.{Callers}
 use Rattle.sysv_seats.specs.declared.memory_stream.Step.{Step}
 use Rattle.sysv_seats.specs.declared.memory_stream.Step.TheVariants as step
 use Rattle.sysv_seats.specs.declared.non_blocking.Drained.{Drained}
@@ -14,7 +15,8 @@ use Rattle.sysv_seats.specs.Breaking.{Breaks}
 
 -- What the contracts see of a stream in memory: the bytes still to be read, those that were
 -- written, the number of bytes that can still be written, the steps of its next reads and writes, why
--- nothing more can be read, if a read has said so, and whether its client may leave or be cut off.
+-- nothing more can be read, if a read has said so, whether its client may leave or be cut off, and the callers that
+-- it lets in.
 pub record PacedStream : Type 0 where
   pub unread : List ℕ
   pub written : List ℕ
@@ -23,6 +25,7 @@ pub record PacedStream : Type 0 where
   pub writes : List Step
   pub said : Option Over
   pub cut : Bool
+  pub callers : Callers
 
 -- The step of the next read or write. After the last step there is no limit.
 abbrev pub next_step : List Step → Step
@@ -150,4 +153,5 @@ breaks_of stream = record {
   writing = has_failing stream.writes || stream.cut;
   leaving = stream.cut;
   limits = record { idle = stream.cut; stall = stream.cut; drain = stream.cut };
+  callers = stream.callers;
 }

@@ -3,7 +3,7 @@
 -- that is parked, or has stopped: then it takes up no more, and the replies that were gathered are
 -- still given to its connection.
 use Rattle.std.specs.Prelude.{◌≡◌, ◌≤◌, ◌<◌, ◌+◌, ◌-◌, ◌⊎◌, ◌^◌, ◌||◌, ◌&&◌, ◌==◌, ⊤, ℕ, Bool, true, false, not, List}
-use Rattle.std.specs.Prelude.{◌++◌}
+use Rattle.std.specs.Prelude.{[], ◌++◌}
 use Rattle.std.specs.Prelude.{Option, None, Some, is_some, unwrap_or}
 use Rattle.std.specs.Prelude.{IfSome, Result, length}
 use Rattle.std.specs.Io.KnownBytes.{Appends, Consumes, prepend_known}
@@ -15,7 +15,9 @@ use Rattle.sysv_session.specs.declared.served.Served.{Served}
 use Rattle.sysv_session.specs.declared.served.End.TheVariants.{Ended, NoMemory, NoHello, Fault, Write, Bound, Left}
 use Rattle.sysv_session.specs.declared.served.End.TheVariants.{Reset}
 use Rattle.sysv_session.specs.declared.session.TakenUp.{TakenUp}
+use Rattle.sysv_session.specs.Calls.{Meaning}
 use Rattle.sysv_session.specs.Conversation.{Dialogue, gathered}
+use Rattle.sysv_session.specs.Input.{FitsHello, hello_encoding}
 use Rattle.sysv_session.specs.Outbox.{with_frame}
 use Rattle.sysv_session.specs.Output.{hello_frame}
 use Rattle.sysv_session.specs.TakenUp.{TakesUp}
@@ -31,8 +33,11 @@ use Rattle.sysv_wire.specs.Requests.{request_encoding}
 use Rattle.sysv_seats.specs.declared.parked.Parked.{Parked}
 use Rattle.sysv_seats.specs.declared.waiting.Waiting.{Waiting}
 use Rattle.sysv_seats.specs.declared.waiting.Waiting.TheVariants.{Send, Receive, Get}
-use Rattle.sysv_seats.specs.Held.{HoldParked, LapsesTo, ServesHolding, holds_with}
+use Rattle.sysv_seats.specs.declared.callers.Callers.{Callers}
+use Rattle.sysv_seats.specs.Callers.{includes}
+use Rattle.sysv_seats.specs.Held.{HoldParked, LapsesTo, holds_with}
 use Rattle.sysv_seats.specs.Holding.{Holder, Timed, begun_with, timed}
+use Rattle.sysv_seats.specs.LettingIn.{ServesFor, by_callers, denial_frame}
 use Rattle.sysv_seats.specs.Untold.{Closing}
 
 -- What the parked call waits for, if a call is parked.
@@ -80,7 +85,26 @@ IsBehind rest kept = (ahead : List ℕ) × Consumes rest kept ahead
 abbrev pub zero_moment : ℕ → Type 0
 zero_moment now = now ≡ 0
 
-module _ {T : Type 0} (incoming outgoing : T → Option (List ℕ)) where
+-- What the calls of a client's session mean whose connection lets in these callers.
+abbrev pub means_for : Callers → Meaning (Timed Pass)
+means_for callers = by_callers callers (holds_with zero_moment ⊤)
+
+-- The hello that was taken up of this input, if one was, is one of this newest version, and states the credentials of a
+-- caller who is let in.
+abbrev pub IsKnown : Version → Callers → Option (List ℕ) → Option (Version × Cred) → Type 0
+IsKnown newest callers left None = ⊤
+IsKnown newest callers left (Some caller) = (includes callers caller.1 ≡ true) × FitsHello newest caller.0 caller.1
+    × ((behind : Option (List ℕ)) × Consumes left behind (hello_encoding caller.0 caller.1))
+
+-- The answer to a hello of this version that is not let in was gathered, or memory for it was refused. These are all
+-- bytes that were gathered.
+abbrev pub GathersDenial : Version → End → List ℕ → Type 0
+GathersDenial version NoHello bytes = bytes ≡ denial_frame version
+GathersDenial version NoMemory bytes = bytes ≡ []
+GathersDenial version why bytes = ⊥
+
+-- `callers` are the callers that a connection lets in.
+module _ {T : Type 0} (incoming outgoing : T → Option (List ℕ)) (callers : T → Callers) where
   -- The input that was not taken up: what has arrived of it, and then what the connection still has.
   abbrev pub unread : Sitting T → Option (List ℕ)
   unread client = prepend_known client.input (incoming client.connection)
@@ -90,8 +114,9 @@ module _ {T : Type 0} (incoming outgoing : T → Option (List ℕ)) where
   -- has an outcome; since then the time of what it holds may have been over.
   abbrev pub IsReady : Version → Pass → T → Sitting T → Timed Pass → List ℕ → Type 0
   IsReady newest start origin client now sent = (settled : Timed Pass) × LapsesTo zero_moment settled now
-      × Stands newest (holds_with zero_moment ⊤) SLOTS client.dialogue (begun_with start) settled (incoming origin)
+      × Stands newest (means_for (callers origin)) SLOTS client.dialogue (begun_with start) settled (incoming origin)
       (unread client) sent
+      × IsKnown newest (callers origin) (incoming origin) client.dialogue.session.caller
 
   -- The request of this call was taken up, and its frame is still at the front of the input. The call was
   -- begun with the pass of `before`, and waits.
@@ -102,34 +127,56 @@ module _ {T : Type 0} (incoming outgoing : T → Option (List ℕ)) where
     pub before : Timed Pass
     pub lapsed : LapsesTo zero_moment settled before
     pub later : List ℕ
-    pub asking : StandsAsking newest (holds_with zero_moment ⊤) SLOTS parked.cred parked.request text client.dialogue
+    pub asking : StandsAsking newest (means_for (callers origin)) SLOTS parked.cred parked.request text client.dialogue
         (begun_with start) settled (incoming origin) (prepend_known later (incoming client.connection)) sent
     pub frame : client.input ≡ request_encoding parked.request text ++ later
     pub size : parked.length ≡ length (request_encoding parked.request text)
     pub waits : HoldParked zero_moment parked.cred parked.request.ask text before.holder parked.waiting now.holder
     pub late : now.late ≡ before.late
+    pub known : IsKnown newest (callers origin) (incoming origin) client.dialogue.session.caller
 
   -- It takes up no more, for this reason.
   abbrev pub HasStopped : Version → Pass → T → Sitting T → Timed Pass → List ℕ → End → Type 0
   HasStopped newest start origin client now sent why =
       (rest : Option (List ℕ)) × IsBehind rest (incoming client.connection)
       × (settled : Timed Pass) × LapsesTo zero_moment settled now
-      × Stopped newest (holds_with zero_moment ⊤) SLOTS why client.dialogue (begun_with start) settled (incoming origin)
+      × Stopped newest (means_for (callers origin)) SLOTS why client.dialogue (begun_with start) settled (incoming
+      origin)
       rest sent
+      × IsKnown newest (callers origin) (incoming origin) client.dialogue.session.caller
+
+  -- Its hello was taken up and is not let in. It made no call, and takes up no more, for this reason. The answer to the
+  -- hello was gathered, unless memory for it was refused.
+  pub record HasDenied (newest : Version) (start : Pass) (origin : T) (client : Sitting T) (now : Timed Pass)
+      (sent : List ℕ) (why : End) : Type 0 where
+    pub version : Version
+    pub cred : Cred
+    pub known : FitsHello newest version cred
+    pub other : includes (callers origin) cred ≡ false
+    pub rest : Option (List ℕ)
+    pub reads : Consumes (incoming origin) rest (hello_encoding version cred)
+    pub behind : IsBehind rest (incoming client.connection)
+    pub handler : now ≡ begun_with start
+    pub gathered : GathersDenial version why (sent ++ client.dialogue.unsent.bytes)
+    pub marks : client.dialogue.unsent.marks ≡ []
+    pub tallies : client.dialogue.session.tally ≡ record { written = 0; lost = 0 }
+    pub counts : client.dialogue.session.requests ≡ 1
 
   abbrev pub IsAt : Version → Pass → T → Sitting T → Timed Pass → List ℕ → Option Parked → Option End → Type 0
   IsAt newest start origin client now sent None None = IsReady newest start origin client now sent
   IsAt newest start origin client now sent (Some parked) None = IsWaiting newest start origin client now sent parked
-  IsAt newest start origin client now sent None (Some why) = HasStopped newest start origin client now sent why
+  IsAt newest start origin client now sent None (Some why) =
+      HasStopped newest start origin client now sent why ⊎ HasDenied newest start origin client now sent why
   IsAt newest start origin client now sent (Some parked) (Some why) = ⊥
 
-  -- The client's session began with the pass `start`, on the connection `origin`. Its connection has
-  -- taken these bytes of its replies since then. `now` is the pass now, what the session holds, and what was
-  -- given back since its time was over.
+  -- The client's session began with the pass `start`, on the connection `origin`, and lets in the callers that this
+  -- connection lets in. Its connection has taken these bytes of its replies since then. `now` is the pass now, what the
+  -- session holds, and what was given back since its time was over.
   pub record Sits (newest : Version) (start : Pass) (origin : T) (client : Sitting T) (now : Timed Pass) :
       Type 0 where
     pub sent : List ℕ
     pub wrote : Appends (outgoing origin) (outgoing client.connection) sent
+    pub same : callers client.connection ≡ callers origin
     pub at : IsAt newest start origin client now sent client.parked client.stopped
 
   -- The client's session, which began with the pass `start` on the connection `origin`, is over. It
@@ -139,7 +186,8 @@ module _ {T : Type 0} (incoming outgoing : T → Option (List ℕ)) where
     pub rest : Option (List ℕ)
     pub kept : Option (List ℕ)
     pub more : Option (List ℕ)
-    pub serves : ServesHolding newest zero_moment ⊤ served start now (incoming origin) rest (outgoing origin) more
+    pub serves : ServesFor newest (callers origin) zero_moment ⊤ served start now (incoming origin) rest
+        (outgoing origin) more
     pub behind : IsBehind rest kept
     pub closed : closes.leaves book kept more book'
 
@@ -161,11 +209,13 @@ module _ {T : Type 0} (incoming outgoing : T → Option (List ℕ)) where
     pub later : List ℕ
     pub settled : Timed Pass
     pub lapsed : LapsesTo zero_moment settled before
-    pub asking : StandsAsking newest (holds_with zero_moment ⊤) SLOTS cred request text client.dialogue
+    pub asking : StandsAsking newest (means_for (callers origin)) SLOTS cred request text client.dialogue
         (begun_with start) settled (incoming origin) (prepend_known later (incoming client.connection)) sent
     pub frame : client.input ≡ request_encoding request text ++ later
     pub whole : size ≡ length (request_encoding request text)
     pub going : client.stopped ≡ None
+    pub same : callers client.connection ≡ callers origin
+    pub known : IsKnown newest (callers origin) (incoming origin) client.dialogue.session.caller
 
 -- ---- steps within an event
 
@@ -239,6 +289,13 @@ module _ {T : Type 0} where
   -- The reply to a hello of this version was gathered, or memory for it was refused.
   abbrev pub GreetsAs : Version → Sitting T → Sitting T → Type 0
   GreetsAs version old new = (new ≡ conversing (gathered (with_frame (hello_frame version SLOTS)) old.dialogue) old)
+      ⊎ (new ≡ stopped_for NoMemory old)
+
+  -- The answer to a hello of this version that is not let in was gathered, or memory for it was refused. Nothing more
+  -- is taken up.
+  abbrev pub Denies : Version → Sitting T → Sitting T → Type 0
+  Denies version old new =
+      (new ≡ stopped_for NoHello (conversing (gathered (with_frame (denial_frame version)) old.dialogue) old))
       ⊎ (new ≡ stopped_for NoMemory old)
 
   -- This was taken up at the front of the input, or this is why nothing was. So many bytes were

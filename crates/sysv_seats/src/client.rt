@@ -1,11 +1,14 @@
 //! A client of a server.
-ghost use Rattle.std.specs.Prelude.{◌≡◌, ◌≢◌, ◌≤◌, ◌==◌, ◌⊎◌, ℕ, List, [], ◌++◌, None, Ok, Some, true, false, is_some, not, length};
+ghost use Rattle.std.specs.Prelude.{◌≡◌, ◌≢◌, ◌≤◌, ◌==◌, ◌⊎◌, ℕ, List, [], ◌++◌, MatchBool, None, Ok, Some, true, false, is_some, not, length};
 ghost use Rattle.std.specs.Io.KnownBytes.{IsAtEnd};
 ghost use Rattle.sysv_service.specs.Ran.{Pass};
 ghost use Rattle.sysv_session.specs.Answers.{IsAsked};
+ghost use Rattle.sysv_session.specs.Input.{hello_encoding};
 ghost use Rattle.sysv_session.specs.TakenUp.{TakesUp};
-ghost use Rattle.sysv_wire.specs.Requests.{op_of, request_encoding};
+ghost use Rattle.sysv_wire.specs.Requests.{FitsAsk, op_of, request_encoding};
 ghost use Rattle.sysv_seats.specs.Breaking.{MayBreak, MayEnd};
+ghost use Rattle.sysv_seats.specs.Callers.{includes};
+ghost use Rattle.sysv_seats.specs.Untold.{lets_in};
 ghost use Rattle.sysv_seats.specs.Limits.{has_limit};
 ghost use Rattle.sysv_seats.specs.HandlesKept.{KeepsHandles};
 ghost use Rattle.sysv_seats.specs.Notification.{Keeps as KeepsNotification, notifications_of, told_of};
@@ -15,9 +18,10 @@ ghost use Rattle.sysv_seats.specs.Parked.{IsReplied};
 ghost use Rattle.sysv_seats.specs.Holding.{Holder, Timed, begun_with, timed};
 ghost use Rattle.sysv_seats.specs.Held.{HoldBegun, HoldProgress, holder_of};
 ghost use Rattle.sysv_seats.specs.Said.{EndsAsSaid, IsAsSaid, KeepsAsSaid};
-ghost use Rattle.sysv_seats.specs.Sits.{Arrives, GreetsAs, HasAsked, IsFree, IsOver, IsPending, Keeps, KeepsWith, ReadsNext, Sits, broken_off_for, end_at_close, is_back_parked, is_early as early, is_finished, is_hold_parked, parked_bytes, parked_wait, stopped_for, zero_moment};
+ghost use Rattle.sysv_seats.specs.Sits.{Arrives, Denies, GreetsAs, HasAsked, IsFree, IsOver, IsPending, Keeps, KeepsWith, ReadsNext, Sits, broken_off_for, end_at_close, is_back_parked, is_early as early, is_finished, is_hold_parked, parked_bytes, parked_wait, stopped_for, zero_moment};
 
-use crate::keeper::Keeper;
+use crate::hello_frame::hello_cred;
+use crate::keeper::{Keeper, refusal};
 use crate::limits::Limit;
 use crate::non_blocking::{Drained, Filled, NonBlocking, Over};
 use crate::notification::Told;
@@ -31,7 +35,7 @@ use std::io::Read;
 use std::marker::Model;
 use std::sync::Wait;
 use sysv_keys::SLOTS;
-use sysv_model::{Body, Cred, Instrumented, MESSAGE_BYTES};
+use sysv_model::{Body, Cred, Errno, Instrumented, MESSAGE_BYTES};
 use sysv_service::Progress;
 use sysv_session::{Conversation, End, RequestOutcome, Served, TakenUp};
 use sysv_wire::{Ask, Fault, FrameIn, Op, Request, Version, frame_in_up_to};
@@ -100,11 +104,12 @@ impl<T: NonBlocking> Model for Client<T> {
 
 impl<T: NonBlocking> Client<T> {
     /// Creates the client of a connection from which nothing was read. Its session reads versions
-    /// up to `newest`. Allocates nothing.
+    /// up to `newest`, and lets in the callers that the connection lets in. Allocates nothing.
     pub fn open(alloc: Global, connection: T, newest: Version) -> Client<T>
         ensures connection { result.connection ≡ connection }
         ensures sits { (pass : Pass) →
-            Sits T.incoming T.outgoing newest pass connection result (begun_with pass) }
+            Sits T.incoming T.outgoing (lets_in T.closes) newest pass connection
+            result (begun_with pass) }
         ensures said { T.closes.said connection ≡ None → IsAsSaid T.closes result }
     {
         Client {
@@ -255,7 +260,7 @@ impl<T: NonBlocking> Client<T> {
     /// Learns that the peer has shut down its writing. A parked call is left, now or when it is
     /// parked, if the client may leave.
     pub fn leave(&mut self)
-        ensures keeps { Keeps T.incoming T.outgoing self.old self.new }
+        ensures keeps { Keeps T.incoming T.outgoing (lets_in T.closes) self.old self.new }
         ensures breaks { T.closes.breaks self.new.connection
             ≡ T.closes.breaks self.old.connection }
         ensures unparked { self.old.parked ≡ None → self.new.parked ≡ None }
@@ -268,7 +273,7 @@ impl<T: NonBlocking> Client<T> {
     /// Ends the client because of a limit, if it may be cut off under this one. A parked call is
     /// left, and the connection takes no more replies.
     pub fn cut(&mut self, limit: Limit)
-        ensures keeps { Keeps T.incoming T.outgoing self.old self.new }
+        ensures keeps { Keeps T.incoming T.outgoing (lets_in T.closes) self.old self.new }
         ensures broken { has_limit (T.closes.breaks self.old.connection).limits limit ≡ true
             → self.new.broken ≡ true }
         ensures stays { has_limit (T.closes.breaks self.old.connection).limits limit ≡ false
@@ -290,7 +295,7 @@ impl<T: NonBlocking> Client<T> {
     /// - Reading from the connection and writing to it may break off.
     pub fn cut_off(&mut self)
         requires { MayBreak (T.closes.breaks self.old.connection) }
-        ensures keeps { Keeps T.incoming T.outgoing self.old self.new }
+        ensures keeps { Keeps T.incoming T.outgoing (lets_in T.closes) self.old self.new }
         ensures broken { self.new.broken ≡ true }
         ensures breaks { T.closes.breaks self.new.connection
             ≡ T.closes.breaks self.old.connection }
@@ -303,7 +308,7 @@ impl<T: NonBlocking> Client<T> {
 
     /// Gives the connection as many bytes of the replies as it takes now.
     pub fn drain(&mut self)
-        ensures keeps { Keeps T.incoming T.outgoing self.old self.new }
+        ensures keeps { Keeps T.incoming T.outgoing (lets_in T.closes) self.old self.new }
         ensures broken { self.old.broken ≡ true → self.new ≡ self.old }
         ensures breaks { T.closes.breaks self.new.connection
             ≡ T.closes.breaks self.old.connection }
@@ -326,8 +331,8 @@ impl<T: NonBlocking> Client<T> {
     /// Takes up and answers what has arrived: a share of the requests that are there, or what one
     /// read returns.
     pub fn take_turn<R: Wait>(&mut self, handler: &mut Keeper<'_, Zero, R>, tools: &mut Tools)
-        ensures keeps { KeepsWith T.incoming T.outgoing self.old (holder_of handler.old)
-            self.new (holder_of handler.new) }
+        ensures keeps { KeepsWith T.incoming T.outgoing (lets_in T.closes) self.old
+            (holder_of handler.old) self.new (holder_of handler.new) }
         ensures handles { KeepsHandles handler.old.handler handler.new.handler }
         ensures breaks { T.closes.breaks self.new.connection
             ≡ T.closes.breaks self.old.connection }
@@ -343,8 +348,8 @@ impl<T: NonBlocking> Client<T> {
 
     /// Looks whether the parked call may go on, and continues it if so.
     pub fn go_on<R: Wait>(&mut self, handler: &mut Keeper<'_, Zero, R>, tools: &mut Tools)
-        ensures keeps { KeepsWith T.incoming T.outgoing self.old (holder_of handler.old)
-            self.new (holder_of handler.new) }
+        ensures keeps { KeepsWith T.incoming T.outgoing (lets_in T.closes) self.old
+            (holder_of handler.old) self.new (holder_of handler.new) }
         ensures handles { KeepsHandles handler.old.handler handler.new.handler }
         ensures breaks { T.closes.breaks self.new.connection
             ≡ T.closes.breaks self.old.connection }
@@ -377,9 +382,9 @@ impl<T: NonBlocking> Client<T> {
     /// reason, or with replies that were not taken.
     pub fn close(self, book: &mut T::Book) -> Served
         ensures over { (newest : Known) (start : Pass) (now : Timed Pass) (origin : T) →
-            Sits T.incoming T.outgoing newest start origin self now →
-            IsOver T.incoming T.outgoing T.closes newest start origin result now book.old
-            book.new }
+            Sits T.incoming T.outgoing (lets_in T.closes) newest start origin self now →
+            IsOver T.incoming T.outgoing (lets_in T.closes) T.closes newest start origin result now
+            book.old book.new }
         ensures cause { is_finished self ≡ true
             → MayEnd (T.closes.breaks self.connection) result.«end» }
         ensures said { IsAsSaid T.closes self
@@ -407,7 +412,7 @@ impl<T: NonBlocking> Client<T> {
     /// Gives up the parked call, if there is one: it is left, and nothing more is taken up.
     fn give_up(&mut self)
         requires { (T.closes.breaks self.old.connection).writing ≡ true }
-        ensures keeps { Keeps T.incoming T.outgoing self.old self.new }
+        ensures keeps { Keeps T.incoming T.outgoing (lets_in T.closes) self.old self.new }
         ensures none { self.new.parked ≡ None }
         ensures same { (self.new.connection ≡ self.old.connection)
             × (self.new.dialogue ≡ self.old.dialogue) × (self.new.broken ≡ self.old.broken) }
@@ -423,7 +428,7 @@ impl<T: NonBlocking> Client<T> {
 
     /// Gives up the parked call if the peer has shut down its writing, and the client may leave.
     fn heed_leave(&mut self)
-        ensures keeps { Keeps T.incoming T.outgoing self.old self.new }
+        ensures keeps { Keeps T.incoming T.outgoing (lets_in T.closes) self.old self.new }
         ensures breaks { T.closes.breaks self.new.connection
             ≡ T.closes.breaks self.old.connection }
         ensures unparked { self.old.parked ≡ None → self.new.parked ≡ None }
@@ -447,7 +452,7 @@ impl<T: NonBlocking> Client<T> {
     fn fail(&mut self)
         requires unsent { self.old.dialogue.unsent.bytes ≢ [] }
         requires writing { (T.closes.breaks self.old.connection).writing ≡ true }
-        ensures keeps { Keeps T.incoming T.outgoing self.old self.new }
+        ensures keeps { Keeps T.incoming T.outgoing (lets_in T.closes) self.old self.new }
         ensures broken { self.new.broken ≡ true }
         ensures breaks { T.closes.breaks self.new.connection
             ≡ T.closes.breaks self.old.connection }
@@ -473,8 +478,8 @@ impl<T: NonBlocking> Client<T> {
     /// Takes up a share of what has arrived, or what one read returns.
     fn take_some<R: Wait>(&mut self, handler: &mut Keeper<'_, Zero, R>, tools: &mut Tools)
         requires free { IsFree self.old }
-        ensures keeps { KeepsWith T.incoming T.outgoing self.old (holder_of handler.old)
-            self.new (holder_of handler.new) }
+        ensures keeps { KeepsWith T.incoming T.outgoing (lets_in T.closes) self.old
+            (holder_of handler.old) self.new (holder_of handler.new) }
         ensures handles { KeepsHandles handler.old.handler handler.new.handler }
         ensures breaks { T.closes.breaks self.new.connection
             ≡ T.closes.breaks self.old.connection }
@@ -490,8 +495,8 @@ impl<T: NonBlocking> Client<T> {
     /// Reads once, and takes up what has arrived.
     fn fill<R: Wait>(&mut self, handler: &mut Keeper<'_, Zero, R>, tools: &mut Tools)
         requires free { IsFree self.old }
-        ensures keeps { KeepsWith T.incoming T.outgoing self.old (holder_of handler.old)
-            self.new (holder_of handler.new) }
+        ensures keeps { KeepsWith T.incoming T.outgoing (lets_in T.closes) self.old
+            (holder_of handler.old) self.new (holder_of handler.new) }
         ensures handles { KeepsHandles handler.old.handler handler.new.handler }
         ensures breaks { T.closes.breaks self.new.connection
             ≡ T.closes.breaks self.old.connection }
@@ -530,8 +535,8 @@ impl<T: NonBlocking> Client<T> {
 
     /// Takes up a share of the requests in the input.
     fn take_share<R: Wait>(&mut self, handler: &mut Keeper<'_, Zero, R>, tools: &mut Tools)
-        ensures keeps { KeepsWith T.incoming T.outgoing self.old (holder_of handler.old)
-            self.new (holder_of handler.new) }
+        ensures keeps { KeepsWith T.incoming T.outgoing (lets_in T.closes) self.old
+            (holder_of handler.old) self.new (holder_of handler.new) }
         ensures handles { KeepsHandles handler.old.handler handler.new.handler }
         ensures breaks { T.closes.breaks self.new.connection
             ≡ T.closes.breaks self.old.connection }
@@ -562,8 +567,8 @@ impl<T: NonBlocking> Client<T> {
     )
         requires free { IsFree self.old }
         requires end { is_end ≡ true → IsAtEnd (T.incoming self.old.connection) }
-        ensures keeps { KeepsWith T.incoming T.outgoing self.old (holder_of handler.old)
-            self.new (holder_of handler.new) }
+        ensures keeps { KeepsWith T.incoming T.outgoing (lets_in T.closes) self.old
+            (holder_of handler.old) self.new (holder_of handler.new) }
         ensures handles { KeepsHandles handler.old.handler handler.new.handler }
         ensures breaks { T.closes.breaks self.new.connection
             ≡ T.closes.breaks self.old.connection }
@@ -573,8 +578,9 @@ impl<T: NonBlocking> Client<T> {
         self.requests = self.requests.wrapping_add(u64::from(taken.is_ok()));
         match taken {
             Ok(TakenUp::Hello(version)) => {
+                let is_let_in = self.lets_in();
                 self.start += size;
-                self.greet(version, tools);
+                self.answer_hello(version, is_let_in, tools);
             }
             Ok(TakenUp::Request(cred, request)) => {
                 self.ask(cred, request, size, handler, tools);
@@ -598,6 +604,44 @@ impl<T: NonBlocking> Client<T> {
         let before = rest.len();
         let taken = take_up_from(&mut self.conversation, &mut rest, text);
         (before.saturating_sub(rest.len()), taken)
+    }
+
+    /// Returns whether the connection lets in the caller whose hello is at the front of the input.
+    fn lets_in(&self) -> bool
+        ensures { (version : Known) (cred : Cred) (later : List ℕ) → FitsAsk (Ask.Hello cred) →
+            self.now.input ≡ hello_encoding version cred ++ later →
+            result ≡ includes (lets_in T.closes self.now.connection) cred }
+    {
+        let cred = hello_cred(&self.input[self.start..]);
+        self.connection.callers().includes(cred)
+    }
+
+    /// Gathers the reply to a hello of this version, and stops unless its caller is let in.
+    fn answer_hello(&mut self, version: Version, is_let_in: bool, tools: &mut Tools)
+        requires free { IsFree self.old }
+        ensures answers { MatchBool is_let_in (GreetsAs version self.old self.new)
+            (Denies version self.old self.new) }
+        ensures same { self.new.connection ≡ self.old.connection }
+    {
+        if is_let_in {
+            self.greet(version, tools);
+        } else {
+            self.deny(version, tools);
+        }
+    }
+
+    /// Gathers the answer to a hello of this version whose caller is not let in, and stops.
+    fn deny(&mut self, version: Version, tools: &mut Tools)
+        requires free { IsFree self.old }
+        ensures denies { Denies version self.old self.new }
+        ensures same { self.new.connection ≡ self.old.connection }
+    {
+        tools.given.clear();
+        let outcome = refusal(version, Op::Hello, Errno::EPERM);
+        match self.conversation.put(version, outcome, &tools.given) {
+            Ok(()) => self.stop(End::NoHello),
+            Err(_refused) => self.stop(End::NoMemory),
+        }
     }
 
     /// Gathers the reply to a hello of this version.
@@ -627,9 +671,9 @@ impl<T: NonBlocking> Client<T> {
         requires pending { IsPending self.old }
         requires frame { size ≤ length self.old.input }
         ensures keeps { (late : List Answer) (newest : Known) (start : Pass) (origin : T) →
-            HasAsked T.incoming T.outgoing newest start origin self.old cred request tools.old.text
-            size (timed (holder_of handler.old) late) →
-            Sits T.incoming T.outgoing newest start origin self.new
+            HasAsked T.incoming T.outgoing (lets_in T.closes) newest start origin self.old cred
+            request tools.old.text size (timed (holder_of handler.old) late) →
+            Sits T.incoming T.outgoing (lets_in T.closes) newest start origin self.new
             (timed (holder_of handler.new) late) }
         ensures handles { KeepsHandles handler.old.handler handler.new.handler }
         ensures breaks { T.closes.breaks self.new.connection
@@ -660,11 +704,12 @@ impl<T: NonBlocking> Client<T> {
         requires replied { IsReplied progress }
         ensures keeps { (newest : Known) (start : Pass) (before : Timed Pass) (now : Holder Pass)
             (origin : T) (text : List ℕ) →
-            HasAsked T.incoming T.outgoing newest start origin self.old cred request text size
-            before →
+            HasAsked T.incoming T.outgoing (lets_in T.closes) newest start origin self.old cred
+            request text size before →
             HoldBegun zero_moment request.version cred request.ask text before.holder progress
             tools.old.given now →
-            Sits T.incoming T.outgoing newest start origin self.new (timed now before.late) }
+            Sits T.incoming T.outgoing (lets_in T.closes) newest start origin self.new
+            (timed now before.late) }
         ensures notifications { KeepsNotification (notifications_of (told_of made.now progress))
             tools.old tools.new }
         ensures breaks { T.closes.breaks self.new.connection

@@ -491,7 +491,7 @@ fn spend(delivery: Delivery) {
 }
 
 /// Returns the reply that refuses an operation with this error.
-fn refusal(version: Version, op: Op, why: Errno) -> RequestOutcome
+pub(crate) fn refusal(version: Version, op: Op, why: Errno) -> RequestOutcome
     ensures { result ≡ the_reply version op (ReplyContent.Refused why) }
 {
     reply(version, op, ReplyContent::Refused(why))

@@ -6,9 +6,11 @@
 #![tactic(auto)]
 
 mod book;
+mod callers;
 mod client;
 mod handler;
 mod handler_pieces;
+mod hello_frame;
 mod holding;
 mod keeper;
 mod laws;
@@ -25,8 +27,10 @@ mod waiting;
 mod zero;
 
 pub use book::Replies;
+pub use callers::Callers;
 pub use client::Client;
 pub use handler::ServiceHandler;
+pub use hello_frame::hello_cred;
 pub use holding::HeldMessage;
 pub use keeper::Keeper;
 pub use laws::{each_message_is_spent_or_held, each_return_can_be_left};

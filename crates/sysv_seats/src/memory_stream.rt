@@ -5,6 +5,7 @@ ghost use Rattle.sysv_seats.specs.Limits.{has_limit};
 ghost use Rattle.sysv_seats.specs.PacedStreams.{DrainsAt, FillsAs, breaks_of, later_steps, limit_of, next_step, over_of};
 
 use crate::book::Replies;
+use crate::callers::Callers;
 use crate::limits::{Limit, Limits};
 use crate::non_blocking::{Drained, Filled, NonBlocking, Over};
 use std::alloc::Global;
@@ -36,6 +37,8 @@ pub struct MemoryStream<'a> {
     said: Option<Over>,
     /// Whether the client may leave or be cut off.
     cut: bool,
+    /// The callers that it lets in.
+    callers: Callers,
 }
 
 impl<'a> Model for MemoryStream<'a> {
@@ -52,6 +55,7 @@ impl<'a> Model for MemoryStream<'a> {
       writes = stream.writes.now;
       said = stream.said;
       cut = stream.cut;
+      callers = stream.callers;
     } };
 
     ghost invariant = { λ stream.
@@ -61,7 +65,7 @@ impl<'a> Model for MemoryStream<'a> {
 impl<'a> MemoryStream<'a> {
     /// Creates a connection whose client writes `input`, and to which `room` bytes can be written.
     /// Each read takes the next step of `reads`, and each write the next one of `writes`; after the
-    /// last step there is no limit. The client stays, and is not cut off.
+    /// last step there is no limit. The client stays, and is not cut off. Anyone is let in.
     ///
     /// Returns `None` if memory is refused.
     pub fn new(
@@ -79,6 +83,7 @@ impl<'a> MemoryStream<'a> {
           writes = writes.now;
           said = None;
           cut = false;
+          callers = Callers.Anyone;
         }) }
     {
         let output = Vec::with_capacity(alloc, room).ok()?;
@@ -90,6 +95,7 @@ impl<'a> MemoryStream<'a> {
             writes,
             said: None,
             cut: false,
+            callers: Callers::Anyone,
         })
     }
 
@@ -105,6 +111,7 @@ impl<'a> MemoryStream<'a> {
             writes,
             said,
             cut: _,
+            callers,
         } = self;
         MemoryStream {
             input,
@@ -114,6 +121,33 @@ impl<'a> MemoryStream<'a> {
             writes,
             said,
             cut: true,
+            callers,
+        }
+    }
+
+    /// Returns the connection, which now lets in these callers.
+    pub fn with_callers(self, callers: Callers) -> MemoryStream<'a>
+        ensures { result ≡ record self.entry { callers = callers } }
+    {
+        let MemoryStream {
+            input,
+            output,
+            room,
+            reads,
+            writes,
+            said,
+            cut,
+            callers: _,
+        } = self;
+        MemoryStream {
+            input,
+            output,
+            room,
+            reads,
+            writes,
+            said,
+            cut,
+            callers,
         }
     }
 
@@ -221,6 +255,10 @@ impl<'a> NonBlocking for MemoryStream<'a> {
 
     fn may_be_cut(&self, limit: Limit) -> bool {
         Limits::all_or_none(self.cut).has(limit)
+    }
+
+    fn callers(&self) -> Callers {
+        self.callers
     }
 
     fn close(self, book: &mut Replies) {

@@ -4,6 +4,7 @@ ghost use Rattle.sysv_seats.specs.Breaking.{MayBreak};
 ghost use Rattle.sysv_seats.specs.Limits.{has_limit};
 ghost use Rattle.sysv_seats.specs.NonBlocking.{DrainAppends, FillConsumes, said_after};
 
+use crate::callers::Callers;
 use crate::limits::Limit;
 
 /// A connection whose reads and writes return at once.
@@ -73,6 +74,10 @@ pub trait NonBlocking {
     fn may_be_cut(&self, limit: Limit) -> bool
         ensures limit { result ≡ has_limit (closes.breaks self.now).limits limit }
         ensures all { result ≡ true → MayBreak (closes.breaks self.now) };
+
+    /// Returns the callers that the server lets in here.
+    fn callers(&self) -> Callers
+        ensures callers { result ≡ (closes.breaks self.now).callers };
 
     /// Closes the connection.
     fn close(self, book: &mut Self::Book)

@@ -5,6 +5,7 @@ ghost use Rattle.std.specs.Io.{ReadsAtMost, WritesAtMost};
 ghost use Rattle.std.specs.Net.Unix.{unix_stream_raw_fd};
 ghost use Rattle.sysv_seats.specs.Sockets.{drained_of, filled_of};
 
+use crate::callers::Callers;
 use crate::limits::{Limit, Limits};
 use crate::non_blocking::{Drained, Filled, NonBlocking, Over};
 use std::io;
@@ -22,21 +23,23 @@ pub struct SocketStream {
     over: Option<Over>,
     refuses: bool,
     limits: Limits,
+    callers: Callers,
 }
 
 impl SocketStream {
     /// Creates the connection of this stream, whose calls do not wait from now on. The server may
-    /// cut its client off under these limits.
+    /// cut its client off under these limits, and lets in these callers.
     ///
     /// # Errors
     ///
     /// - The system's error if the stream cannot be made non-blocking. The stream is closed.
-    pub fn new(stream: UnixStream, limits: Limits) -> io::Result<SocketStream>
+    pub fn new(stream: UnixStream, limits: Limits, callers: Callers) -> io::Result<SocketStream>
         ensures { IfOk result (λ socket. socket ≡ record {
           stream = stream;
           over = None;
           refuses = false;
           limits = limits;
+          callers = callers;
         }) }
     {
         stream.set_nonblocking(true)?;
@@ -45,6 +48,7 @@ impl SocketStream {
             over: None,
             refuses: false,
             limits,
+            callers,
         })
     }
 
@@ -136,6 +140,10 @@ impl NonBlocking for SocketStream {
 
     fn may_be_cut(&self, limit: Limit) -> bool {
         self.limits.has(limit)
+    }
+
+    fn callers(&self) -> Callers {
+        self.callers
     }
 
     fn close(self, _book: &mut ()) {}

@@ -19,6 +19,8 @@ use Rattle.sysv_server.specs.declared.host.Reason.TheVariants.{Full, InputOver, 
 use Rattle.sysv_engine.specs.declared.sums.Sums.{Sums}
 use Rattle.sysv_engine.specs.declared.terms.Ended.{Ended}
 use Rattle.sysv_server.specs.Accepts.{Accepts, HasEnded}
+use Rattle.sysv_server.specs.Doors.{Came}
+use Rattle.sysv_server.proofs.Came.{came_on, came_still}
 use Rattle.sysv_server.specs.Listening.{added}
 use Rattle.sysv_engine.specs.Added.{capped, one_session}
 use Rattle.sysv_seats.specs.declared.socket_stream.SocketStream.{SocketStream}
@@ -63,9 +65,10 @@ module _ {A : Type 0} where
 -- ---- the connections of a listener
 
 module _ {L I H : Type 0} (told : L → Option (List SocketStream)) (listens : L → Bool)
-    (reads : I → ℕ → Result ℕ Error → I → Type 0) (fails : L → Error → L → Type 0) where
+    (reads : I → ℕ → Result ℕ Error → I → Type 0) (fails : L → Error → L → Type 0)
+    (steps : L → Option SocketStream → L → Type 0) where
   abbrev pub Gives : Accepting L I H → Option SocketStream → Accepting L I H → Type 0
-  Gives = Accepts told listens reads fails
+  Gives = Accepts told listens reads fails steps
 
   -- the connections that were given one after the other
   abbrev Given : List SocketStream → Accepting L I H → Accepting L I H → Type 0
@@ -132,6 +135,21 @@ module _ {L I H : Type 0} (told : L → Option (List SocketStream)) (listens : L
   tells (x ∷ items) s s' h =
       tells items h.0 s' h.2
       ∙ (ap (λ o. added o items) h.1.6 ∙ one_added (told s.listener.now) x items)
+
+  -- the listener made steps in which it accepted the connections that were given
+  came : (items : List SocketStream) (s s' : Accepting L I H) → Given items s s' →
+      Came steps s.listener.now items s'.listener.now
+  came [] s s' h =
+      came_still steps s.listener.now s'.listener.now (sym (ap (λ (t : Accepting L I H). t.listener.now) h))
+  came (x ∷ items) s s' h =
+      came_on steps s.listener.now h.0.listener.now s'.listener.now (x ∷ []) items h.1.10 (came items h.0 s' h.2)
+
+  all_came : (items : List SocketStream) (s s' : Accepting L I H) → GivesAll Gives s items s' →
+      Came steps s.listener.now items s'.listener.now
+  all_came items s s' gave =
+      subst (λ (l : List SocketStream). Came steps s.listener.now l s'.listener.now) (append-nil items)
+      (came_on steps s.listener.now gave.last.listener.now s'.listener.now items []
+      (came items s gave.last gave.gave) gave.ended.6)
 
   -- the source holds the listener that it was lent
   holds : (items : List SocketStream) (s s' : Accepting L I H) → Given items s s' →
@@ -246,7 +264,7 @@ module _ {L I H : Type 0} (told : L → Option (List SocketStream)) (listens : L
   pub ends_from : (shows : Bool) (blocks workers m : ℕ) (s s' : Accepting L I H) (books books' : List ⊤) (ended : Ended)
       → s.accepted ≡ 0 → s.most ≡ m → m ≤ 2 ^ 64 - 1 → length books ≡ workers
       → Serves shows blocks s books ended s' books'
-      → EndsFrom told listens shows blocks workers m s.limits s.listener.now ended s'.listener.now
+      → EndsFrom told listens steps shows blocks workers m s.limits s.listener.now ended s'.listener.now
   unfolding serves_on
   ends_from shows blocks workers m s s' books books' ended none same small counted all = record {
     ends = record {
@@ -258,6 +276,7 @@ module _ {L I H : Type 0} (told : L → Option (List SocketStream)) (listens : L
       closed = all.closed;
     };
     accepted = all_tell all.given s s' all.gave;
+    came = all_came all.given s s' all.gave;
     closed = all.gave.ended.3;
   }
 
@@ -333,15 +352,16 @@ module _ {L I H : Type 0} (told : L → Option (List SocketStream)) (listens : L
     module _ (l l' : L) (counted : length books ≡ workers) (before : s.listener.now ≡ l)
         (after : s'.listener.now ≡ l') where
       pub all_end : (limits : Limits) → s.limits ≡ limits →
-          IfOk result (λ ended. EndsFrom told listens shows blocks workers m limits l ended l')
+          IfOk result (λ ended. EndsFrom told listens steps shows blocks workers m limits l ended l')
       all_end limits held = of result ok
         where
           of : (r : Result Ended ServeFault) → IfOk r (λ ended. Serves shows blocks s books ended s' books')
-              → IfOk r (λ ended. EndsFrom told listens shows blocks workers m limits l ended l')
+              → IfOk r (λ ended. EndsFrom told listens steps shows blocks workers m limits l ended l')
           of (Ok ended) all =
-              subst (λ k. EndsFrom told listens shows blocks workers m limits k ended l') before
-              (subst (λ k. EndsFrom told listens shows blocks workers m limits s.listener.now ended k) after
-              (subst (λ k. EndsFrom told listens shows blocks workers m k s.listener.now ended s'.listener.now) held
+              subst (λ k. EndsFrom told listens steps shows blocks workers m limits k ended l') before
+              (subst (λ k. EndsFrom told listens steps shows blocks workers m limits s.listener.now ended k) after
+              (subst (λ k. EndsFrom told listens steps shows blocks workers m k s.listener.now ended s'.listener.now)
+              held
               (ends_from shows blocks workers m s s' books books' ended none same small counted all)))
           of (Err why) all = tt
 

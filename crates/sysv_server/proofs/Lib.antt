@@ -1,1 +1,3 @@
+pub mod Came
+pub mod AnyOpen
 pub mod Accepted

@@ -1,5 +1,5 @@
 -- How connections are accepted, and why no more are (this project's profile).
-use Rattle.std.specs.Prelude.{◌≡◌, ◌≢◌, ◌+◌, ◌<◌, ◌≤◌, ◌⊎◌, ⊤, ℕ, Bool, false, true, List, ◌∷◌, [], Option, None, Some}
+use Rattle.std.specs.Prelude.{◌≡◌, ◌≢◌, ◌+◌, ◌<◌, ◌≤◌, ◌⊎◌, ℕ, Bool, false, true, List, ◌∷◌, [], Option, None, Some}
 use Rattle.std.specs.Prelude.{IsSomeAnd, Result, is_some}
 use Rattle.std.specs.declared.io.Error.{Error}
 use Rattle.sysv_seats.specs.declared.socket_stream.SocketStream.{SocketStream}
@@ -7,6 +7,7 @@ use Rattle.sysv_seats.specs.Untold.{limits_of}
 use Rattle.sysv_server.specs.declared.accepting.Accepting.{Accepting}
 use Rattle.sysv_server.specs.declared.host.Reason.{Reason}
 use Rattle.sysv_server.specs.declared.host.Reason.TheVariants.{Full, InputOver, NoSocket, Accept}
+use Rattle.sysv_server.specs.Doors.{Came}
 use Rattle.sysv_server.specs.Listening.{HasFailed, IsOver, added}
 use Rattle.sysv_engine.specs.Added.{capped}
 
@@ -34,18 +35,20 @@ module _ {L I H : Type 0} (listens : L → Bool) (reads : I → ℕ → Result �
   HasEnded source (Accept why) = HasFailed fails why
 
 module _ {L I H : Type 0} (told : L → Option (List SocketStream)) (listens : L → Bool)
-    (reads : I → ℕ → Result ℕ Error → I → Type 0) (fails : L → Error → L → Type 0) where
+    (reads : I → ℕ → Result ℕ Error → I → Type 0) (fails : L → Error → L → Type 0)
+    (steps : L → Option SocketStream → L → Type 0) where
   -- The source returned a connection or none, and its counts changed accordingly. A connection that it
   -- returned is the one that its listener accepted, which accepted no other. It returns a connection
   -- only below the limit, if there is one, and has an open listener then. It returns none only if it
   -- has ended, or for a reason, which is kept; then its listener has accepted none, and is closed. The
-  -- client of a connection is cut off only under the limits of the source.
+  -- client of a connection is cut off only under the limits of the source. The listener made steps in which it accepted
+  -- just this connection, or none.
   abbrev pub Accepts : Accepting L I H → Option SocketStream → Accepting L I H → Type 0
   Accepts old None new =
       (new.most ≡ old.most) × (new.accepted ≡ old.accepted)
       × ((is_some old.reason ≡ true) ⊎ IsSomeAnd new.reason (HasEnded listens reads fails old))
       × (listens new.listener.now ≡ false) × (told new.listener.now ≡ told old.listener.now)
-      × (new.listener.ghost_name ≡ old.listener.ghost_name)
+      × (new.listener.ghost_name ≡ old.listener.ghost_name) × Came steps old.listener.now [] new.listener.now
   Accepts old (Some stream) new =
       (new.most ≡ old.most) × (old.most ≢ 0 → old.accepted < old.most) × (new.accepted ≡ capped (old.accepted + 1))
       × (listens new.listener.now ≡ true) × (new.reason ≡ old.reason)
@@ -53,3 +56,4 @@ module _ {L I H : Type 0} (told : L → Option (List SocketStream)) (listens : L
       × (told new.listener.now ≡ added (told old.listener.now) (stream ∷ []))
       × (new.listener.ghost_name ≡ old.listener.ghost_name)
       × (limits_of stream ≡ old.limits) × (new.limits ≡ old.limits)
+      × Came steps old.listener.now (stream ∷ []) new.listener.now

@@ -1,5 +1,6 @@
 -- The definitions of the server.
 pub mod Listening
+pub mod Doors
 pub mod Report
 pub mod Accepts
 pub mod Serving

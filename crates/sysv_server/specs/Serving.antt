@@ -24,6 +24,7 @@ use Rattle.sysv_engine.specs.Handled.{Shift, backs_in, cut_off_of, fates_of, new
 use Rattle.sysv_engine.specs.OneRun.{Lived}
 use Rattle.sysv_engine.specs.Serving.{HasLived, LeavesBooks, RunsWith}
 use Rattle.sysv_workers.specs.declared.workers.TheConstants.{MAX_WORKERS}
+use Rattle.sysv_server.specs.Doors.{Came}
 use Rattle.sysv_server.specs.Listening.{HasFailed, IsOver, added}
 use Rattle.sysv_server.specs.declared.host.Reason.{Reason}
 use Rattle.sysv_server.specs.declared.terms.Terms.{Terms}
@@ -132,12 +133,15 @@ module _ {L I : Type 0} (reads : I → ℕ → Result ℕ Error → I → Type 0
 module _ {L : Type 0} (told : L → Option (List SocketStream)) where
   -- A server served the connections of a listener, which went from the one state to the other and is
   -- closed. The listener has accepted the connections on which the sessions were, each once, and no
-  -- others. `told` are the connections that the listener has accepted, if it tells them.
-  pub record EndsFrom (listens : L → Bool) (shows : Bool) (blocks places most : ℕ) (limits : Limits) (before : L)
+  -- others. `told` are the connections that the listener has accepted, if it tells them. `steps` are the steps that it
+  -- may make, which state the callers that a connection lets in.
+  pub record EndsFrom (listens : L → Bool) (steps : L → Option SocketStream → L → Type 0) (shows : Bool) (blocks places
+      most : ℕ) (limits : Limits) (before : L)
       (ended : Ended)
       (after : L) : Type 0 where
     pub ends : EndsOn shows blocks places most limits ended
     pub accepted : told after ≡ added (told before) ends.served.accepted
+    pub came : Came steps before ends.served.accepted after
     pub closed : listens after ≡ false
 
   -- What a listener has accepted whose server ended by this fault. After `NoMemory` and `Thread` it has

@@ -1,8 +1,9 @@
 //! A source of accepted connections.
-ghost use Rattle.std.specs.Prelude.{◌≡◌, ◌≢◌, ◌<◌, ◌≤◌, ◌-◌, ◌^◌, ◌∷◌, [], true, false, is_some, None, IfErr, IfOk, OnErr, OnOk};
+ghost use Rattle.std.specs.Prelude.{◌≡◌, ◌≢◌, ◌<◌, ◌≤◌, ◌-◌, ◌^◌, ◌∷◌, [], true, false, is_some, None, IfErr, IfOk, MatchResult, OnErr, OnOk};
 ghost use Rattle.sysv_engine.specs.Looks.{Looks};
 ghost use Rattle.sysv_seats.specs.Untold.{limits_of};
 ghost use Rattle.sysv_server.specs.Accepts.{EndsWait, HasEnded};
+ghost use Rattle.sysv_server.specs.Doors.{Came};
 ghost use Rattle.sysv_server.specs.Listening.{added, IsOver};
 
 use crate::desk::Desk;
@@ -15,7 +16,9 @@ use std::io::ErrorKind;
 use std::sync::Wait;
 use sysv_engine::{Arrivals, Rows, ServerState};
 use sysv_seats::{Limits, SocketStream};
-use sysv_system::{EAGAIN, ECONNABORTED, EMFILE, ENOMEM, EPERM, Event, Watched, await_any, pause};
+use sysv_system::{
+    EAGAIN, ECONNABORTED, EMFILE, ENOMEM, EPERM, Event, Several, Watched, await_any, pause,
+};
 
 /// The maximum number of bytes of the input that are read at once and dropped.
 const INPUT_BYTES: usize = 512;
@@ -140,6 +143,7 @@ impl<'a, L: Listens, I: Input + Drop, H: Host> Accepting<'a, L, I, H> {
 
     /// Has the host open the socket for readers of the server's state, if it is to be shown, and
     /// opens the listener.
+    #[tactic(auto, using(crate::proofs::Came::came_quiet, crate::proofs::Came::came_still))]
     fn open(&mut self) -> io::Result<()>
         ensures same { (self.new.most ≡ self.old.most) × (self.new.accepted ≡ self.old.accepted)
             × (self.new.reason ≡ self.old.reason) × (self.new.limits ≡ self.old.limits) }
@@ -148,6 +152,7 @@ impl<'a, L: Listens, I: Input + Drop, H: Host> Accepting<'a, L, I, H> {
         ensures err { OnErr result
             (L.listens self.new.listener.now ≡ L.listens self.old.listener.now) }
         ensures none { L.accepted self.new.listener.now ≡ L.accepted self.old.listener.now }
+        ensures came { Came L.steps self.old.listener.now [] self.new.listener.now }
         ensures same_reference { self.new.listener.ghost_name ≡ self.old.listener.ghost_name }
     {
         if self.stats {
@@ -157,7 +162,7 @@ impl<'a, L: Listens, I: Input + Drop, H: Host> Accepting<'a, L, I, H> {
     }
 
     /// Accepts the next connection. The error is why no more connections are to be accepted.
-    #[tactic(auto, using(sysv_engine::proofs::Looking::looks_stay))]
+    #[tactic(auto, using(sysv_engine::proofs::Looking::looks_stay, crate::proofs::Came::came_on, crate::proofs::Came::came_once, crate::proofs::Came::came_quiet, crate::proofs::Came::came_still))]
     fn accept<R: Wait>(&mut self, rows: &mut Rows<'_, R>) -> Result<SocketStream, Reason>
         ensures same { (self.new.most ≡ self.old.most) × (self.new.accepted ≡ self.old.accepted)
             × (self.new.reason ≡ self.old.reason) × (self.new.limits ≡ self.old.limits) }
@@ -171,6 +176,9 @@ impl<'a, L: Listens, I: Input + Drop, H: Host> Accepting<'a, L, I, H> {
         ensures limits { IfOk result (λ stream. limits_of stream ≡ self.old.limits) }
         ensures err { OnErr result
             (L.accepted self.new.listener.now ≡ L.accepted self.old.listener.now) }
+        ensures came { MatchResult result
+            (λ stream. Came L.steps self.old.listener.now (stream ∷ []) self.new.listener.now)
+            (λ why. Came L.steps self.old.listener.now [] self.new.listener.now) }
         ensures same_reference { self.new.listener.ghost_name ≡ self.old.listener.ghost_name }
         ensures looks { Looks rows.old rows.new }
     {
@@ -182,10 +190,12 @@ impl<'a, L: Listens, I: Input + Drop, H: Host> Accepting<'a, L, I, H> {
                 return Err(Reason::NoSocket(why));
             }
         }
+        let mut listeners = Several::none();
+        self.listener.watch(&mut listeners);
         let view = View {
             alloc: self.alloc,
             server: self.server,
-            listener: self.listener.descriptor(),
+            listeners: &listeners,
             blocks: self.blocks,
             accepted: self.accepted,
             started: self.desk.started(),
@@ -203,9 +213,9 @@ impl<'a, L: Listens, I: Input + Drop, H: Host> Accepting<'a, L, I, H> {
 impl<L: Listens, I: Input + Drop, H: Host> Arrivals<SocketStream> for Accepting<'_, L, I, H> {
     ghost use Rattle.sysv_server.specs.Accepts.{Accepts};
 
-    ghost gives = { Accepts L.accepted L.listens I.reads L.fails };
+    ghost gives = { Accepts L.accepted L.listens I.reads L.fails L.steps };
 
-    #[tactic(auto, using(sysv_engine::proofs::Looking::looks_stay))]
+    #[tactic(auto, using(sysv_engine::proofs::Looking::looks_stay, crate::proofs::Came::came_on, crate::proofs::Came::came_once, crate::proofs::Came::came_quiet, crate::proofs::Came::came_still))]
     fn next<R: Wait>(&mut self, rows: &mut Rows<'_, R>) -> Option<SocketStream> {
         if self.reason.is_some() {
             self.listener.close();
@@ -254,7 +264,7 @@ impl<H: Host> Acceptor<'_, '_, H> {
     /// Waits for a connection and accepts it. Until it comes, serves the desk. If the server
     /// `retries`, an accept that fails for want of something is tried again; the host is told so,
     /// and when it succeeds.
-    #[tactic(auto, using(sysv_engine::proofs::Looking::looks_stay, sysv_engine::proofs::Looking::looks_on))]
+    #[tactic(auto, using(sysv_engine::proofs::Looking::looks_stay, sysv_engine::proofs::Looking::looks_on, crate::proofs::Came::came_on, crate::proofs::Came::came_once, crate::proofs::Came::came_quiet, crate::proofs::Came::came_still))]
     fn accept_next<L: Listens, I: Input, R: Wait>(
         &self,
         listener: &mut L,
@@ -270,6 +280,8 @@ impl<H: Host> Acceptor<'_, '_, H> {
             L.accepted listener.new ≡ added (L.accepted listener.old) (stream ∷ [])) }
         ensures limits { IfOk result (λ stream. limits_of stream ≡ self.now.limits) }
         ensures err { OnErr result (L.accepted listener.new ≡ L.accepted listener.old) }
+        ensures came { MatchResult result (λ stream. Came L.steps listener.old (stream ∷ []) listener.new)
+            (λ why. Came L.steps listener.old [] listener.new) }
         ensures same { L.listens listener.new ≡ L.listens listener.old }
         ensures looks { Looks rows.old rows.new }
     {
@@ -318,7 +330,7 @@ impl<H: Host> Acceptor<'_, '_, H> {
     fn wait(&self, told: &mut bool, input: Watched, desk: &Desk) -> Arrived {
         let View {
             server,
-            listener,
+            listeners,
             accepted,
             ..
         } = self.view;
@@ -327,7 +339,7 @@ impl<H: Host> Acceptor<'_, '_, H> {
             *told = true;
         }
         if server.has_room(accepted) {
-            return self.arrived(input, listener, desk, desk.limit());
+            return self.arrived(input, listeners, desk, desk.limit());
         }
         server.await_turn(true);
         let limit = if server.has_room(accepted) {
@@ -335,25 +347,24 @@ impl<H: Host> Acceptor<'_, '_, H> {
         } else {
             desk.limit()
         };
-        let arrived = self.arrived(input, Watched::NONE, desk, limit);
+        let arrived = self.arrived(input, &Several::none(), desk, limit);
         server.await_turn(false);
         arrived
     }
 
-    /// Waits until the input, the listener or the doorbell can be read, or something happens at the
-    /// desk, for at most `limit` milliseconds, and hushes the doorbell.
+    /// Waits until the input or the doorbell can be read, a client waits at one of the listeners, or
+    /// something happens at the desk, for at most `limit` milliseconds, and hushes the doorbell.
     fn arrived(
         &self,
         input: Watched,
-        listener: Watched,
+        listeners: &Several,
         desk: &Desk,
         limit: Option<u64>,
     ) -> Arrived {
         let server = self.view.server;
-        let files = [input, listener, server.doorbell()];
-        let [input, listener, doorbell] = files.map(Event::readable);
-        let awaited = [input, listener, doorbell, desk.awaited()];
-        let [input, connection, is_rung, reader] = await_any(awaited, limit);
+        let [input, doorbell] = [input, server.doorbell()].map(Event::readable);
+        let awaited = [input, doorbell, desk.awaited()];
+        let ([input, is_rung, reader], connection) = await_any(awaited, listeners, limit);
         if is_rung {
             server.hush();
         }
@@ -375,7 +386,7 @@ fn descriptor<I: Input>(input: &Option<I>) -> Watched {
 
 /// Returns whether an accept failed for want of something that may come back, or because the client
 /// has gone.
-fn is_passing(why: &io::Error) -> bool {
+pub(crate) fn is_passing(why: &io::Error) -> bool {
     match why.raw_os_error() {
         Some(code) => PASSING.contains(&code),
         None => false,

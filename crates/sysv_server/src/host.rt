@@ -4,14 +4,14 @@ ghost use Rattle.std.specs.Prelude.{◌≡◌, ◌≢◌, true, false};
 use std::io;
 use std::os::unix::net::UnixListener;
 
-/// The program that a server runs in: it opens the socket, and learns what happens to the server.
+/// The program that a server runs in: it opens the sockets, and learns what happens to the server.
 pub trait Host {
-    /// Opens the socket that connections are accepted from. The server calls it once, when it has
-    /// its memory and its threads.
-    fn listen(&self) -> io::Result<UnixListener>;
+    /// Opens the socket of this number, from which connections are accepted. The server calls it once
+    /// for each of its sockets, in order from 0, when it has its memory and its threads.
+    fn listen(&self, number: usize) -> io::Result<UnixListener>;
 
     /// Opens the socket on which the state of the server is shown, if there is one. The server
-    /// calls it once, just before its listener is opened, if its terms have `stats`.
+    /// calls it once, just before its listeners are opened, if its terms have `stats`.
     fn listen_for_readers(&self) -> io::Result<Option<UnixListener>> {
         Ok(None)
     }
@@ -28,6 +28,9 @@ pub enum Notice {
     Held(io::Error),
     /// Connections are accepted again.
     Resumed,
+    /// An accept at the socket of this number failed, and is not tried again. The server accepts
+    /// connections at its other sockets.
+    Lost(usize, io::Error),
     /// The memory of a session was refused. It is told of the first such session alone.
     NoMemory,
     /// The time for an orderly end is over, and the sessions that are left are cut off.
@@ -65,7 +68,7 @@ impl Reason {
 pub(crate) struct Quiet;
 
 impl Host for Quiet {
-    fn listen(&self) -> io::Result<UnixListener> {
+    fn listen(&self, _number: usize) -> io::Result<UnixListener> {
         Err(io::Error::from(io::ErrorKind::Unsupported))
     }
 

@@ -1,9 +1,10 @@
-//! A server of message queues on a Unix socket: it accepts connections, and serves each as one
+//! A server of message queues on Unix sockets: it accepts connections, and serves each as one
 //! session of the engine.
 #![tactic(auto)]
 
 mod accepting;
 mod desk;
+mod doors;
 mod host;
 mod listening;
 mod report;
@@ -11,10 +12,12 @@ mod serving;
 mod terms;
 mod visitor;
 
+pub use doors::Doors;
 pub use host::{Host, Notice, Reason};
 pub use listening::{Hosted, Input, Listens, Reading};
 pub use serving::{MAX_CLIENTS, serve_from, serve_listener, serve_on};
 pub use sysv_engine::{Ended, Fates, Patience, ServeFault, Sums};
+pub use sysv_seats::Callers;
 pub use terms::Terms;
 
 /// The version of the server and of its clients.

@@ -1,8 +1,8 @@
 //! Sockets that connections are accepted from, and inputs whose end ends a server.
-ghost use Rattle.std.specs.Prelude.{◌≡◌, ℕ, Bool, true, false, is_some, List, ◌∷◌, [], Option, IfErr, IfOk, OnOk, OnErr, Result, length};
+ghost use Rattle.std.specs.Prelude.{◌≡◌, ℕ, Bool, true, false, is_some, List, ◌∷◌, [], Option, None, Some, IfErr, IfOk, MatchResult, OnOk, OnErr, Result, length};
 ghost use Rattle.std.specs.declared.io.Error.{Error};
 ghost use Rattle.sysv_seats.specs.declared.socket_stream.SocketStream.{SocketStream};
-ghost use Rattle.sysv_seats.specs.Untold.{limits_of};
+ghost use Rattle.sysv_seats.specs.Untold.{callers_of, limits_of};
 ghost use Rattle.sysv_server.specs.Listening.{added, has_opened, read_from};
 
 use crate::host::Host;
@@ -10,8 +10,8 @@ use std::io;
 use std::io::{ErrorKind, Read};
 use std::os::fd::AsRawFd;
 use std::os::unix::net::UnixListener;
-use sysv_seats::{Limits, SocketStream};
-use sysv_system::Watched;
+use sysv_seats::{Callers, Limits, SocketStream};
+use sysv_system::{Several, Watched};
 
 /// A socket that connections are accepted from.
 pub trait Listens {
@@ -23,6 +23,10 @@ pub trait Listens {
 
     /// With which error an accept may fail, and what socket it leaves.
     ghost fails: { Self → Error → Self → Type 0 };
+
+    /// What one step leaves of the socket, in which it accepted this connection or none. So it states
+    /// the callers that a connection lets in.
+    ghost steps: { Self → Option SocketStream → Self → Type 0 };
 
     /// Returns whether clients can connect.
     fn is_open(&self) -> bool
@@ -37,10 +41,11 @@ pub trait Listens {
     fn open(&mut self) -> io::Result<()>
         ensures ok { OnOk result (listens self.new ≡ true) }
         ensures err { OnErr result (listens self.new ≡ listens self.old) }
-        ensures same { accepted self.new ≡ accepted self.old };
+        ensures same { accepted self.new ≡ accepted self.old }
+        ensures step { steps self.old None self.new };
 
-    /// Returns the descriptor that can be read when a client waits to be accepted.
-    fn descriptor(&self) -> Watched;
+    /// Adds what can be read when a client waits to be accepted.
+    fn watch(&self, listeners: &mut Several);
 
     /// Accepts the next connection, whose client may be cut off under these limits.
     ///
@@ -53,12 +58,15 @@ pub trait Listens {
         ensures limits { IfOk result (λ stream. limits_of stream ≡ limits) }
         ensures err { OnErr result (accepted self.new ≡ accepted self.old) }
         ensures failed { IfErr result (λ why. fails self.old why self.new) }
-        ensures same { listens self.new ≡ listens self.old };
+        ensures same { listens self.new ≡ listens self.old }
+        ensures step { MatchResult result (λ stream. steps self.old (Some stream) self.new)
+            (λ why. steps self.old None self.new) };
 
     /// Closes the socket. After that, clients are refused.
     fn close(&mut self)
         ensures closed { listens self.new ≡ false }
-        ensures same { accepted self.new ≡ accepted self.old };
+        ensures same { accepted self.new ≡ accepted self.old }
+        ensures step { steps self.old None self.new };
 }
 
 /// An input whose end ends a server.
@@ -99,13 +107,17 @@ impl<'a> Lent<'a> {
 }
 
 impl Listens for Lent<'_> {
-    ghost use Rattle.std.specs.Prelude.{None, ⊤};
+    ghost use Rattle.std.specs.Prelude.{IfSome, None, ⊤};
+    ghost use Rattle.sysv_seats.specs.declared.callers.Callers.TheVariants as Callers;
+    ghost use Rattle.sysv_seats.specs.Untold.{callers_of};
 
     ghost accepted = { λ _. None };
 
     ghost listens = { λ lent. lent.is_open };
 
     ghost fails = { λ _ _ _. ⊤ };
+
+    ghost steps = { λ _ step _. IfSome step (λ stream. callers_of stream ≡ Callers.Anyone) };
 
     fn is_open(&self) -> bool {
         self.is_open
@@ -116,12 +128,12 @@ impl Listens for Lent<'_> {
         Ok(())
     }
 
-    fn descriptor(&self) -> Watched {
-        Watched::of(self.listener)
+    fn watch(&self, listeners: &mut Several) {
+        listeners.add(Watched::of(self.listener));
     }
 
     fn accept(&mut self, limits: Limits) -> io::Result<SocketStream> {
-        accept_from(self.listener, limits)
+        accept_from(self.listener, limits, Callers::Anyone)
     }
 
     fn close(&mut self) {
@@ -129,27 +141,34 @@ impl Listens for Lent<'_> {
     }
 }
 
-/// The socket that a host opens. It does not tell the connections.
+/// A socket that a host opens. It does not tell the connections.
 #[derive(Drop)]
 pub struct Hosted<'a, H> {
     host: &'a H,
+    number: usize,
+    callers: Callers,
     listener: Option<UnixListener>,
 }
 
 impl<'a, H> Hosted<'a, H> {
-    /// Creates the socket, which its host has not opened yet.
-    pub fn new(host: &'a H) -> Hosted<'a, H>
-        ensures { has_opened result ≡ false }
+    /// Creates the socket of this number, which its host has not opened yet. It lets in these callers.
+    pub fn new(host: &'a H, number: usize, callers: Callers) -> Hosted<'a, H>
+        ensures closed { has_opened result ≡ false }
+        ensures number { result.number ≡ number }
+        ensures callers { result.callers ≡ callers }
     {
         Hosted {
             host,
+            number,
+            callers,
             listener: None,
         }
     }
 }
 
 impl<H: Host> Listens for Hosted<'_, H> {
-    ghost use Rattle.std.specs.Prelude.{None, is_some, ⊤};
+    ghost use Rattle.std.specs.Prelude.{IfSome, None, is_some, ⊤};
+    ghost use Rattle.sysv_seats.specs.Untold.{callers_of};
 
     ghost accepted = { λ _. None };
 
@@ -157,25 +176,28 @@ impl<H: Host> Listens for Hosted<'_, H> {
 
     ghost fails = { λ _ _ _. ⊤ };
 
+    ghost steps = { λ old step new. (new.number ≡ old.number) × (new.callers ≡ old.callers)
+        × IfSome step (λ stream. callers_of stream ≡ old.callers) };
+
     fn is_open(&self) -> bool {
         self.listener.is_some()
     }
 
     fn open(&mut self) -> io::Result<()> {
-        self.listener = Some(self.host.listen()?);
+        self.listener = Some(self.host.listen(self.number)?);
         Ok(())
     }
 
-    fn descriptor(&self) -> Watched {
-        match &self.listener {
+    fn watch(&self, listeners: &mut Several) {
+        listeners.add(match &self.listener {
             Some(listener) => Watched::of(listener),
             None => Watched::NONE,
-        }
+        });
     }
 
     fn accept(&mut self, limits: Limits) -> io::Result<SocketStream> {
         match &self.listener {
-            Some(listener) => accept_from(listener, limits),
+            Some(listener) => accept_from(listener, limits, self.callers),
             None => Err(io::Error::from(ErrorKind::NotConnected)),
         }
     }
@@ -185,12 +207,18 @@ impl<H: Host> Listens for Hosted<'_, H> {
     }
 }
 
-/// Accepts a connection from a Unix socket. It is closed if it cannot be made non-blocking.
-fn accept_from(listener: &UnixListener, limits: Limits) -> io::Result<SocketStream>
-    ensures { IfOk result (λ stream. limits_of stream ≡ limits) }
+/// Accepts a connection from a Unix socket, which lets in these callers. It is closed if it cannot be
+/// made non-blocking.
+fn accept_from(
+    listener: &UnixListener,
+    limits: Limits,
+    callers: Callers,
+) -> io::Result<SocketStream>
+    ensures limits { IfOk result (λ stream. limits_of stream ≡ limits) }
+    ensures callers { IfOk result (λ stream. callers_of stream ≡ callers) }
 {
     let (stream, _address) = listener.accept()?;
-    SocketStream::new(stream, limits)
+    SocketStream::new(stream, limits, callers)
 }
 
 /// An input of the standard library.

@@ -18,7 +18,7 @@ use std::os::unix::net::{UnixListener, UnixStream};
 use std::sync::Wait;
 use std::thread::Threads;
 use sysv_engine::{Ended, Patience, Rest, ServeFault, ServerState, Sums, serve_arrivals, watches};
-use sysv_seats::Limits;
+use sysv_seats::{Callers, Limits};
 
 /// The largest number of clients at once.
 pub const MAX_CLIENTS: u32 = 16_384;
@@ -72,6 +72,7 @@ pub fn serve_on<R: Threads + Wait + Net + Sync>(
         drain: 0,
         stats: false,
         hold: false,
+        sockets: 1,
     };
     let mut lent = Lent::new(listener);
     let mut reason = None;
@@ -134,7 +135,7 @@ pub fn serve_listener<I: Read + AsRawFd + Drop, H: Host + Drop, R: Threads + Wai
     ensures setting { IfOk result (λ ended. RanOn terms ended.setting) }
     ensures err { IfErr result (FailsOn terms.stats terms.blocks terms.at_once terms.sessions) }
 {
-    let mut socket = Hosted::new(&host);
+    let mut socket = Hosted::new(&host, 0, Callers::Anyone);
     let input = input_of(input);
     run(rt, alloc, &mut socket, true, &host, input, terms, reason)
 }
@@ -167,8 +168,9 @@ pub fn serve_from<L: Listens, I: Input + Drop, H: Host, R: Threads + Wait + Net 
     requires blocks { (MIN_BLOCKS ≤ terms.blocks) × (terms.blocks ≤ MAX_BLOCKS) }
     requires workers { (1 ≤ terms.workers) × (terms.workers ≤ MAX_WORKERS) }
     requires at_once { (1 ≤ terms.at_once) × (terms.at_once ≤ MAX_CLIENTS) }
-    ensures ok { IfOk result (λ ended. EndsFrom L.accepted L.listens terms.stats terms.blocks
-        terms.at_once terms.sessions (limits_in terms) listener.old ended listener.new) }
+    ensures ok { IfOk result (λ ended. EndsFrom L.accepted L.listens L.steps terms.stats
+        terms.blocks terms.at_once terms.sessions (limits_in terms) listener.old ended
+        listener.new) }
     ensures exact { IfOk result (λ ended. HasCause I.reads L.fails (is_some input)
         terms.sessions ended.sums.sessions reason.new) }
     ensures balance { IfOk result (λ ended. IsBalanced ended.sums) }
@@ -194,8 +196,9 @@ fn run<L: Listens, I: Input + Drop, H: Host, R: Threads + Wait + Net + Sync>(
     requires blocks { (MIN_BLOCKS ≤ terms.blocks) × (terms.blocks ≤ MAX_BLOCKS) }
     requires workers { (1 ≤ terms.workers) × (terms.workers ≤ MAX_WORKERS) }
     requires at_once { (1 ≤ terms.at_once) × (terms.at_once ≤ MAX_CLIENTS) }
-    ensures ok { IfOk result (λ ended. EndsFrom L.accepted L.listens terms.stats terms.blocks
-        terms.at_once terms.sessions (limits_in terms) listener.old ended listener.new) }
+    ensures ok { IfOk result (λ ended. EndsFrom L.accepted L.listens L.steps terms.stats
+        terms.blocks terms.at_once terms.sessions (limits_in terms) listener.old ended
+        listener.new) }
     ensures exact { IfOk result (λ ended. HasCause I.reads L.fails (is_some input)
         terms.sessions ended.sums.sessions reason.new) }
     ensures balance { IfOk result (λ ended. IsBalanced ended.sums) }
@@ -212,6 +215,7 @@ fn run<L: Listens, I: Input + Drop, H: Host, R: Threads + Wait + Net + Sync>(
         drain,
         stats,
         hold: _,
+        sockets: _,
     } = terms;
     *reason = None;
     let Some((server, rests)) = opened_for(alloc, &terms) else {

@@ -22,4 +22,6 @@ pub struct Terms {
     pub stats: bool,
     /// Whether clients may hold messages: then sessions of version 3 are served.
     pub hold: bool,
+    /// The number of sockets at which connections are accepted, 1 to 65.
+    pub sockets: u32,
 }

@@ -8,7 +8,7 @@ use std::io::{ErrorKind, Read, Write};
 use std::os::unix::net::UnixStream;
 use std::sync::Wait;
 use sysv_engine::{Moment, Rows, ServerState};
-use sysv_system::{Event, Watched, await_event};
+use sysv_system::{Event, Several, Watched};
 
 /// The maximum number of bytes that are read of what a reader asks.
 const MOST_ASKED: usize = 4_096;
@@ -58,8 +58,8 @@ const PATHS: [(&[u8], Form); 3] = [
 pub(crate) struct View<'v> {
     pub(crate) alloc: Global,
     pub(crate) server: &'v ServerState,
-    /// The descriptor of the listener through which clients come.
-    pub(crate) listener: Watched,
+    /// The listeners through which clients come.
+    pub(crate) listeners: &'v Several,
     /// The number of blocks in the pool.
     pub(crate) blocks: u32,
     /// The number of clients that were accepted.
@@ -76,7 +76,7 @@ impl View<'_> {
         let View {
             alloc,
             server,
-            listener,
+            listeners,
             blocks,
             accepted,
             started,
@@ -84,7 +84,7 @@ impl View<'_> {
         let admission = Admission {
             blocks,
             accepted,
-            has_waiting: await_event(Event::readable(listener), Some(0)),
+            has_waiting: listeners.looked_at().has_clients(),
             started,
         };
         let state = State::read(alloc, server, rows, &admission)?;

@@ -5,8 +5,11 @@ use crate::watched::Watched;
 use libc::net::{POLLIN, POLLOUT, poll};
 use libc::types::pollfd;
 
-/// The number of events that `await_any` awaits.
-const EVENTS: usize = 4;
+/// The number of events that `await_any` awaits beside listeners.
+const EVENTS: usize = 3;
+
+/// The maximum number of listeners that are awaited together.
+pub const MOST_LISTENERS: usize = 65;
 
 /// That a descriptor can be read, or that it can be written.
 #[derive(Clone, Copy)]
@@ -48,15 +51,73 @@ impl Event {
     }
 }
 
-/// Waits until one of these events has come, or a descriptor has failed, for at most `limit`
-/// milliseconds if there is a limit. Returns which have come: none if the time is over, and maybe
-/// none earlier.
-pub fn await_any(events: [Event; EVENTS], limit: Option<u64>) -> [bool; EVENTS] {
-    let mut asked = events.map(Event::asked);
-    if poll(&mut asked, timeout(limit)) > 0 {
-        asked.map(has_come)
+/// Listeners that a thread waits for together: until a client waits at one of them to be accepted.
+#[derive(Clone, Copy)]
+pub struct Several {
+    /// What the system is asked: first for events beside the listeners, then for the listeners.
+    asked: [pollfd; EVENTS + MOST_LISTENERS],
+    /// The number of listeners.
+    count: usize,
+}
+
+impl Several {
+    /// Returns no listener. Nothing ever happens to it.
+    pub fn none() -> Several {
+        Several {
+            asked: [Event::readable(Watched::NONE).asked; EVENTS + MOST_LISTENERS],
+            count: 0,
+        }
+    }
+
+    /// Adds one more listener, unless there are 65 already.
+    pub fn add(&mut self, listener: Watched) {
+        if self.count < MOST_LISTENERS {
+            self.asked[EVENTS + self.count] = Event::readable(listener).asked;
+            self.count += 1;
+        }
+    }
+
+    /// Returns them as they are now: whether a client waits at each of them.
+    pub fn looked_at(&self) -> Several {
+        let mut seen = *self;
+        let awaited = EVENTS + self.count.min(MOST_LISTENERS);
+        if poll(&mut seen.asked[..awaited], 0) > 0 {
+            seen
+        } else {
+            *self
+        }
+    }
+
+    /// Returns whether a client waited at the listener of this number, when they were looked at.
+    pub fn has_client(&self, number: usize) -> bool {
+        match self.asked.get(EVENTS.saturating_add(number)) {
+            Some(listener) => has_come(*listener),
+            None => false,
+        }
+    }
+
+    /// Returns whether a client waited at one of them, when they were looked at.
+    pub fn has_clients(&self) -> bool {
+        self.asked[EVENTS..].iter().any(|it| has_come(*it))
+    }
+}
+
+/// Waits until one of these events has come, a client waits at one of the listeners, or a descriptor
+/// has failed, for at most `limit` milliseconds if there is a limit. Returns which events have come,
+/// and whether a client waits: none if the time is over, and maybe none earlier.
+pub fn await_any(
+    events: [Event; EVENTS],
+    listeners: &Several,
+    limit: Option<u64>,
+) -> ([bool; EVENTS], bool) {
+    let mut seen = *listeners;
+    seen.asked[..EVENTS].copy_from_slice(&events.map(Event::asked));
+    let awaited = EVENTS + listeners.count.min(MOST_LISTENERS);
+    if poll(&mut seen.asked[..awaited], timeout(limit)) > 0 {
+        let come = [seen.asked[0], seen.asked[1], seen.asked[2]];
+        (come.map(has_come), seen.has_clients())
     } else {
-        [false; EVENTS]
+        ([false; EVENTS], false)
     }
 }
 

@@ -14,9 +14,10 @@ use Rattle.sysv_server.specs.Serving.{EndsFrom, FailsFrom, HasCause, HasReason, 
 use Rattle.sysvmsg.specs.Ends.{EndsWithin, FailsWithin, HasServedAll, HasServedFrom, places_of}
 
 module _ {L I : Type 0} (told : L → Option (List SocketStream)) (listens : L → Bool)
-    (reads : I → ℕ → Result ℕ Error → I → Type 0) (fails : L → Error → L → Type 0) where
+    (reads : I → ℕ → Result ℕ Error → I → Type 0) (fails : L → Error → L → Type 0)
+    (steps : L → Option SocketStream → L → Type 0) where
   ends : (limit : Option ℕ) (terms : Terms) (before now : L) (outcome : Result Ended ServeFault) →
-      IfOk outcome (λ ended. EndsFrom told listens terms.stats terms.blocks (places_of limit terms) terms.sessions
+      IfOk outcome (λ ended. EndsFrom told listens steps terms.stats terms.blocks (places_of limit terms) terms.sessions
       (limits_in terms) before ended now) → IfOk outcome (EndsWithin limit terms)
   ends limit terms before now (Ok ended) from = from.ends
   ends limit terms before now (Err why) from = from
@@ -43,7 +44,7 @@ module _ {L I : Type 0} (told : L → Option (List SocketStream)) (listens : L �
 
   pub told_less : (limit : Option ℕ) (has_input : Bool) (terms : Terms) (exit : ExitCode)
       (shown after : Option (List ℕ)) (before now : L) →
-      HasServedFrom told listens reads fails limit has_input terms exit shown after before now →
+      HasServedFrom told listens reads fails steps limit has_input terms exit shown after before now →
       HasServedAll limit has_input terms exit shown after
   told_less limit has_input terms exit shown after before now served = record {
     outcome = served.outcome;

@@ -70,7 +70,7 @@ HasServed has_input ended reason shown after =
 -- The number of places of a server on these terms, under this limit of open files: as many as the terms
 -- have sessions at once, or as many as there are descriptors for.
 abbrev pub places_of : Option ℕ → Terms → ℕ
-places_of limit terms = places_within limit terms.stats terms.workers terms.at_once
+places_of limit terms = places_within limit terms.stats terms.workers terms.sockets terms.at_once
 
 -- A server on these terms ended so, under this limit of open files. It cut off clients only under the
 -- limits that the terms have.
@@ -110,14 +110,15 @@ pub record HasServedAll (limit : Option ℕ) (has_input : Bool) (terms : Terms) 
   pub reports : Reports exit has_input outcome shown after
 
 module _ {L I : Type 0} (told : L → Option (List SocketStream)) (listens : L → Bool)
-    (reads : I → ℕ → Result ℕ Error → I → Type 0) (fails : L → Error → L → Type 0) where
+    (reads : I → ℕ → Result ℕ Error → I → Type 0) (fails : L → Error → L → Type 0)
+    (steps : L → Option SocketStream → L → Type 0) where
   -- The same of a server on this listener, which went from the one state to the other. The sessions were on
   -- the connections that it has accepted. An input that is over was read to its end, or could not be read,
   -- and an accept that is told as failed has failed.
   pub record HasServedFrom (limit : Option ℕ) (has_input : Bool) (terms : Terms) (exit : ExitCode)
       (shown after : Option (List ℕ)) (before now : L) : Type 0 where
     pub outcome : Outcome
-    pub ends : IfOk outcome.ended (λ ended. EndsFrom told listens terms.stats terms.blocks (places_of limit terms)
+    pub ends : IfOk outcome.ended (λ ended. EndsFrom told listens steps terms.stats terms.blocks (places_of limit terms)
         terms.sessions (limits_in terms) before ended now)
     pub setting : IfOk outcome.ended (λ ended. RanWithin limit terms ended.setting)
     pub meant : IfOk outcome.ended (λ ended. HasCause reads fails has_input terms.sessions ended.sums.sessions

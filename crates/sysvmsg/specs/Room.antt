@@ -7,11 +7,11 @@ abbrev pub for_stats : Bool → ℕ
 for_stats true = OF_STATS
 for_stats false = 0
 
--- The number of places of a server with this number of workers that is to have this number at most,
--- under this limit of open files: just that number, unless there are fewer descriptors beside those of
--- the server and its workers and those with which it shows its state, and at least 1. If the limit is
+-- The number of places of a server with this number of workers and of sockets that is to have this number of places
+-- at most, under this limit of open files: just that number, unless there are fewer descriptors beside those of
+-- the server, its workers and its sockets and those with which it shows its state, and at least 1. If the limit is
 -- not known, it is just that number.
-abbrev pub places_within : Option ℕ → (has_stats : Bool) → (workers most : ℕ) → ℕ
-places_within None has_stats workers most = most
-places_within (Some limit) has_stats workers most =
-    min (max (limit - (OWN + for_stats has_stats + OF_WORKER * workers)) 1) most
+abbrev pub places_within : Option ℕ → (has_stats : Bool) → (workers sockets most : ℕ) → ℕ
+places_within None has_stats workers sockets most = most
+places_within (Some limit) has_stats workers sockets most =
+    min (max (limit - (OWN + for_stats has_stats + (sockets - 1) + OF_WORKER * workers)) 1) most

@@ -21,8 +21,8 @@ use Rattle.sysv_connect.specs.Several.{way_by}
 use Rattle.sysv_connect.specs.Stats.{HasLooked}
 use Rattle.sysv_connect.specs.Visits.{Visited}
 use Rattle.sysv_model.specs.declared.cred.Cred.{Cred}
-use Rattle.sysv_options.specs.declared.asked.Asked.{Asked}
 use Rattle.sysv_options.specs.declared.asked.Asked.TheVariants.{Script, Serve, Look, Save, Load as ToLoad, Client}
+use Rattle.sysv_options.specs.Asked.{Requested}
 use Rattle.sysv_options.specs.declared.process.NoWords.{NoWords}
 use Rattle.sysv_options.specs.declared.who.Surroundings.{Surroundings}
 use Rattle.sysv_options.specs.Process.{AreTold, Told, Unread, Words}
@@ -77,7 +77,7 @@ module _ {P R W : Type 0} (remaining : R → Option (List ℕ)) (contents : W �
 
   -- What is asked for was done. A client states the credentials of its words, and for the others those
   -- that its surroundings have for them.
-  abbrev pub Answers : Asked → ExitCode → (fed shown after : Option (List ℕ)) → Contact P (Link R W) → Type 0
+  abbrev pub Answers : Requested → ExitCode → (fed shown after : Option (List ℕ)) → Contact P (Link R W) → Type 0
   Answers Script exit fed shown after contact = (contact ≡ Unused place)
       × ((text : List ℕ) → fed ≡ Some text → (left : Option (List ℕ)) × AnswersScript exit text shown after left)
   Answers (Serve serving) exit fed shown after contact = (contact ≡ Unused place)
@@ -105,7 +105,7 @@ module _ {P R W : Type 0} (remaining : R → Option (List ℕ)) (contents : W �
   abbrev pub AnswersWords : List (List ℕ) → ExitCode → (fed shown after : Option (List ℕ)) →
       Contact P (Link R W) → Type 0
   AnswersWords words exit fed shown after contact =
-      ((asked : Asked) × IsMeant words asked × Answers asked exit fed shown after contact)
+      ((asked : Requested) × IsMeant words asked × Answers asked exit fed shown after contact)
       ⊎ RefusesWords words exit shown after contact
 
   -- Either that, for words that can be read; or the words cannot be read, and the program failed and has

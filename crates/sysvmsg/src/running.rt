@@ -22,7 +22,8 @@ use sysv_connect::{
     save_at, say,
 };
 use sysv_options::{
-    Asked, NoWords, Process, Surroundings, credentials, no_text, read_words, surroundings, telling,
+    Asked, NoWords, Process, Serving, Surroundings, credentials, no_text, read_words, surroundings,
+    telling,
 };
 
 /// The exit status if the command line is not valid.
@@ -121,7 +122,7 @@ fn answer<
     S: Write,
 >(
     rt: &R,
-    asked: Asked<'_>,
+    asked: Asked<'_, Serving<'_>>,
     around: &Surroundings,
     input: I,
     place: P,

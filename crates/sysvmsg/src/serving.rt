@@ -10,6 +10,7 @@ ghost use Rattle.sysvmsg.specs.Ends.{fates_of, line_of, sums_line, words_of};
 
 use crate::room::room;
 use crate::socket::listen_at;
+use std::alloc::Global;
 use std::io::{Eprint, ErrorKind, Read, Write};
 use std::net::Net;
 use std::os::fd::AsRawFd;
@@ -23,8 +24,8 @@ use sysv_connect::{FAULT, complain};
 use sysv_model::BLOCK_BYTES;
 use sysv_options::Serving;
 use sysv_server::{
-    Ended, Fates, Host, Hosted, Input, Listens, MAX_CLIENTS, Notice, Reading, Reason, ServeFault,
-    Sums, Terms, serve_from,
+    Callers, Doors, Ended, Fates, Host, Hosted, Input, Listens, MAX_CLIENTS, Notice, Reading,
+    Reason, ServeFault, Sums, Terms, serve_from,
 };
 use sysv_system::{Event, Watched, await_event};
 
@@ -63,20 +64,58 @@ pub(crate) fn serve_on_sockets<
         (S.contents screen.old) (S.contents screen.new) }
 {
     let rt = server.rt;
-    let Terms {
-        stats,
-        workers,
-        at_once,
-        ..
-    } = serving.terms;
     let host = Reporter {
         rt,
         serving,
-        at_once: room(limit, stats, workers, at_once),
+        at_once: room(limit, &serving.terms),
     };
-    let mut listener = Hosted::new(&host);
+    let Some(sockets) = sockets_of(rt.alloc(), &host, serving) else {
+        return fail(screen, "no memory");
+    };
     let input = Reading::new(input);
-    serve_at(rt, &mut listener, &host, input, serving, limit, screen)
+    serve_at_doors(rt, &host, sockets, input, serving, limit, screen)
+}
+
+/// Serves on these sockets of a host in turn, like `serve_at`.
+fn serve_at_doors<
+    'h,
+    H: Host + 'h,
+    I: Input + Drop,
+    R: Net + Threads + Wait + Sync + Eprint + AllocGlobal,
+    S: Write,
+>(
+    rt: &R,
+    host: &'h H,
+    sockets: Vec<Hosted<'h, H>>,
+    input: I,
+    serving: &Serving<'_>,
+    limit: Option<u64>,
+    screen: &mut S,
+) -> ExitCode
+    requires { HasLimits serving.now }
+    ensures { HasServedAll limit serving.now.until_eof serving.now.terms result
+        (S.contents screen.old) (S.contents screen.new) }
+{
+    let mut listener = Doors::new(sockets, host);
+    serve_at(rt, &mut listener, host, input, serving, limit, screen)
+}
+
+/// Returns the sockets of a server, which its host has not opened yet, in order. Returns `None` if
+/// memory is refused.
+fn sockets_of<'h, H>(
+    alloc: Global,
+    host: &'h H,
+    serving: &Serving<'_>,
+) -> Option<Vec<Hosted<'h, H>>> {
+    let mut sockets = Vec::with_capacity(alloc, serving.count()).ok()?;
+    for number in 0..serving.count() {
+        if let Some(socket) = serving.socket(number) {
+            sockets
+                .push(Hosted::new(host, number, socket.callers))
+                .ok()?;
+        }
+    }
+    Some(sockets)
 }
 
 /// The host of a server: it opens the socket, and reports on standard error.
@@ -99,8 +138,11 @@ impl<R: Eprint> Reporter<'_, R> {
             at_once,
         } = *self;
         let sessions = if at_once == 1 { "session" } else { "sessions" };
-        let path = serving.file.path;
         let blocks = serving.terms.blocks;
+        let path = match serving.socket(0) {
+            Some(first) => first.file.path,
+            None => serving.file.path,
+        };
         if takes_line() {
             let _ = eprintln!(*rt;
                 "sysvmsg: serving {path}, up to {at_once} {sessions} at once, \
@@ -113,19 +155,43 @@ impl<R: Eprint> Reporter<'_, R> {
                 "sysvmsg: descriptors for {at_once} {sessions} at once: raise the limit of open files"
             );
         }
+        for number in 0..serving.count() {
+            self.announce_user(number);
+        }
+    }
+
+    /// Reports whom the socket of this number lets in, if that is one user.
+    fn announce_user(&self, number: usize) {
+        let Some(socket) = self.serving.socket(number) else {
+            return;
+        };
+        let path = socket.file.path;
+        if let Callers::Only { uid, gid } = socket.callers {
+            if takes_line() {
+                let _ = eprintln!(*self.rt;
+                    "sysvmsg: serving {path} for user {uid} with group {gid}"
+                );
+            }
+        }
     }
 }
 
 impl<R: Files + Net + Eprint + AllocGlobal + Clone + Drop> Host for Reporter<'_, R> {
-    /// Opens the socket, and reports that the server listens, or why it does not.
-    fn listen(&self) -> io::Result<UnixListener> {
-        match listen_at(self.rt, &self.serving.file) {
+    /// Opens the socket of this number, and reports once all are open that the server listens, or why
+    /// it does not.
+    fn listen(&self, number: usize) -> io::Result<UnixListener> {
+        let Some(socket) = self.serving.socket(number) else {
+            return Err(io::Error::from(ErrorKind::NotFound));
+        };
+        match listen_at(self.rt, &socket.file) {
             Ok(listener) => {
-                self.announce();
+                if number.saturating_add(1) == self.serving.count() {
+                    self.announce();
+                }
                 Ok(listener)
             }
             Err(why) => {
-                self.remove_stats();
+                self.remove_before(number);
                 Err(why)
             }
         }
@@ -148,6 +214,13 @@ impl<R: Files + Net + Eprint + AllocGlobal + Clone + Drop> Host for Reporter<'_,
             Notice::Resumed => {
                 let _ = eprintln!(*rt; "sysvmsg: accepts again");
             }
+            Notice::Lost(number, why) => {
+                let path = match self.serving.socket(number) {
+                    Some(socket) => socket.file.path,
+                    None => "",
+                };
+                let _ = eprintln!(*rt; "sysvmsg: no more clients at {path}: {why}");
+            }
             Notice::NoMemory => {
                 let _ = eprintln!(*rt; "sysvmsg: no memory for a session");
             }
@@ -159,9 +232,14 @@ impl<R: Files + Net + Eprint + AllocGlobal + Clone + Drop> Host for Reporter<'_,
 }
 
 impl<R: Files> Reporter<'_, R> {
-    /// Removes the socket on which the state would be shown, which was created before the other one
-    /// could not be.
-    fn remove_stats(&self) {
+    /// Removes the sockets that were created before the one of this number, which could not be: those
+    /// of lower numbers, and the one on which the state would be shown.
+    fn remove_before(&self, number: usize) {
+        for other in 0..number {
+            if let Some(socket) = self.serving.socket(other) {
+                let _ = fs::remove_file(self.rt, socket.file.path);
+            }
+        }
         if let Some(file) = &self.serving.stats {
             let _ = fs::remove_file(self.rt, file.path);
         }
@@ -193,8 +271,8 @@ fn serve_at<
     screen: &mut S,
 ) -> ExitCode
     requires { HasLimits serving.now }
-    ensures { HasServedFrom L.accepted L.listens I.reads L.fails limit serving.now.until_eof
-        serving.now.terms result (S.contents screen.old) (S.contents screen.new)
+    ensures { HasServedFrom L.accepted L.listens I.reads L.fails L.steps limit
+        serving.now.until_eof serving.now.terms result (S.contents screen.old) (S.contents screen.new)
         listener.old listener.new }
 {
     let mut reason = None;
@@ -219,7 +297,7 @@ fn run_server<L: Listens, H: Host, I: Input + Drop, R: Net + Threads + Wait + Sy
     reason: &mut Option<Reason>,
 ) -> Result<Ended, ServeFault>
     requires { HasLimits serving.now }
-    ensures ends { IfOk result (λ ended. EndsFrom L.accepted L.listens serving.now.terms.stats
+    ensures ends { IfOk result (λ ended. EndsFrom L.accepted L.listens L.steps serving.now.terms.stats
         serving.now.terms.blocks (places_of limit serving.now.terms) serving.now.terms.sessions
         (limits_in serving.now.terms) listener.old ended listener.new) }
     ensures setting { IfOk result (λ ended. RanWithin limit serving.now.terms ended.setting) }
@@ -230,7 +308,7 @@ fn run_server<L: Listens, H: Host, I: Input + Drop, R: Net + Threads + Wait + Sy
         listener.old why listener.new) }
 {
     let mut terms = serving.terms;
-    terms.at_once = room(limit, terms.stats, terms.workers, terms.at_once);
+    terms.at_once = room(limit, &terms);
     let input = serving.until_eof.then_some(input);
     serve_from(rt, rt.alloc(), listener, host, input, terms, reason)
 }

@@ -6,10 +6,10 @@ use sysv_clients::{Form, Receipt, Target, Task};
 use sysv_connect::{How, Looking, Telling};
 use sysv_model::Cred;
 use sysv_options::{
-    Asked, NoWords, Process, Serving, SocketFile, Surroundings, Who, credentials, no_text,
-    read_words, surroundings, telling,
+    Asked, Entrance, Entrances, NoWords, Process, Serving, SocketFile, Surroundings, Who,
+    credentials, no_text, read_words, surroundings, telling,
 };
-use sysv_server::{MAX_CLIENTS, Patience, Terms};
+use sysv_server::{Callers, MAX_CLIENTS, Patience, Terms};
 
 /// Where neither the environment nor a terminal wants anything.
 const NOWHERE: Surroundings = Surroundings {
@@ -48,7 +48,7 @@ const PLAIN: How = How {
 };
 
 /// Parses a command line. Tolerates one refusal of memory.
-fn read<'a>(rt: &impl AllocGlobal, words: &'a [&'a str]) -> Result<Asked<'a>, Error> {
+fn read<'a>(rt: &impl AllocGlobal, words: &'a [&'a str]) -> Result<Asked<'a, Serving<'a>>, Error> {
     match read_words(rt.alloc(), words) {
         Ok(asked) => Ok(asked),
         Err(_) => read_words(rt.alloc(), words),
@@ -56,7 +56,7 @@ fn read<'a>(rt: &impl AllocGlobal, words: &'a [&'a str]) -> Result<Asked<'a>, Er
 }
 
 /// Asserts that the words request this.
-fn assert_asks(rt: &(impl Abort + AllocGlobal), words: &[&str], wanted: Asked<'_>) {
+fn assert_asks(rt: &(impl Abort + AllocGlobal), words: &[&str], wanted: Asked<'_, Serving<'_>>) {
     match read(rt, words) {
         Ok(asked) => assert_is(rt, asked, wanted),
         Err(why) => panic!(rt; "{why}"),
@@ -78,7 +78,7 @@ fn assert_refused(rt: &(impl Abort + AllocGlobal), words: &[&str], wanted: &str)
 }
 
 /// Returns the request of a client at `./q`.
-fn client(who: Who, task: Task<'_>, how: How) -> Asked<'_> {
+fn client(who: Who, task: Task<'_>, how: How) -> Asked<'_, Serving<'_>> {
     Asked::Client {
         path: "./q",
         who,
@@ -195,18 +195,18 @@ fn a_state_is_requested(rt: HostRuntime) {
     assert_asks(&rt, &words, Asked::Look(looking));
 }
 
-#[test]
-fn a_server_is_requested(rt: HostRuntime) {
-    let words = [
-        "sysvmsg", "serve", "./q", "--mode", "660", "--blocks", "128", "--stats", "./s", "--drain",
-        "9", "--hold",
-    ];
-    let file = SocketFile {
-        path: "./q",
+/// The file of a socket at this path.
+fn file_at(path: &str) -> SocketFile<'_> {
+    SocketFile {
+        path,
         mode: Some(0o660),
         replace: false,
-    };
-    let terms = Terms {
+    }
+}
+
+/// The terms of a server with this number of sockets, for the options of the tests.
+fn terms_with(sockets: u32) -> Terms {
+    Terms {
         blocks: 128,
         workers: 4,
         at_once: MAX_CLIENTS,
@@ -215,17 +215,94 @@ fn a_server_is_requested(rt: HostRuntime) {
         drain: 9,
         stats: true,
         hold: true,
-    };
+        sockets,
+    }
+}
+
+#[test]
+fn a_server_is_requested(rt: HostRuntime) {
+    let words = [
+        "sysvmsg", "serve", "./q", "--mode", "660", "--blocks", "128", "--stats", "./s", "--drain",
+        "9", "--hold",
+    ];
     let serving = Serving {
-        file,
-        stats: Some(SocketFile {
-            path: "./s",
-            ..file
-        }),
-        terms,
+        file: file_at("./q"),
+        others: Entrances::none(),
+        no_main: false,
+        stats: Some(file_at("./s")),
+        terms: terms_with(1),
         until_eof: false,
     };
     assert_asks(&rt, &words, Asked::Serve(serving));
+}
+
+#[test]
+fn sockets_for_users_are_requested(rt: HostRuntime) {
+    let anna = Entrance {
+        file: file_at("./a=1:1"),
+        callers: Callers::Only { uid: 1001, gid: 0 },
+    };
+    let ben = Entrance {
+        file: file_at("./b"),
+        callers: Callers::Only {
+            uid: 0,
+            gid: 4_294_967_295,
+        },
+    };
+    let mut others = Entrances::none();
+    assert_that(&rt, others.add(anna) && others.add(ben));
+    let words = [
+        "sysvmsg",
+        "serve",
+        "--as",
+        "./a=1:1=1001:0",
+        "./q",
+        "--mode",
+        "660",
+        "--blocks",
+        "128",
+        "--stats",
+        "./s",
+        "--drain",
+        "9",
+        "--hold",
+        "--as=./b=0:4294967295",
+        "--no-main",
+    ];
+    let mut serving = Serving {
+        file: file_at("./q"),
+        others,
+        no_main: true,
+        stats: Some(file_at("./s")),
+        terms: terms_with(2),
+        until_eof: false,
+    };
+    assert_asks(&rt, &words, Asked::Serve(serving));
+    assert_that(
+        &rt,
+        serving.socket(0) == Some(anna) && serving.socket(2).is_none(),
+    );
+    serving.no_main = false;
+    serving.terms.sockets = 3;
+    assert_asks(&rt, &words[..15], Asked::Serve(serving));
+    let main = Entrance {
+        file: file_at("./q"),
+        callers: Callers::Anyone,
+    };
+    assert_that(
+        &rt,
+        serving.socket(0) == Some(main) && serving.socket(2) == Some(ben),
+    );
+}
+
+#[test]
+fn at_most_64_sockets_for_users_are_requested(rt: HostRuntime) {
+    let mut words = ["--as=./a=1:1"; 68];
+    words[0] = "sysvmsg";
+    words[1] = "serve";
+    words[2] = "./q";
+    assert_that(&rt, read(&rt, &words[..67]).is_ok());
+    assert_that(&rt, read(&rt, &words).is_err());
 }
 
 /// A path of 104 bytes.
@@ -233,7 +310,27 @@ const LONG: &str =
     "012345678901234567890123456789012345678901234567890/0123456789012345678901234567890123456789012345678901";
 
 /// What each kind of error of a value says, with words that have it.
-const REFUSED: [(&[&str], &str); 16] = [
+const REFUSED: [(&[&str], &str); 21] = [
+    (
+        &["sysvmsg", "serve", "./q", "--as", "./a=1"],
+        "--as takes SOCKET=UID:GID",
+    ),
+    (
+        &["sysvmsg", "serve", "./q", "--as", "./a=1:-1"],
+        "--as takes SOCKET=UID:GID",
+    ),
+    (
+        &["sysvmsg", "serve", "./q", "--as", "./a=1:4294967296"],
+        "--as takes SOCKET=UID:GID",
+    ),
+    (
+        &["sysvmsg", "serve", "./q", "--as", "=1:1"],
+        "--as takes SOCKET=UID:GID",
+    ),
+    (
+        &["sysvmsg", "serve", "./q", "--no-main"],
+        "--no-main needs --as",
+    ),
     (&["sysvmsg", "ipcs", ""], "a PATH has 1 to 107 bytes"),
     (
         &["sysvmsg", "serve", LONG, "--mode", "600"],

@@ -406,7 +406,7 @@ struct Bound {
 }
 
 impl Host for Bound {
-    fn listen(&self) -> io::Result<UnixListener> {
+    fn listen(&self, _number: usize) -> io::Result<UnixListener> {
         self.listener.try_clone()
     }
 
@@ -422,7 +422,7 @@ impl Host for Bound {
 struct Unbound;
 
 impl Host for Unbound {
-    fn listen(&self) -> io::Result<UnixListener> {
+    fn listen(&self, _number: usize) -> io::Result<UnixListener> {
         Err(io::Error::from(ErrorKind::AddrInUse))
     }
 
@@ -486,6 +486,7 @@ fn ends_with<R: Threads + Wait + Net + Files + Abort + Clock + Sync>(
         drain: 62,
         stats: matches!(clients, Clients::Looking),
         hold: false,
+        sockets: 1,
     };
     let first = ended(rt, alloc, terms, clients);
     if matches!(&first.0.0, Err(ServeFault::NoMemory | ServeFault::Thread)) {
@@ -604,6 +605,7 @@ fn a_server_without_a_listener_serves_nobody(rt: HostRuntime) {
         drain: 0,
         stats: false,
         hold: false,
+        sockets: 1,
     };
     let mut reason = None;
     let end = serve_listener(

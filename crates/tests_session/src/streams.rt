@@ -6,7 +6,7 @@ use std::net::Net;
 use std::os::unix::net::UnixStream;
 use std::process::Abort;
 use sysv_seats::{
-    Drained, Filled, Limits, MemoryStream, NonBlocking, Over, Replies, SocketStream, Step,
+    Callers, Drained, Filled, Limits, MemoryStream, NonBlocking, Over, Replies, SocketStream, Step,
 };
 
 /// Returns whether a read with room for 4 bytes gives these.
@@ -35,7 +35,7 @@ fn memory<'a>(
 /// Returns a connection on a socket, and its client.
 fn socket<R: Net + Abort>(rt: &R) -> (SocketStream, UnixStream) {
     let (ours, client) = UnixStream::pair(rt).expect(rt, "a pair of sockets");
-    let stream = SocketStream::new(ours, Limits::all_or_none(true)).expect(
+    let stream = SocketStream::new(ours, Limits::all_or_none(true), Callers::Anyone).expect(
         rt,
         "a socket that does not wait",
     );

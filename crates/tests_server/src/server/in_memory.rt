@@ -4,9 +4,9 @@ ghost use Rattle.std.specs.Prelude.{◌≡◌};
 use super::*;
 use std::net::Shutdown;
 use std::snapshot::Snapshot;
-use sysv_seats::{Limits, SocketStream};
+use sysv_seats::{Callers, Limits, SocketStream};
 use sysv_server::{Input, Listens, serve_from};
-use sysv_system::Watched;
+use sysv_system::{Several, Watched};
 
 /// A listener to which some clients have connected. It is open until it is closed.
 #[derive(Drop)]
@@ -20,13 +20,17 @@ struct Connected {
 }
 
 impl Listens for Connected {
-    ghost use Rattle.std.specs.Prelude.{map, not, Some, ⊤};
+    ghost use Rattle.std.specs.Prelude.{IfSome, map, not, Some, ⊤};
+    ghost use Rattle.sysv_seats.specs.declared.callers.Callers.TheVariants as Callers;
+    ghost use Rattle.sysv_seats.specs.Untold.{callers_of};
 
     ghost accepted = { λ l. Some (map (λ s. s.value) l.accepted.items) };
 
     ghost listens = { λ l. not l.is_closed };
 
     ghost fails = { λ _ _ _. ⊤ };
+
+    ghost steps = { λ _ step _. IfSome step (λ stream. callers_of stream ≡ Callers.Anyone) };
 
     fn is_open(&self) -> bool {
         !self.is_closed
@@ -37,15 +41,15 @@ impl Listens for Connected {
         Ok(())
     }
 
-    fn descriptor(&self) -> Watched {
-        Watched::of(&self.readable)
+    fn watch(&self, listeners: &mut Several) {
+        listeners.add(Watched::of(&self.readable));
     }
 
     fn accept(&mut self, limits: Limits) -> io::Result<SocketStream> {
         let Some(stream) = self.waiting.pop() else {
             return Err(io::Error::from(ErrorKind::NotConnected));
         };
-        let socket = SocketStream::new(stream, limits)?;
+        let socket = SocketStream::new(stream, limits, Callers::Anyone)?;
         match self.accepted.push(Snapshot::of(&socket)) {
             Ok(()) => Ok(socket),
             Err(_) => Err(io::Error::from(ErrorKind::OutOfMemory)),
@@ -122,6 +126,7 @@ fn terms(sessions: u64) -> Terms
         drain: 0,
         stats: false,
         hold: false,
+        sockets: 1,
     }
 }
 

@@ -1,5 +1,5 @@
 -- An option has the time of its word, and none if the word is no time.
-use Rattle.std.proofs.Common.{◌≡◌, ◌∙◌, ℕ, List, Some, ap, sym}
+use Rattle.std.proofs.Common.{◌∙◌, ℕ, List, Some, ap, sym}
 use Rattle.sysv_options.specs.Words.{IsTime, word_of, words_in}
 use Rattle.sysv_options.proofs.TimeLemmas.{has_time, has_no_time}
 use Rattle.sysv_options.proofs.asked.time_if.Goals as goal

@@ -11,7 +11,7 @@ returns-clause-ok g c =
     let ok = c.in-Some-empty_books.books.ok in
     let many = c.in-Some-empty_books.ensures in
     let counted : length c.in-Some-empty_books.books.items ≡ c.args.terms.at_once = omega arith in
-    let same = still_holds g.L.Listens.accepted g.L.Listens.listens g.I.Input.reads g.L.Listens.fails
+    let same = still_holds g.L.Listens.accepted g.L.Listens.listens g.I.Input.reads g.L.Listens.fails g.L.Listens.steps
     c.args.terms.stats _
     c.args.terms.at_once c.args.terms.sessions c.new-source.result c.serve_arrivals-outcome.new.source
     c.in-Some-empty_books.books.items c.serve_arrivals-outcome.new.books.items c.serve_arrivals-outcome.result
@@ -20,7 +20,7 @@ returns-clause-ok g c =
     c.serve_arrivals-outcome.ensures.ok c.serve_arrivals-outcome.ensures.err in
     let name_is = c.into_parts-left.ensures.same_reference ∙ (same ∙ c.new-source.ensures.same_reference) in
     let back = c.given_back.ensures ∙ c.into_parts-left.ensures.listener in
-    all_end g.L.Listens.accepted g.L.Listens.listens g.I.Input.reads g.L.Listens.fails
+    all_end g.L.Listens.accepted g.L.Listens.listens g.I.Input.reads g.L.Listens.fails g.L.Listens.steps
     c.args.terms.stats _
     c.args.terms.at_once c.args.terms.sessions c.new-source.result c.serve_arrivals-outcome.new.source
     c.in-Some-empty_books.books.items c.serve_arrivals-outcome.new.books.items c.serve_arrivals-outcome.result
@@ -31,7 +31,7 @@ returns-clause-ok g c =
 
 pub returns-clause-exact : goal.returns-clause-exact
 returns-clause-exact g c =
-    all_for g.L.Listens.accepted g.L.Listens.listens g.I.Input.reads g.L.Listens.fails
+    all_for g.L.Listens.accepted g.L.Listens.listens g.I.Input.reads g.L.Listens.fails g.L.Listens.steps
     c.args.terms.stats _
     c.args.terms.at_once c.args.terms.sessions c.new-source.result c.serve_arrivals-outcome.new.source
     c.in-Some-empty_books.books.items c.serve_arrivals-outcome.new.books.items c.serve_arrivals-outcome.result
@@ -45,7 +45,7 @@ returns-clause-err g c =
     let ok = c.in-Some-empty_books.books.ok in
     let many = c.in-Some-empty_books.ensures in
     let counted : length c.in-Some-empty_books.books.items ≡ c.args.terms.at_once = omega arith in
-    let same = still_holds g.L.Listens.accepted g.L.Listens.listens g.I.Input.reads g.L.Listens.fails
+    let same = still_holds g.L.Listens.accepted g.L.Listens.listens g.I.Input.reads g.L.Listens.fails g.L.Listens.steps
     c.args.terms.stats _
     c.args.terms.at_once c.args.terms.sessions c.new-source.result c.serve_arrivals-outcome.new.source
     c.in-Some-empty_books.books.items c.serve_arrivals-outcome.new.books.items c.serve_arrivals-outcome.result
@@ -54,7 +54,7 @@ returns-clause-err g c =
     c.serve_arrivals-outcome.ensures.ok c.serve_arrivals-outcome.ensures.err in
     let name_is = c.into_parts-left.ensures.same_reference ∙ (same ∙ c.new-source.ensures.same_reference) in
     let back = c.given_back.ensures ∙ c.into_parts-left.ensures.listener in
-    all_fail g.L.Listens.accepted g.L.Listens.listens g.I.Input.reads g.L.Listens.fails
+    all_fail g.L.Listens.accepted g.L.Listens.listens g.I.Input.reads g.L.Listens.fails g.L.Listens.steps
     c.args.terms.stats _
     c.args.terms.at_once c.args.terms.sessions c.new-source.result c.serve_arrivals-outcome.new.source
     c.in-Some-empty_books.books.items c.serve_arrivals-outcome.new.books.items c.serve_arrivals-outcome.result

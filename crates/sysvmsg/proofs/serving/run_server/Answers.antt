@@ -9,7 +9,8 @@ returns-clause-ends g c =
     let terms = c.args.serving.now.terms in
     subst (λ places.
     IfOk c.serve_from.result
-    (λ ended. EndsFrom g.L.Listens.accepted g.L.Listens.listens terms.stats terms.blocks places terms.sessions
+    (λ ended. EndsFrom g.L.Listens.accepted g.L.Listens.listens g.L.Listens.steps terms.stats terms.blocks places
+    terms.sessions
     (limits_in terms) c.args.listener.now ended c.serve_from.new.listener))
     c.room.ensures.exact c.serve_from.ensures.ok
 

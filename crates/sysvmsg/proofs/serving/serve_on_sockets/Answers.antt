@@ -1,6 +1,14 @@
--- What the socket and the input tell is left out.
-use Rattle.sysvmsg.proofs.Served.{told_less}
+-- Without memory for the sockets there is no server.
+use Rattle.std.specs.Prelude.{Err, None}
+use Rattle.sysv_engine.specs.declared.fault.ServeFault.TheVariants.{NoMemory}
 use Rattle.sysvmsg.proofs.serving.serve_on_sockets.Goals as goal
 
-pub returns : goal.returns
-returns g c = told_less _ _ _ _ _ _ _ _ _ _ _ _ c.serve_at.ensures
+pub returns-in_default : goal.returns-in_default
+returns-in_default g c = record {
+  outcome = record { ended = Err NoMemory; reason = None };
+  ends = tt;
+  setting = tt;
+  meant = tt;
+  fails = tt;
+  reports = λ succeeds. absurd (c.fail.ensures succeeds);
+}

@@ -4,6 +4,7 @@ use Rattle.sysv_service.specs.Ran.{Pass}
 use Rattle.sysv_wire.specs.declared.frame.Version.{Version}
 use Rattle.sysv_seats.specs.Holding.{begun_with}
 use Rattle.sysv_seats.specs.Sits.{Sits}
+use Rattle.sysv_seats.specs.Untold.{lets_in}
 use Rattle.sysv_engine.specs.Places.{Seated, taken_by}
 use Rattle.sysv_engine.proofs.PlaceLemmas.{takes}
 use Rattle.sysv_engine.proofs.place.Place.adopt.Goals as goal
@@ -14,7 +15,7 @@ returns g c =
     c.args.connection c.open-client.result c.requires.0 c.requires.1
     (c.seat.ensures ∙ ap (taken_by c.open-client.result) c.self.view_is)
     c.open-client.ensures.connection
-    (subst (λ (v : Version). (pass : Pass) → Sits g.T.NonBlocking.incoming g.T.NonBlocking.outgoing v pass
-    c.args.connection c.open-client.result (begun_with pass))
+    (subst (λ (v : Version). (pass : Pass) → Sits g.T.NonBlocking.incoming g.T.NonBlocking.outgoing
+    (lets_in g.T.NonBlocking.closes) v pass c.args.connection c.open-client.result (begun_with pass))
     (ap (λ (p : Seated g.row.T-Book.Denot g.row.T.Denot). p.newest) c.self.view_is) c.open-client.ensures.sits)
     c.open-client.ensures.said

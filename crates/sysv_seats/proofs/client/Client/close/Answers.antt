@@ -6,8 +6,10 @@ use Rattle.sysv_session.specs.Conversation.{report, reported}
 use Rattle.sysv_seats.specs.Breaking.{MayEnd}
 use Rattle.sysv_seats.specs.Said.{EndsAsSaid, IsAsSaid}
 use Rattle.sysv_seats.specs.Sits.{Sitting, end_at_close, is_finished}
-use Rattle.sysv_seats.proofs.ClientLemmas.{closed_over, closing_cause, counted_of, has_room}
+use Rattle.sysv_seats.proofs.ClientEnds.{closed_over}
+use Rattle.sysv_seats.proofs.ClientLemmas.{closing_cause, counted_of, has_room}
 use Rattle.sysv_seats.proofs.Said.{said_last}
+use Rattle.sysv_seats.specs.Untold.{lets_in}
 use Rattle.sysv_seats.proofs.client.Client.close.Goals as goal
 
 pub end-requires : goal.end-requires
@@ -18,8 +20,9 @@ end-requires g c = record {
 
 pub returns-clause-over : goal.returns-clause-over
 returns-clause-over g c =
-    closed_over g.T.NonBlocking.incoming g.T.NonBlocking.outgoing g.T.NonBlocking.closes _ _ _ _ _ _
-    c.self.view_is c.closing_end.ensures c.end.ensures c.close.ensures
+    closed_over g.T.NonBlocking.incoming g.T.NonBlocking.outgoing (lets_in g.T.NonBlocking.closes)
+    g.T.NonBlocking.closes _ _ _ _ _ _
+    c.self.view_is c.closing_end.ensures c.end.ensures c.self.invariant.2.2 c.close.ensures
 
 pub returns-clause-cause : goal.returns-clause-cause
 returns-clause-cause g c = λ may.

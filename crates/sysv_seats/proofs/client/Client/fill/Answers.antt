@@ -9,6 +9,8 @@ use Rattle.sysv_wire.specs.declared.fault.Fault.TheVariants.{Read}
 use Rattle.sysv_seats.proofs.ClientLemmas.{filled, filled_last, filled_none, filled_not, stops_reading}
 use Rattle.sysv_seats.proofs.ClientLemmas.{stops_resetting}
 use Rattle.sysv_seats.proofs.Said.{said_end, said_failed, said_filled, said_nothing, said_reset}
+use Rattle.sysv_seats.specs.Breaking.{Breaks}
+use Rattle.sysv_seats.specs.Untold.{lets_in}
 use Rattle.sysv_seats.proofs.client.Client.fill.Goals as goal
 
 abbrev some_over : Over → Option Over
@@ -24,11 +26,13 @@ returns-in-Bytes-clause-keeps g c =
     let size : c.args.tools.now.arrived.len ≡ length c.fill.new.buf =
     omega (arith, c.fill.auto.buf, c.deref_mut.ensures.len) in
     let same = all_taken _ c.fill.new.buf _ c.args.tools.now.arrived.len c.deref.ensures.value size in
-    filled g.T.NonBlocking.incoming g.T.NonBlocking.outgoing _ _ c.arrive.new.self _ c.fill.new.self _ _ _
+    filled g.T.NonBlocking.incoming g.T.NonBlocking.outgoing (lets_in g.T.NonBlocking.closes) _ _ c.arrive.new.self _
+    c.fill.new.self _ _ _
     c.self.view_is c.requires.free
     (subst (λ (l : List ℕ). Consumes (g.T.NonBlocking.incoming c.self.inside.connection)
     (g.T.NonBlocking.incoming c.fill.new.self) (take c.in-Bytes.count l)) (sym same) c.in-Bytes.ensures.bytes.2)
-    c.fill.ensures.untold c.fill.ensures.written c.arrive.ensures.arrives c.take_share.ensures.keeps
+    c.fill.ensures.untold (c.fill.ensures.written, ap (λ (b : Breaks). b.callers) c.fill.ensures.breaks)
+    c.arrive.ensures.arrives c.take_share.ensures.keeps
 
 pub returns-in-Bytes-clause-said : goal.returns-in-Bytes-clause-said
 returns-in-Bytes-clause-said g c =
@@ -46,19 +50,34 @@ returns-in-Over-End-clause-said g c =
 
 pub returns-in-NothingNow-clause-keeps : goal.returns-in-NothingNow-clause-keeps
 returns-in-NothingNow-clause-keeps g c =
-    filled_none g.T.NonBlocking.incoming g.T.NonBlocking.outgoing _ _ c.fill.new.self _ c.self.view_is
-    c.in-NothingNow.ensures.bytes c.fill.ensures.untold c.fill.ensures.written
+    filled_none g.T.NonBlocking.incoming g.T.NonBlocking.outgoing (lets_in g.T.NonBlocking.closes) _ _ c.fill.new.self _
+    c.self.view_is
+    c.in-NothingNow.ensures.bytes c.fill.ensures.untold (
+      c.fill.ensures.written,
+      ap (λ (b : Breaks). b.callers)
+          c.fill.ensures.breaks,
+    )
 
 pub returns-in-Over-End-clause-keeps : goal.returns-in-Over-End-clause-keeps
 returns-in-Over-End-clause-keeps g c =
-    filled_last g.T.NonBlocking.incoming g.T.NonBlocking.outgoing _ _ _ c.fill.new.self _ _ c.self.view_is
-    c.in-Over-End.ensures.bytes.0 c.fill.ensures.untold c.fill.ensures.written c.take_up.ensures.keeps
+    filled_last g.T.NonBlocking.incoming g.T.NonBlocking.outgoing (lets_in g.T.NonBlocking.closes) _ _ _ c.fill.new.self
+    _ _ c.self.view_is
+    c.in-Over-End.ensures.bytes.0 c.fill.ensures.untold (
+      c.fill.ensures.written,
+      ap (λ (b : Breaks). b.callers)
+          c.fill.ensures.breaks,
+    ) c.take_up.ensures.keeps
 
 pub returns-in-Over-Reset : goal.returns-in-Over-Reset
 returns-in-Over-Reset g c = record {
-  keeps = filled_not g.T.NonBlocking.incoming g.T.NonBlocking.outgoing Reset
-      (stops_resetting g.T.NonBlocking.incoming g.T.NonBlocking.outgoing) _ _ c.stop.new.self c.fill.new.self _
-      c.self.view_is c.requires.free c.in-Over-Reset.ensures.bytes.0 c.fill.ensures.untold c.fill.ensures.written
+  keeps = filled_not g.T.NonBlocking.incoming g.T.NonBlocking.outgoing (lets_in g.T.NonBlocking.closes) Reset
+      (stops_resetting g.T.NonBlocking.incoming g.T.NonBlocking.outgoing (lets_in g.T.NonBlocking.closes)) _ _
+      c.stop.new.self c.fill.new.self _
+      c.self.view_is c.requires.free c.in-Over-Reset.ensures.bytes.0 c.fill.ensures.untold (
+        c.fill.ensures.written,
+        ap
+            (λ (b : Breaks). b.callers) c.fill.ensures.breaks,
+      )
       c.stop.ensures;
   handles = (refl, refl);
   breaks = ap (λ (s : Sitting g.row.T.Denot). g.T.NonBlocking.closes.breaks s.connection) c.stop.ensures
@@ -71,10 +90,15 @@ returns-in-Over-Reset g c = record {
 
 pub returns-in-Over-Failed : goal.returns-in-Over-Failed
 returns-in-Over-Failed g c = record {
-  keeps = filled_not g.T.NonBlocking.incoming g.T.NonBlocking.outgoing (Fault Read)
-      (stops_reading g.T.NonBlocking.incoming g.T.NonBlocking.outgoing) _ _ c.stop-in-Over-Failed.new.self
+  keeps = filled_not g.T.NonBlocking.incoming g.T.NonBlocking.outgoing (lets_in g.T.NonBlocking.closes) (Fault Read)
+      (stops_reading g.T.NonBlocking.incoming g.T.NonBlocking.outgoing (lets_in g.T.NonBlocking.closes)) _ _
+      c.stop-in-Over-Failed.new.self
       c.fill.new.self _
-      c.self.view_is c.requires.free c.in-Over-Failed.ensures.bytes.0 c.fill.ensures.untold c.fill.ensures.written
+      c.self.view_is c.requires.free c.in-Over-Failed.ensures.bytes.0 c.fill.ensures.untold (
+        c.fill.ensures.written,
+        ap
+            (λ (b : Breaks). b.callers) c.fill.ensures.breaks,
+      )
       c.stop-in-Over-Failed.ensures;
   handles = (refl, refl);
   breaks = ap (λ (s : Sitting g.row.T.Denot). g.T.NonBlocking.closes.breaks s.connection) c.stop-in-Over-Failed.ensures

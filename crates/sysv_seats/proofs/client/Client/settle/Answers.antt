@@ -10,6 +10,7 @@ use Rattle.sysv_seats.specs.Sits.{HasAsked, IsPending, Sits, Sitting, is_hold_wa
 use Rattle.sysv_seats.proofs.ClientLemmas.{put_cause}
 use Rattle.sysv_seats.proofs.ClientSteps.{answers, over_has, parks, put_none, put_reply, short_given, waits_by}
 use Rattle.sysv_seats.proofs.Said.{put_no_reset, said_parks, said_stops}
+use Rattle.sysv_seats.specs.Untold.{lets_in}
 use Rattle.sysv_seats.proofs.client.Client.settle.Goals as goal
 
 -- The body that was given is the same.
@@ -44,36 +45,43 @@ invariant_of-self-in-Waits g c =
 
 pub returns-in-Err-clause-keeps : goal.returns-in-Err-clause-keeps
 returns-in-Err-clause-keeps g c = λ newest start before now origin text asked begun.
-    let there = subst (λ (s : Sitting g.row.T.Denot). HasAsked g.T.NonBlocking.incoming g.T.NonBlocking.outgoing newest
+    let there = subst (λ (s : Sitting g.row.T.Denot). HasAsked g.T.NonBlocking.incoming g.T.NonBlocking.outgoing
+    (lets_in g.T.NonBlocking.closes) newest
     start origin s c.args.cred c.args.request text c.args.size before) (sym c.self.view_is) asked in
     let put = subst₂ (λ (r : Result ⊤ End) (l : List ℕ). Puts r c.args.request.version c.in-Over.outcome l
     c.self.inside.conversation c.put.new.self) c.in-Err.is
     (given_still c.args.tools.now c.tell.new.self c.tell.ensures.0) c.put.ensures in
-    subst (λ (s : Sitting g.row.T.Denot). Sits g.T.NonBlocking.incoming g.T.NonBlocking.outgoing newest start origin
+    subst (λ (s : Sitting g.row.T.Denot). Sits g.T.NonBlocking.incoming g.T.NonBlocking.outgoing (lets_in
+    g.T.NonBlocking.closes) newest start origin
     s (timed now before.late))
     (sym c.stop.ensures)
-    (put_none g.T.NonBlocking.incoming g.T.NonBlocking.outgoing newest start before now origin _ _ c.args.cred
+    (put_none g.T.NonBlocking.incoming g.T.NonBlocking.outgoing (lets_in g.T.NonBlocking.closes) newest start before now
+    origin _ _ c.args.cred
     c.args.request
     text c.args.size there refl c.args.progress c.in-Over.outcome c.args.tools.now.given c.in-Over.is begun
     c.requires.answer c.in-Err.why put refl refl)
 
 pub returns-in_default-clause-keeps : goal.returns-in_default-clause-keeps
 returns-in_default-clause-keeps g c = λ newest start before now origin text asked begun.
-    let there = subst (λ (s : Sitting g.row.T.Denot). HasAsked g.T.NonBlocking.incoming g.T.NonBlocking.outgoing newest
+    let there = subst (λ (s : Sitting g.row.T.Denot). HasAsked g.T.NonBlocking.incoming g.T.NonBlocking.outgoing
+    (lets_in g.T.NonBlocking.closes) newest
     start origin s c.args.cred c.args.request text c.args.size before) (sym c.self.view_is) asked in
     let put = subst₂ (λ (r : Result ⊤ End) (l : List ℕ). Puts r c.args.request.version c.in-Over.outcome l
     c.self.inside.conversation c.put.new.self) c.in_default.is
     (given_still c.args.tools.now c.tell.new.self c.tell.ensures.0) c.put.ensures in
-    put_reply g.T.NonBlocking.incoming g.T.NonBlocking.outgoing newest start before now origin _ _ c.args.cred
+    put_reply g.T.NonBlocking.incoming g.T.NonBlocking.outgoing (lets_in g.T.NonBlocking.closes) newest start before now
+    origin _ _ c.args.cred
     c.args.request
     text c.args.size there refl c.args.progress c.in-Over.outcome c.args.tools.now.given c.in-Over.is begun
     c.requires.answer put (sym (drop-drop c.args.size c.self.inside.start c.self.inside.input.items)) refl refl
 
 pub returns-in-Waits-clause-keeps : goal.returns-in-Waits-clause-keeps
 returns-in-Waits-clause-keeps g c = λ newest start before now origin text asked begun.
-    let there = subst (λ (s : Sitting g.row.T.Denot). HasAsked g.T.NonBlocking.incoming g.T.NonBlocking.outgoing newest
+    let there = subst (λ (s : Sitting g.row.T.Denot). HasAsked g.T.NonBlocking.incoming g.T.NonBlocking.outgoing
+    (lets_in g.T.NonBlocking.closes) newest
     start origin s c.args.cred c.args.request text c.args.size before) (sym c.self-in-Waits.view_is) asked in
-    parks g.T.NonBlocking.incoming g.T.NonBlocking.outgoing newest start before now origin _ _ c.args.cred
+    parks g.T.NonBlocking.incoming g.T.NonBlocking.outgoing (lets_in g.T.NonBlocking.closes) newest start before now
+    origin _ _ c.args.cred
     c.args.request
     text c.args.size there refl c.args.progress c.in-Waits.waiting c.args.tools.now.given c.in-Waits.is begun refl
     refl

@@ -1,5 +1,6 @@
 use Rattle.std.proofs.Common.{◌≡◌}
-use Rattle.std.specs.Prelude.{is_some}
+use Rattle.std.specs.Prelude.{[], is_some}
+use Rattle.sysv_server.specs.Doors.{Came}
 use Rattle.sysv_engine.specs.Looks.{Looks}
 use Rattle.sysv_server.proofs.accepting.Acceptor.accept_next.Given as goal
 
@@ -11,3 +12,4 @@ invariant-loop g l =
     × (g.L.Listens.accepted l.listener ≡ g.L.Listens.accepted l.fn.listener)
     × (g.L.Listens.listens l.listener ≡ g.L.Listens.listens l.fn.listener)
     × Looks l.fn.rows l.rows
+    × Came g.L.Listens.steps l.fn.listener [] l.listener

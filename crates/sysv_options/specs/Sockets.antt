@@ -1,0 +1,16 @@
+-- The sockets of a server (this project's programs).
+use Rattle.std.specs.Prelude.{List, ◌∷◌, cond, take}
+use Rattle.sysv_seats.specs.declared.callers.Callers.TheVariants.{Anyone}
+use Rattle.sysv_options.specs.declared.asked.Serving.{Serving}
+use Rattle.sysv_options.specs.declared.sockets.Entrance.{Entrance}
+use Rattle.sysv_options.specs.declared.sockets.Entrances.{Entrances}
+
+-- These sockets, in order.
+abbrev pub listed : Entrances → List Entrance
+listed entrances = take entrances.count entrances.sockets
+
+-- The sockets of a server, in order. The first one lets in anyone, unless the server does without it.
+abbrev pub sockets_of : Serving → List Entrance
+sockets_of serving =
+    cond serving.no_main (listed serving.others)
+    (record { file = serving.file; callers = Anyone } ∷ listed serving.others)

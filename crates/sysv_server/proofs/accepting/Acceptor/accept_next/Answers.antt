@@ -1,0 +1,54 @@
+-- The steps that the listener made in the rounds before, and that of the last accept.
+use Rattle.std.proofs.Common.{[], ◌∷◌, ◌∙◌, ap}
+use Rattle.std.specs.Prelude.{is_some}
+use Rattle.sysv_engine.proofs.Looking.{looks_on}
+use Rattle.sysv_server.proofs.Came.{came_on, came_once, came_quiet}
+use Rattle.sysv_server.proofs.accepting.Acceptor.accept_next.Goals as goal
+use Rattle.sysv_server.proofs.accepting.Acceptor.accept_next.Goals.{else-arrived-via-else-arrived}
+use Rattle.sysv_server.proofs.accepting.Acceptor.accept_next.Goals.{else-arrived-via-then-arrived+else-has_ended}
+
+pub returns-then-held-clause-came : goal.returns-then-held-clause-came
+returns-then-held-clause-came g c =
+    let steps = g.L.Listens.steps in
+    came_on steps c.args.listener.now c.loop.listener c.accept.new.self [] (c.in-Ok.stream ∷ []) c.loop.invariant.4
+    (came_once steps c.loop.listener c.accept.new.self c.in-Ok.stream c.in-Ok.ensures.step)
+
+pub returns-else-held-clause-came : goal.returns-else-held-clause-came
+returns-else-held-clause-came g c =
+    let steps = g.L.Listens.steps in
+    came_on steps c.args.listener.now c.loop.listener c.accept.new.self [] (c.in-Ok.stream ∷ []) c.loop.invariant.4
+    (came_once steps c.loop.listener c.accept.new.self c.in-Ok.stream c.in-Ok.ensures.step)
+
+pub returns-in-Err-2-clause-came : goal.returns-in-Err-2-clause-came
+returns-in-Err-2-clause-came g c =
+    let steps = g.L.Listens.steps in
+    came_on steps c.args.listener.now c.loop.listener c.accept.new.self [] [] c.loop.invariant.4
+    (came_quiet steps c.loop.listener c.accept.new.self c.in-Err.ensures.step)
+
+pub loop-preserved : goal.loop-preserved
+loop-preserved g c =
+    let steps = g.L.Listens.steps in (
+      elim c.else-arrived.branch [
+        | else-arrived-via-then-arrived+else-has_ended w ↦
+            ap is_some w.input-is ∙ (w.has_ended.ensures.input ∙ c.loop.invariant.0)
+        | else-arrived-via-else-arrived w ↦ ap is_some w.input-is ∙ c.loop.invariant.0
+      ],
+      c.in-Err.ensures.err ∙ c.loop.invariant.1,
+      c.in-Err.ensures.same ∙ c.loop.invariant.2,
+      looks_on c.args.rows.now c.loop.rows c.go_on.new.rows c.loop.invariant.3 c.go_on.ensures,
+      came_on steps c.args.listener.now c.loop.listener c.accept.new.self [] [] c.loop.invariant.4
+          (came_quiet steps c.loop.listener c.accept.new.self c.in-Err.ensures.step),
+    )
+
+pub returns-in-Ok-last-clause-came : goal.returns-in-Ok-last-clause-came
+returns-in-Ok-last-clause-came g c =
+    let steps = g.L.Listens.steps in
+    came_on steps c.args.listener.now c.loop.listener c.accept-last.new.self [] (c.in-Ok-last.stream ∷ [])
+    c.loop.invariant.4
+    (came_once steps c.loop.listener c.accept-last.new.self c.in-Ok-last.stream c.in-Ok-last.ensures.step)
+
+pub returns-in-Err-last-clause-came : goal.returns-in-Err-last-clause-came
+returns-in-Err-last-clause-came g c =
+    let steps = g.L.Listens.steps in
+    came_on steps c.args.listener.now c.loop.listener c.accept-last.new.self [] [] c.loop.invariant.4
+    (came_quiet steps c.loop.listener c.accept-last.new.self c.in-Err-last.ensures.step)

@@ -1,0 +1,10 @@
+use Rattle.std.proofs.Common.{◌≡◌}
+use Rattle.std.specs.Prelude.{None, vec_len}
+use Rattle.sysv_server.specs.Doors.{OneCame}
+use Rattle.sysv_server.proofs.doors.Doors.open_all.Given as goal
+
+-- No socket has accepted anything.
+abbrev pub invariant-loop-number : goal.invariant-loop-number
+invariant-loop-number g l =
+    OneCame g.L.Listens.steps l.fn.self.sockets.items None l.self.sockets.items
+    × (vec_len l.self.sockets ≡ vec_len l.fn.self.sockets)

@@ -1,0 +1,227 @@
+//! Several sockets that connections are accepted from.
+ghost use Rattle.std.specs.Prelude.{◌≡◌, ◌<◌, ◌+◌, ◌⊎◌, ◌||◌, IfErr, IfOk, List, MatchResult, None, Some, drop, false, length, pos, take, true, vec_len};
+ghost use Rattle.std.specs.IoError.{raw_os_error};
+ghost use Rattle.std.specs.List.{list_any};
+ghost use Rattle.sysv_seats.specs.Untold.{limits_of};
+ghost use Rattle.sysv_server.specs.Doors.{IsFailure, OneCame};
+
+use crate::accepting::is_passing;
+use crate::host::{Host, Notice};
+use crate::listening::Listens;
+use std::io;
+use std::io::ErrorKind;
+use sysv_seats::{Limits, SocketStream};
+use sysv_system::{EAGAIN, Several};
+
+/// Several sockets that connections are accepted from, in turn: after one from a socket, the next one
+/// comes from the first socket after it at which a client waits.
+///
+/// If an accept at a socket fails and is not tried again, only that socket is closed, unless it is the
+/// last one that is open.
+#[derive(Drop)]
+pub struct Doors<'h, L, H> {
+    sockets: Vec<L>,
+    /// The number of the socket at which the next accept is tried first.
+    next: usize,
+    host: &'h H,
+}
+
+impl<'h, L: Listens, H: Host> Doors<'h, L, H> {
+    /// Creates the doors with these sockets, of which there are at most 65. Their numbers are their
+    /// places in the vector.
+    pub fn new(sockets: Vec<L>, host: &'h H) -> Doors<'h, L, H>
+        ensures { result.sockets ≡ sockets }
+    {
+        Doors {
+            sockets,
+            next: 0,
+            host,
+        }
+    }
+
+    /// Returns whether another socket than the one of this number is open.
+    fn has_other(&self, number: usize) -> bool
+        requires { number < length self.now.sockets.items }
+        ensures { result ≡ (list_any L.listens (take number self.now.sockets.items)
+            || list_any L.listens (drop (number + 1) self.now.sockets.items)) }
+    {
+        any_open(&self.sockets[..number]) || any_open(&self.sockets[number + 1..])
+    }
+
+    /// Returns the number after this one, or 0 after the last one.
+    fn after(&self, number: usize) -> usize {
+        let next = number.saturating_add(1);
+        if next < self.sockets.len() { next } else { 0 }
+    }
+
+    /// Returns the number of the socket at which an accept is tried now. The next one is tried at the
+    /// socket after it.
+    fn turn(&mut self) -> usize
+        ensures items { self.new.sockets.items ≡ self.old.sockets.items }
+        ensures length { vec_len self.new.sockets ≡ vec_len self.old.sockets }
+    {
+        let number = self.next;
+        self.next = self.after(number);
+        number
+    }
+
+    /// Opens the socket of this number.
+    #[tactic(auto, using(crate::proofs::Came::one_at))]
+    fn open_at(&mut self, number: usize) -> io::Result<()>
+        requires { number < length self.old.sockets.items }
+        ensures came { OneCame L.steps self.old.sockets.items None self.new.sockets.items }
+        ensures length { vec_len self.new.sockets ≡ vec_len self.old.sockets }
+    {
+        self.sockets[number].open()
+    }
+
+    /// Closes the socket of this number.
+    #[tactic(auto, using(crate::proofs::Came::one_at))]
+    fn close_at(&mut self, number: usize)
+        requires { number < length self.old.sockets.items }
+        ensures came { OneCame L.steps self.old.sockets.items None self.new.sockets.items }
+        ensures open { list_any L.listens self.new.sockets.items
+            ≡ (list_any L.listens (take number self.old.sockets.items)
+            || list_any L.listens (drop (number + 1) self.old.sockets.items)) }
+        ensures closed { list_any L.listens (take (number + 1) self.new.sockets.items)
+            ≡ list_any L.listens (take number self.old.sockets.items) }
+        ensures length { vec_len self.new.sockets ≡ vec_len self.old.sockets }
+    {
+        self.sockets[number].close();
+    }
+
+    /// Accepts a connection at the socket of this number, whose client may be cut off under these
+    /// limits.
+    #[tactic(auto, using(crate::proofs::Came::one_at, crate::proofs::Came::one_after))]
+    fn accept_at(&mut self, number: usize, limits: Limits) -> io::Result<SocketStream>
+        requires { number < length self.old.sockets.items }
+        ensures came { MatchResult result
+            (λ stream. OneCame L.steps self.old.sockets.items (Some stream) self.new.sockets.items)
+            (λ why. OneCame L.steps self.old.sockets.items None self.new.sockets.items) }
+        ensures limits { IfOk result (λ stream. limits_of stream ≡ limits) }
+        ensures failed { IfErr result (IsFailure L.fails) }
+        ensures open { list_any L.listens self.new.sockets.items
+            ≡ list_any L.listens self.old.sockets.items }
+        ensures length { vec_len self.new.sockets ≡ vec_len self.old.sockets }
+    {
+        match self.sockets[number].accept(limits) {
+            Ok(stream) => Ok(stream),
+            Err(why) => Err(self.give_up(number, why)),
+        }
+    }
+
+    /// Gives up the socket of this number, at which an accept failed, unless it may be tried again or
+    /// no other is open. Returns why nothing was accepted.
+    #[tactic(auto, using(crate::proofs::Came::none_came))]
+    fn give_up(&mut self, number: usize, why: io::Error) -> io::Error
+        requires { number < length self.old.sockets.items }
+        ensures why { (result ≡ why) ⊎ (raw_os_error result ≡ Some (pos 11)) }
+        ensures came { OneCame L.steps self.old.sockets.items None self.new.sockets.items }
+        ensures open { list_any L.listens self.new.sockets.items
+            ≡ list_any L.listens self.old.sockets.items }
+        ensures length { vec_len self.new.sockets ≡ vec_len self.old.sockets }
+    {
+        if is_passing(&why) || !self.has_other(number) {
+            return why;
+        }
+        self.close_at(number);
+        self.host.note(Notice::Lost(number, why));
+        none_waits()
+    }
+
+    /// Closes all sockets.
+    #[tactic(auto, using(crate::proofs::Came::none_came, crate::proofs::Came::one_after))]
+    fn close_all(&mut self)
+        ensures closed { list_any L.listens self.new.sockets.items ≡ false }
+        ensures came { OneCame L.steps self.old.sockets.items None self.new.sockets.items }
+    {
+        for number in 0..self.sockets.len() {
+            self.close_at(number);
+        }
+    }
+
+    /// Opens all sockets, or returns why one of them could not be opened.
+    #[tactic(auto, using(crate::proofs::Came::none_came, crate::proofs::Came::one_after))]
+    fn open_all(&mut self) -> io::Result<()>
+        ensures came { OneCame L.steps self.old.sockets.items None self.new.sockets.items }
+    {
+        for number in 0..self.sockets.len() {
+            self.open_at(number)?;
+        }
+        Ok(())
+    }
+}
+
+impl<L: Listens, H: Host> Listens for Doors<'_, L, H> {
+    ghost accepted = { λ _. None };
+
+    ghost listens = { λ doors. list_any L.listens doors.sockets.items };
+
+    ghost fails = { λ _ why _. IsFailure L.fails why };
+
+    ghost steps = { λ old step new. OneCame L.steps old.sockets.items step new.sockets.items };
+
+    fn is_open(&self) -> bool {
+        any_open(&self.sockets)
+    }
+
+    #[tactic(auto, using(crate::proofs::Came::none_came, crate::proofs::Came::one_after))]
+    fn open(&mut self) -> io::Result<()> {
+        if self.is_open() {
+            return Ok(());
+        }
+        let opened = self.open_all();
+        if opened.is_err() {
+            self.close_all();
+            return opened;
+        }
+        if self.is_open() {
+            Ok(())
+        } else {
+            Err(io::Error::from(ErrorKind::NotConnected))
+        }
+    }
+
+    fn watch(&self, listeners: &mut Several) {
+        for socket in self.sockets.iter() {
+            socket.watch(listeners);
+        }
+    }
+
+    #[tactic(auto, using(crate::proofs::Came::none_came, crate::proofs::Came::one_after))]
+    fn accept(&mut self, limits: Limits) -> io::Result<SocketStream> {
+        let mut listeners = Several::none();
+        self.watch(&mut listeners);
+        let seen = listeners.looked_at();
+        let mut failed = none_waits();
+        for _ in 0..self.sockets.len() {
+            let number = self.turn();
+            if number >= self.sockets.len() || !seen.has_client(number) {
+                continue;
+            }
+            match self.accept_at(number, limits) {
+                Ok(stream) => return Ok(stream),
+                Err(why) => failed = why,
+            }
+        }
+        Err(failed)
+    }
+
+    fn close(&mut self) {
+        self.close_all();
+    }
+}
+
+/// Returns whether one of these sockets is open.
+fn any_open<L: Listens>(sockets: &[L]) -> bool
+    ensures { result ≡ list_any L.listens sockets.now }
+{
+    sockets.iter().any(|socket| socket.is_open())
+}
+
+/// Returns the error that no client waits, which is tried again.
+fn none_waits() -> io::Error
+    ensures { raw_os_error result ≡ Some (pos 11) }
+{
+    io::Error::from_raw_os_error(EAGAIN)
+}
