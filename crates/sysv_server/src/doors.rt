@@ -19,17 +19,17 @@ use sysv_system::{EAGAIN, Several};
 /// If an accept at a socket fails and is not tried again, only that socket is closed, unless it is the
 /// last one that is open.
 #[derive(Drop)]
-pub struct Doors<'h, L, H> {
+pub struct Doors<L, H> {
     sockets: Vec<L>,
     /// The number of the socket at which the next accept is tried first.
     next: usize,
-    host: &'h H,
+    host: H,
 }
 
-impl<'h, L: Listens, H: Host> Doors<'h, L, H> {
+impl<L: Listens, H: Host> Doors<L, H> {
     /// Creates the doors with these sockets, of which there are at most 65. Their numbers are their
     /// places in the vector.
-    pub fn new(sockets: Vec<L>, host: &'h H) -> Doors<'h, L, H>
+    pub fn new(sockets: Vec<L>, host: H) -> Doors<L, H>
         ensures { result.sockets ≡ sockets }
     {
         Doors {
@@ -152,7 +152,7 @@ impl<'h, L: Listens, H: Host> Doors<'h, L, H> {
     }
 }
 
-impl<L: Listens, H: Host> Listens for Doors<'_, L, H> {
+impl<L: Listens, H: Host> Listens for Doors<L, H> {
     ghost accepted = { λ _. None };
 
     ghost listens = { λ doors. list_any L.listens doors.sockets.items };

@@ -21,6 +21,21 @@ pub trait Host {
     fn note(&self, notice: Notice);
 }
 
+/// A host that is lent, for example to each of its sockets.
+impl<H: Host> Host for &H {
+    fn listen(&self, number: usize) -> io::Result<UnixListener> {
+        (**self).listen(number)
+    }
+
+    fn listen_for_readers(&self) -> io::Result<Option<UnixListener>> {
+        (**self).listen_for_readers()
+    }
+
+    fn note(&self, notice: Notice) {
+        (**self).note(notice);
+    }
+}
+
 /// What happened to a server that goes on.
 #[derive(Debug, Drop)]
 pub enum Notice {

@@ -143,16 +143,16 @@ impl Listens for Lent<'_> {
 
 /// A socket that a host opens. It does not tell the connections.
 #[derive(Drop)]
-pub struct Hosted<'a, H> {
-    host: &'a H,
+pub struct Hosted<H> {
+    host: H,
     number: usize,
     callers: Callers,
     listener: Option<UnixListener>,
 }
 
-impl<'a, H> Hosted<'a, H> {
+impl<H> Hosted<H> {
     /// Creates the socket of this number, which its host has not opened yet. It lets in these callers.
-    pub fn new(host: &'a H, number: usize, callers: Callers) -> Hosted<'a, H>
+    pub fn new(host: H, number: usize, callers: Callers) -> Hosted<H>
         ensures closed { has_opened result ≡ false }
         ensures number { result.number ≡ number }
         ensures callers { result.callers ≡ callers }
@@ -166,7 +166,7 @@ impl<'a, H> Hosted<'a, H> {
     }
 }
 
-impl<H: Host> Listens for Hosted<'_, H> {
+impl<H: Host> Listens for Hosted<H> {
     ghost use Rattle.std.specs.Prelude.{IfSome, None, is_some, ⊤};
     ghost use Rattle.sysv_seats.specs.Untold.{callers_of};
 

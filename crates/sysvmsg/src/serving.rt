@@ -78,15 +78,14 @@ pub(crate) fn serve_on_sockets<
 
 /// Serves on these sockets of a host in turn, like `serve_at`.
 fn serve_at_doors<
-    'h,
-    H: Host + 'h,
+    H: Host + Copy,
     I: Input + Drop,
     R: Net + Threads + Wait + Sync + Eprint + AllocGlobal,
     S: Write,
 >(
     rt: &R,
-    host: &'h H,
-    sockets: Vec<Hosted<'h, H>>,
+    host: H,
+    sockets: Vec<Hosted<H>>,
     input: I,
     serving: &Serving<'_>,
     limit: Option<u64>,
@@ -97,16 +96,12 @@ fn serve_at_doors<
         (S.contents screen.old) (S.contents screen.new) }
 {
     let mut listener = Doors::new(sockets, host);
-    serve_at(rt, &mut listener, host, input, serving, limit, screen)
+    serve_at(rt, &mut listener, &host, input, serving, limit, screen)
 }
 
 /// Returns the sockets of a server, which its host has not opened yet, in order. Returns `None` if
 /// memory is refused.
-fn sockets_of<'h, H>(
-    alloc: Global,
-    host: &'h H,
-    serving: &Serving<'_>,
-) -> Option<Vec<Hosted<'h, H>>> {
+fn sockets_of<H: Copy>(alloc: Global, host: H, serving: &Serving<'_>) -> Option<Vec<Hosted<H>>> {
     let mut sockets = Vec::with_capacity(alloc, serving.count()).ok()?;
     for number in 0..serving.count() {
         if let Some(socket) = serving.socket(number) {
