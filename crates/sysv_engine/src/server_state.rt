@@ -33,6 +33,10 @@ const ENVELOPES: usize = 512;
 /// processor of its own.
 const FEW_CLIENTS: u64 = 2;
 
+/// How long messages may be on their way back once all sessions are over, in milliseconds, before it
+/// is said that they wait for room.
+const BACK_MILLIS: u32 = 100;
+
 /// How a worker is reached.
 #[derive(Drop)]
 struct Post {
@@ -528,6 +532,45 @@ impl ServerState {
         self.is_cut.store(true, Ordering::SeqCst);
         self.ring_all();
         true
+    }
+
+    /// Returns whether all sessions are over, of which this many were accepted, and no message that
+    /// one of them held is still to be given back.
+    pub fn is_over(&self, accepted: u64) -> bool {
+        self.over.load(Ordering::SeqCst) >= accepted
+    }
+
+    /// Waits until all sessions are over, of which this many were accepted, and for a moment for the
+    /// messages that they held. Returns whether these are back: else they wait for room in their
+    /// queues.
+    pub fn await_over(&self, accepted: u64) -> bool {
+        self.await_turn(true);
+        for _ in 0..u64::MAX {
+            self.hush();
+            if self.is_empty(accepted) {
+                break;
+            }
+            await_doorbell(self.doorbell(), None);
+        }
+        let deadline = Moment::now().plus_millis(BACK_MILLIS);
+        for _ in 0..u64::MAX {
+            self.hush();
+            if self.is_over(accepted) {
+                return true;
+            }
+            if deadline.left() == 0 {
+                return false;
+            }
+            await_doorbell(self.doorbell(), Some(deadline));
+        }
+        false
+    }
+
+    /// Has the workers serve further clients as before `drain`. It is called once all sessions are
+    /// over.
+    pub fn resume(&self) {
+        self.closes_idle.store(false, Ordering::SeqCst);
+        self.is_cut.store(false, Ordering::SeqCst);
     }
 }
 

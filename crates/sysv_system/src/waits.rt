@@ -9,7 +9,7 @@ use libc::types::pollfd;
 const EVENTS: usize = 3;
 
 /// The maximum number of listeners that are awaited together.
-pub const MOST_LISTENERS: usize = 65;
+pub const MOST_LISTENERS: usize = 66;
 
 /// That a descriptor can be read, or that it can be written.
 #[derive(Clone, Copy)]
@@ -69,7 +69,7 @@ impl Several {
         }
     }
 
-    /// Adds one more listener, unless there are 65 already.
+    /// Adds one more listener, unless there are 66 already.
     pub fn add(&mut self, listener: Watched) {
         if self.count < MOST_LISTENERS {
             self.asked[EVENTS + self.count] = Event::readable(listener).asked;
