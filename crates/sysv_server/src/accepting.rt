@@ -1,5 +1,7 @@
 //! A source of accepted connections.
-ghost use Rattle.std.specs.Prelude.{◌≡◌, ◌≢◌, ◌<◌, ◌≤◌, ◌-◌, ◌^◌, ◌∷◌, [], true, false, is_some, None, IfErr, IfOk, MatchResult, OnErr, OnOk};
+ghost use Rattle.std.specs.Prelude.{◌≡◌, ◌≢◌, ◌<◌, ◌≤◌, ◌-◌, ◌^◌, ◌∷◌, [], true, false, is_some, None, IfErr, IfOk, IfSome, MatchOption, MatchResult, OnErr, OnOk};
+ghost use Rattle.std.specs.Option.{option_to_list};
+ghost use Rattle.sysv_engine.specs.Added.{capped};
 ghost use Rattle.sysv_engine.specs.Looks.{Looks};
 ghost use Rattle.sysv_seats.specs.Untold.{limits_of};
 ghost use Rattle.sysv_server.specs.Accepts.{EndsWait, HasEnded};
@@ -14,7 +16,8 @@ use std::alloc::Global;
 use std::io;
 use std::io::ErrorKind;
 use std::sync::Wait;
-use sysv_engine::{Arrivals, Rows, ServerState};
+use sysv_engine::{Arrivals, Moment, Rows, ServerState};
+use sysv_keys::SLOTS;
 use sysv_seats::{Limits, SocketStream};
 use sysv_system::{
     EAGAIN, ECONNABORTED, EMFILE, ENOMEM, EPERM, Event, Several, Watched, await_any, pause,
@@ -25,6 +28,9 @@ const INPUT_BYTES: usize = 512;
 
 /// The time from an accept that failed to the next one, in milliseconds.
 const HOLD_MILLIS: u64 = 100;
+
+/// How long the client of a last session may take to connect, in milliseconds.
+const LAST_MILLIS: u32 = 10_000;
 
 /// Too many files are open in the system.
 const ENFILE: i32 = 23;
@@ -72,6 +78,14 @@ pub(crate) struct Accepting<'a, L, I: Drop, H> {
     blocks: u32,
     /// Whether the state of the server is shown.
     stats: bool,
+    /// Whether a session is served alone before the others, and one after them.
+    alone: bool,
+    /// Whether the input had a byte: then the server goes on after its first session.
+    goes_on: bool,
+    /// Whether last sessions are served alone.
+    has_last: bool,
+    /// Whether one was accepted.
+    had_last: bool,
     alloc: Global,
     server: &'a ServerState,
     host: &'a H,
@@ -88,6 +102,7 @@ impl<'a, L: Listens, I: Input + Drop, H: Host> Accepting<'a, L, I, H> {
         most: u64,
         blocks: u32,
         stats: bool,
+        alone: bool,
         server: &'a ServerState,
         host: &'a H,
     ) -> Accepting<'a, L, I, H>
@@ -95,6 +110,7 @@ impl<'a, L: Listens, I: Input + Drop, H: Host> Accepting<'a, L, I, H> {
         ensures range { result.most ≤ 2 ^ 64 - 1 }
         ensures input { result.input ≡ input }
         ensures limits { result.limits ≡ limits }
+        ensures alone { result.alone ≡ alone }
         ensures listener { result.listener.now ≡ listener.old }
         ensures same_reference { result.listener.ghost_name ≡ listener.entry.ghost_name }
     {
@@ -110,6 +126,10 @@ impl<'a, L: Listens, I: Input + Drop, H: Host> Accepting<'a, L, I, H> {
             desk: Desk::closed(),
             blocks,
             stats,
+            alone,
+            goes_on: false,
+            has_last: false,
+            had_last: false,
             alloc,
             server,
             host,
@@ -134,6 +154,10 @@ impl<'a, L: Listens, I: Input + Drop, H: Host> Accepting<'a, L, I, H> {
             desk: _,
             blocks: _,
             stats: _,
+            alone: _,
+            goes_on: _,
+            has_last: _,
+            had_last: _,
             alloc: _,
             server: _,
             host: _,
@@ -141,12 +165,14 @@ impl<'a, L: Listens, I: Input + Drop, H: Host> Accepting<'a, L, I, H> {
         (listener, reason)
     }
 
-    /// Has the host open the socket for readers of the server's state, if it is to be shown, and
-    /// opens the listener.
+    /// Opens the listener: for the first session if that is served alone and was not accepted yet, and
+    /// else for all others. Before it opens it for these, it has the host open the socket for readers
+    /// of the server's state, if that is to be shown.
     #[tactic(auto, using(crate::proofs::Came::came_quiet, crate::proofs::Came::came_still))]
     fn open(&mut self) -> io::Result<()>
         ensures same { (self.new.most ≡ self.old.most) × (self.new.accepted ≡ self.old.accepted)
-            × (self.new.reason ≡ self.old.reason) × (self.new.limits ≡ self.old.limits) }
+            × (self.new.reason ≡ self.old.reason) × (self.new.limits ≡ self.old.limits)
+            × (self.new.alone ≡ self.old.alone) }
         ensures input { is_some self.new.input ≡ is_some self.old.input }
         ensures ok { OnOk result (L.listens self.new.listener.now ≡ true) }
         ensures err { OnErr result
@@ -155,17 +181,52 @@ impl<'a, L: Listens, I: Input + Drop, H: Host> Accepting<'a, L, I, H> {
         ensures came { Came L.steps self.old.listener.now [] self.new.listener.now }
         ensures same_reference { self.new.listener.ghost_name ≡ self.old.listener.ghost_name }
     {
+        if self.alone && self.accepted == 0 {
+            return self.listener.open_alone();
+        }
         if self.stats {
             self.desk.open(self.host.listen_for_readers()?);
         }
         self.listener.open()
     }
 
+    /// Waits for the end of the first session, which is served alone, and until the input has had a
+    /// byte: the server is to go on. Nothing more is accepted until then. The error is that the input
+    /// has ended. Without an input no byte is awaited.
+    fn await_first(&mut self) -> Result<(), Reason>
+        ensures same { (self.new.most ≡ self.old.most) × (self.new.accepted ≡ self.old.accepted)
+            × (self.new.reason ≡ self.old.reason) × (self.new.limits ≡ self.old.limits)
+            × (self.new.alone ≡ self.old.alone) }
+        ensures input { is_some self.new.input ≡ is_some self.old.input }
+        ensures ended { IfErr result (λ why. (why ≡ Reason.InputOver)
+            × (is_some self.old.input ≡ true) × IsOver I.reads) }
+        ensures listener { self.new.listener ≡ self.old.listener }
+    {
+        self.goes_on = self.goes_on || self.input.is_none();
+        self.server.await_turn(true);
+        for _ in 0..u64::MAX {
+            if self.goes_on && self.server.is_over(self.accepted) {
+                break;
+            }
+            if !hears(&self.input, self.server) {
+                continue;
+            }
+            match heard(&mut self.input) {
+                Heard::Something => self.goes_on = true,
+                Heard::Nothing => {}
+                Heard::End => return Err(Reason::InputOver),
+            }
+        }
+        self.server.await_turn(false);
+        Ok(())
+    }
+
     /// Accepts the next connection. The error is why no more connections are to be accepted.
     #[tactic(auto, using(sysv_engine::proofs::Looking::looks_stay, crate::proofs::Came::came_on, crate::proofs::Came::came_once, crate::proofs::Came::came_quiet, crate::proofs::Came::came_still))]
     fn accept<R: Wait>(&mut self, rows: &mut Rows<'_, R>) -> Result<SocketStream, Reason>
         ensures same { (self.new.most ≡ self.old.most) × (self.new.accepted ≡ self.old.accepted)
-            × (self.new.reason ≡ self.old.reason) × (self.new.limits ≡ self.old.limits) }
+            × (self.new.reason ≡ self.old.reason) × (self.new.limits ≡ self.old.limits)
+            × (self.new.alone ≡ self.old.alone) }
         ensures input { is_some self.new.input ≡ is_some self.old.input }
         ensures bounded { IfOk result (λ _. self.old.most ≢ 0 →
             self.old.accepted < self.old.most) }
@@ -185,7 +246,11 @@ impl<'a, L: Listens, I: Input + Drop, H: Host> Accepting<'a, L, I, H> {
         if self.most != 0 && self.accepted >= self.most {
             return Err(Reason::Full);
         }
-        if !self.listener.is_open() {
+        let was_alone = self.alone && self.accepted == 1;
+        if was_alone {
+            self.await_first()?;
+        }
+        if was_alone || !self.listener.is_open() {
             if let Err(why) = self.open() {
                 return Err(Reason::NoSocket(why));
             }
@@ -205,9 +270,128 @@ impl<'a, L: Listens, I: Input + Drop, H: Host> Accepting<'a, L, I, H> {
             limits: self.limits,
             host: self.host,
         };
-        let (told, input, desk) = (&mut self.told, &mut self.input, &mut self.desk);
-        acceptor.accept_next(self.listener, told, input, desk, rows, self.retries)
+        acceptor.accept_next(
+            self.listener,
+            &mut self.told,
+            &mut self.input,
+            &mut self.goes_on,
+            &mut self.desk,
+            rows,
+            self.retries,
+        )
     }
+
+    /// Accepts the next of the last sessions, which are served alone, once all sessions before it are
+    /// over and what they held is back. There is none if there are to be no last sessions, if no queue
+    /// has a message after one of them, or if no client connects in time; else there is one more.
+    #[tactic(auto, using(sysv_engine::proofs::Looking::looks_stay, crate::proofs::Came::came_on, crate::proofs::Came::came_once, crate::proofs::Came::came_quiet, crate::proofs::Came::came_still))]
+    fn accept_last<R: Wait>(&mut self, rows: &mut Rows<'_, R>) -> Option<SocketStream>
+        ensures same { (self.new.most ≡ self.old.most) × (self.new.reason ≡ self.old.reason)
+            × (self.new.limits ≡ self.old.limits) × (self.new.alone ≡ self.old.alone) }
+        ensures input { is_some self.new.input ≡ is_some self.old.input }
+        ensures alone { is_some result ≡ true → self.old.has_last ≡ true }
+        ensures bounded { IfSome result (λ _. self.old.most ≢ 0 →
+            self.old.accepted < self.old.most) }
+        ensures count { MatchOption result (self.new.accepted ≡ self.old.accepted)
+            (λ _. self.new.accepted ≡ capped (self.old.accepted + 1)) }
+        ensures limits { IfSome result (λ stream. limits_of stream ≡ self.old.limits) }
+        ensures opened { L.listens self.new.listener.now ≡ is_some result }
+        ensures told { L.accepted self.new.listener.now
+            ≡ added (L.accepted self.old.listener.now) (option_to_list result) }
+        ensures came { Came L.steps self.old.listener.now (option_to_list result)
+            self.new.listener.now }
+        ensures same_reference { self.new.listener.ghost_name ≡ self.old.listener.ghost_name }
+        ensures looks { Looks rows.old rows.new }
+    {
+        self.listener.close();
+        if !self.has_last || (self.most != 0 && self.accepted >= self.most) {
+            return None;
+        }
+        let is_back = self.server.await_over(self.accepted);
+        if self.had_last && is_back && !have_messages(rows) {
+            return None;
+        }
+        self.server.resume();
+        let Some(stream) = self.await_last() else {
+            self.listener.close();
+            self.host.note(Notice::NoLast);
+            return None;
+        };
+        self.accepted = self.accepted.saturating_add(1);
+        self.had_last = true;
+        Some(stream)
+    }
+
+    /// Opens the listener for a last session, and accepts the connection of its client. Returns `None`
+    /// if the listener cannot be opened, if an accept fails and is not tried again, or if no client
+    /// connects in time.
+    #[tactic(auto, using(crate::proofs::Came::came_on, crate::proofs::Came::came_once, crate::proofs::Came::came_quiet, crate::proofs::Came::came_still))]
+    fn await_last(&mut self) -> Option<SocketStream>
+        ensures same { (self.new.most ≡ self.old.most) × (self.new.accepted ≡ self.old.accepted)
+            × (self.new.reason ≡ self.old.reason) × (self.new.limits ≡ self.old.limits)
+            × (self.new.alone ≡ self.old.alone) × (self.new.had_last ≡ self.old.had_last) }
+        ensures input { is_some self.new.input ≡ is_some self.old.input }
+        ensures limits { IfSome result (λ stream. limits_of stream ≡ self.old.limits) }
+        ensures opened { is_some result ≡ true → L.listens self.new.listener.now ≡ true }
+        ensures told { L.accepted self.new.listener.now
+            ≡ added (L.accepted self.old.listener.now) (option_to_list result) }
+        ensures came { Came L.steps self.old.listener.now (option_to_list result)
+            self.new.listener.now }
+        ensures same_reference { self.new.listener.ghost_name ≡ self.old.listener.ghost_name }
+    {
+        if self.listener.open_alone().is_err() {
+            return None;
+        }
+        let mut listeners = Several::none();
+        self.listener.watch(&mut listeners);
+        let deadline = Moment::now().plus_millis(LAST_MILLIS);
+        for _ in 0..u64::MAX {
+            let left = Moment::now().until(deadline);
+            let (_, has_come) = await_any(
+                [Event::readable(Watched::NONE); 3],
+                &listeners,
+                Some(left),
+            );
+            if !has_come {
+                if left == 0 {
+                    break;
+                }
+                continue;
+            }
+            match self.listener.accept(self.limits) {
+                Ok(stream) => return Some(stream),
+                Err(why) if is_passing(&why) => pause(HOLD_MILLIS),
+                Err(_) => break,
+            }
+        }
+        None
+    }
+}
+
+/// Waits until the input can be read or a session is over. Returns whether the input can be read.
+fn hears<I: Input>(input: &Option<I>, server: &ServerState) -> bool {
+    let none = Event::readable(Watched::NONE);
+    let [input, doorbell] = [descriptor(input), server.doorbell()].map(Event::readable);
+    let ([input, is_rung, _], _) = await_any([input, doorbell, none], &Several::none(), None);
+    if is_rung {
+        server.hush();
+    }
+    input
+}
+
+/// Returns whether a queue has a message.
+#[tactic(auto, using(sysv_engine::proofs::Looking::looks_stay))]
+fn have_messages<R: Wait>(rows: &mut Rows<'_, R>) -> bool
+    ensures { Looks rows.old rows.new }
+{
+    for slot in 0..SLOTS as u32 {
+        if let Some(row) = rows.row(slot) {
+            if row.qnum > 0 {
+                return true;
+            }
+        }
+    }
+    false
 }
 
 impl<L: Listens, I: Input + Drop, H: Host> Arrivals<SocketStream> for Accepting<'_, L, I, H> {
@@ -218,8 +402,7 @@ impl<L: Listens, I: Input + Drop, H: Host> Arrivals<SocketStream> for Accepting<
     #[tactic(auto, using(sysv_engine::proofs::Looking::looks_stay, crate::proofs::Came::came_on, crate::proofs::Came::came_once, crate::proofs::Came::came_quiet, crate::proofs::Came::came_still))]
     fn next<R: Wait>(&mut self, rows: &mut Rows<'_, R>) -> Option<SocketStream> {
         if self.reason.is_some() {
-            self.listener.close();
-            return None;
+            return self.accept_last(rows);
         }
         match self.accept(rows) {
             Ok(socket) => {
@@ -229,12 +412,13 @@ impl<L: Listens, I: Input + Drop, H: Host> Arrivals<SocketStream> for Accepting<
             Err(why) => {
                 let closes_idle = why.is_input_over();
                 self.reason = Some(why);
+                self.has_last = self.alone && self.goes_on;
                 self.listener.close();
                 self.desk = Desk::closed();
                 if self.server.drain(self.accepted, closes_idle) {
                     self.host.note(Notice::Cut);
                 }
-                None
+                self.accept_last(rows)
             }
         }
     }
@@ -263,13 +447,14 @@ struct Arrived {
 impl<H: Host> Acceptor<'_, '_, H> {
     /// Waits for a connection and accepts it. Until it comes, serves the desk. If the server
     /// `retries`, an accept that fails for want of something is tried again; the host is told so,
-    /// and when it succeeds.
+    /// and when it succeeds. `goes_on` is set if the input has had a byte.
     #[tactic(auto, using(sysv_engine::proofs::Looking::looks_stay, sysv_engine::proofs::Looking::looks_on, crate::proofs::Came::came_on, crate::proofs::Came::came_once, crate::proofs::Came::came_quiet, crate::proofs::Came::came_still))]
     fn accept_next<L: Listens, I: Input, R: Wait>(
         &self,
         listener: &mut L,
         told: &mut bool,
         input: &mut Option<I>,
+        goes_on: &mut bool,
         desk: &mut Desk,
         rows: &mut Rows<'_, R>,
         retries: bool,
@@ -289,8 +474,12 @@ impl<H: Host> Acceptor<'_, '_, H> {
         for _ in 0..u64::MAX {
             let arrived = self.wait(told, descriptor(input), desk);
             desk.go_on(arrived.reader, self.view, rows);
-            if arrived.input && has_ended(input) {
-                return Err(Reason::InputOver);
+            if arrived.input {
+                match heard(input) {
+                    Heard::Something => *goes_on = true,
+                    Heard::Nothing => {}
+                    Heard::End => return Err(Reason::InputOver),
+                }
             }
             if !arrived.connection {
                 continue;
@@ -393,25 +582,37 @@ pub(crate) fn is_passing(why: &io::Error) -> bool {
     }
 }
 
-/// Reads a piece of the input, which can be read and is dropped. Returns whether the input is at
-/// its end or cannot be read.
-fn has_ended<I: Input>(input: &mut Option<I>) -> bool
+/// What a read of an input has found.
+#[derive(Clone, Copy, PartialEq, Eq, Debug)]
+enum Heard {
+    /// Some bytes.
+    Something,
+    /// A signal has come first.
+    Nothing,
+    /// Its end, or that it cannot be read.
+    End,
+}
+
+/// Reads a piece of the input, which can be read and is dropped. Returns what it found.
+fn heard<I: Input>(input: &mut Option<I>) -> Heard
     ensures input { is_some input.new ≡ is_some input.old }
-    ensures ended { result ≡ true → (is_some input.old ≡ true) × IsOver I.reads }
+    ensures ended { result ≡ Heard.End → (is_some input.old ≡ true) × IsOver I.reads }
 {
     match input {
-        Some(input) => is_over(input),
-        None => false,
+        Some(input) => read_piece(input),
+        None => Heard::Nothing,
     }
 }
 
-/// Reads a piece of the input. Returns whether the input is at its end or cannot be read.
-fn is_over<I: Input>(input: &mut I) -> bool
-    ensures { result ≡ true → IsOver I.reads }
+/// Reads a piece of the input. Returns what it found.
+fn read_piece<I: Input>(input: &mut I) -> Heard
+    ensures { result ≡ Heard.End → IsOver I.reads }
 {
     let mut piece = [0; INPUT_BYTES];
     match input.read(&mut piece) {
-        Ok(count) => count == 0,
-        Err(why) => why.kind() != ErrorKind::Interrupted,
+        Ok(0) => Heard::End,
+        Ok(_) => Heard::Something,
+        Err(why) if why.kind() == ErrorKind::Interrupted => Heard::Nothing,
+        Err(_) => Heard::End,
     }
 }

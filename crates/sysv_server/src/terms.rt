@@ -22,6 +22,9 @@ pub struct Terms {
     pub stats: bool,
     /// Whether clients may hold messages: then sessions of version 3 are served.
     pub hold: bool,
-    /// The number of sockets at which connections are accepted, 1 to 65.
+    /// The number of sockets at which connections are accepted, 1 to 66.
     pub sockets: u32,
+    /// Whether a session is served alone before the others, and one after them. Then one of the
+    /// sockets is for these.
+    pub alone: bool,
 }
