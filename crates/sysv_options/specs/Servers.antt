@@ -18,7 +18,7 @@ use Rattle.sysv_options.specs.Sockets.{listed}
 use Rattle.sysv_options.specs.declared.asked.TheConstants.{WORKERS, MAX_PATH, MAX_PATH_WITH_MODE, MODE_ALONE}
 use Rattle.sysv_server.specs.declared.serving.TheConstants.{MAX_CLIENTS}
 use Rattle.sysv_options.specs.Asked.{AreAtOnce, AreBlocks, AreWorkers}
-use Rattle.sysv_options.specs.Words.{HasFlag, HasMaybe, HasOr, IsExactly, IsMode, IsTime, IsUnsigned, word_of}
+use Rattle.sysv_options.specs.Words.{HasFlag, HasMaybe, HasOr, IsExactly, IsMode, IsOn, IsTime, IsUnsigned, word_of}
 
 -- A command with these words asks for this number of blocks.
 abbrev pub AsksForBlocks : List Row → ℕ → Type 0
@@ -186,6 +186,6 @@ pub record AsksToServe (words : List Row) (serving : Serving) : Type 0 where
   pub stats : MayAskForStats words serving.stats
   -- Sessions that are served alone end by the input, and their number is not limited.
   pub alone : MayAskForAlone words serving.alone
-  pub lone : serving.terms.alone ≡ true → (serving.until_eof ≡ true) × (serving.terms.sessions ≡ 0)
+  pub lone : serving.terms.alone ≡ true → IsOn (word_of words (codes "until-eof")) × (serving.terms.sessions ≡ 0)
   pub terms : AsksForTerms words serving.terms
   pub until_eof : HasFlag words (codes "until-eof") serving.until_eof

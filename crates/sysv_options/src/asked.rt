@@ -479,8 +479,7 @@ fn server<'a>(words: &ArgMatches<'a>) -> Result<Serving<'a>, Bad>
     let stats = stats_of(words, file.path)?;
     let alone = alone_of(words, file.path)?;
     let terms = terms_of(words)?;
-    let until_eof = has_flag(words, "until-eof");
-    if has_alone && (!until_eof || terms.sessions > 0) {
+    if has_alone && !may_serve_alone(words, terms.sessions) {
         return Err(NOT_ALONE);
     }
     Ok(Serving {
@@ -490,7 +489,7 @@ fn server<'a>(words: &ArgMatches<'a>) -> Result<Serving<'a>, Bad>
         stats,
         alone,
         terms: Terms { sockets, ..terms },
-        until_eof,
+        until_eof: has_flag(words, "until-eof"),
     })
 }
 
@@ -502,15 +501,24 @@ fn number_of_sockets(no_main: bool, alone: bool, others: usize) -> Option<u32>
         (CountsSockets no_main alone others) }
 {
     let others = others as u32;
-    if no_main && others == 0 {
-        return None;
+    match (no_main, alone) {
+        (true, true) if others > 0 => Some(others + 1),
+        (true, false) if others > 0 => Some(others),
+        (true, _) => None,
+        (false, true) => Some(others + 2),
+        (false, false) => Some(others + 1),
     }
-    let own = match (no_main, alone) {
-        (true, false) => 0,
-        (true, true) | (false, false) => 1,
-        (false, true) => 2,
-    };
-    Some(others + own)
+}
+
+/// Returns whether a server that is to run this number of sessions, 0 for no limit, may have some that
+/// are served alone: it ends after its input has ended, and the number is not limited.
+fn may_serve_alone(words: &ArgMatches<'_>, sessions: u64) -> bool
+    ensures can { result ≡ true →
+        IsOn (word_of (words_in words.now) (codes "until-eof")) × (sessions ≡ 0) }
+    ensures cannot { result ≡ false →
+        ¬ (IsOn (word_of (words_in words.now) (codes "until-eof")) × (sessions ≡ 0)) }
+{
+    is_on(words, "until-eof") && sessions == 0
 }
 
 /// Returns the sockets that let in one user each.

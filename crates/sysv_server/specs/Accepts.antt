@@ -59,7 +59,8 @@ module _ {L I H : Type 0} (told : L → Option (List SocketStream)) (listens : L
   abbrev pub Accepts : Accepting L I H → Option SocketStream → Accepting L I H → Type 0
   Accepts old None new =
       (new.most ≡ old.most) × (new.accepted ≡ old.accepted)
-      × ((is_some old.reason ≡ true) ⊎ IsSomeAnd new.reason (HasEnded listens reads fails old))
+      × (((is_some old.reason ≡ true) × (new.reason ≡ old.reason))
+      ⊎ IsSomeAnd new.reason (HasEnded listens reads fails old))
       × (listens new.listener.now ≡ false) × (told new.listener.now ≡ told old.listener.now)
       × (new.listener.ghost_name ≡ old.listener.ghost_name) × Came steps old.listener.now [] new.listener.now
   Accepts old (Some stream) new =
@@ -70,3 +71,21 @@ module _ {L I H : Type 0} (told : L → Option (List SocketStream)) (listens : L
       × (new.listener.ghost_name ≡ old.listener.ghost_name)
       × (limits_of stream ≡ old.limits) × (new.limits ≡ old.limits)
       × Came steps old.listener.now (stream ∷ []) new.listener.now × (new.alone ≡ old.alone)
+
+module _ {L I H : Type 0} (told : L → Option (List SocketStream)) (listens : L → Bool)
+    (steps : L → Option SocketStream → L → Type 0) where
+  -- The source, which had ended, closed its listener, and returned a connection that is served alone or none. It returns
+  -- one only if it was to have such ones after its end.
+  abbrev pub AcceptsLast : Accepting L I H → Option SocketStream → Accepting L I H → Type 0
+  AcceptsLast old None new =
+      (new.most ≡ old.most) × (new.accepted ≡ old.accepted) × (new.reason ≡ old.reason)
+      × (listens new.listener.now ≡ false) × (told new.listener.now ≡ told old.listener.now)
+      × (new.listener.ghost_name ≡ old.listener.ghost_name) × Came steps old.listener.now [] new.listener.now
+  AcceptsLast old (Some stream) new =
+      (new.most ≡ old.most) × (old.most ≢ 0 → old.accepted < old.most) × (new.accepted ≡ capped (old.accepted + 1))
+      × (listens new.listener.now ≡ true) × (new.reason ≡ old.reason) × (old.has_last ≡ true)
+      × (is_some new.input ≡ is_some old.input)
+      × (told new.listener.now ≡ added (told old.listener.now) (stream ∷ []))
+      × (new.listener.ghost_name ≡ old.listener.ghost_name)
+      × (limits_of stream ≡ old.limits) × (new.limits ≡ old.limits) × (new.alone ≡ old.alone)
+      × Came steps old.listener.now (stream ∷ []) new.listener.now

@@ -1,10 +1,8 @@
 //! A source of accepted connections.
 ghost use Rattle.std.specs.Prelude.{◌≡◌, ◌≢◌, ◌<◌, ◌≤◌, ◌-◌, ◌^◌, ◌∷◌, [], true, false, is_some, None, IfErr, IfOk, IfSome, MatchOption, MatchResult, OnErr, OnOk};
-ghost use Rattle.std.specs.Option.{option_to_list};
-ghost use Rattle.sysv_engine.specs.Added.{capped};
 ghost use Rattle.sysv_engine.specs.Looks.{Looks};
 ghost use Rattle.sysv_seats.specs.Untold.{limits_of};
-ghost use Rattle.sysv_server.specs.Accepts.{EndsWait, HasEnded};
+ghost use Rattle.sysv_server.specs.Accepts.{AcceptsLast, EndsWait, HasEnded};
 ghost use Rattle.sysv_server.specs.Doors.{Came};
 ghost use Rattle.sysv_server.specs.Listening.{added, IsOver};
 
@@ -190,37 +188,6 @@ impl<'a, L: Listens, I: Input + Drop, H: Host> Accepting<'a, L, I, H> {
         self.listener.open()
     }
 
-    /// Waits for the end of the first session, which is served alone, and until the input has had a
-    /// byte: the server is to go on. Nothing more is accepted until then. The error is that the input
-    /// has ended. Without an input no byte is awaited.
-    fn await_first(&mut self) -> Result<(), Reason>
-        ensures same { (self.new.most ≡ self.old.most) × (self.new.accepted ≡ self.old.accepted)
-            × (self.new.reason ≡ self.old.reason) × (self.new.limits ≡ self.old.limits)
-            × (self.new.alone ≡ self.old.alone) }
-        ensures input { is_some self.new.input ≡ is_some self.old.input }
-        ensures ended { IfErr result (λ why. (why ≡ Reason.InputOver)
-            × (is_some self.old.input ≡ true) × IsOver I.reads) }
-        ensures listener { self.new.listener ≡ self.old.listener }
-    {
-        self.goes_on = self.goes_on || self.input.is_none();
-        self.server.await_turn(true);
-        for _ in 0..u64::MAX {
-            if self.goes_on && self.server.is_over(self.accepted) {
-                break;
-            }
-            if !hears(&self.input, self.server) {
-                continue;
-            }
-            match heard(&mut self.input) {
-                Heard::Something => self.goes_on = true,
-                Heard::Nothing => {}
-                Heard::End => return Err(Reason::InputOver),
-            }
-        }
-        self.server.await_turn(false);
-        Ok(())
-    }
-
     /// Accepts the next connection. The error is why no more connections are to be accepted.
     #[tactic(auto, using(sysv_engine::proofs::Looking::looks_stay, crate::proofs::Came::came_on, crate::proofs::Came::came_once, crate::proofs::Came::came_quiet, crate::proofs::Came::came_still))]
     fn accept<R: Wait>(&mut self, rows: &mut Rows<'_, R>) -> Result<SocketStream, Reason>
@@ -247,8 +214,8 @@ impl<'a, L: Listens, I: Input + Drop, H: Host> Accepting<'a, L, I, H> {
             return Err(Reason::Full);
         }
         let was_alone = self.alone && self.accepted == 1;
-        if was_alone {
-            self.await_first()?;
+        if was_alone && !self.await_first() {
+            return Err(Reason::InputOver);
         }
         if was_alone || !self.listener.is_open() {
             if let Err(why) = self.open() {
@@ -281,26 +248,33 @@ impl<'a, L: Listens, I: Input + Drop, H: Host> Accepting<'a, L, I, H> {
         )
     }
 
+    /// Waits for the end of the first session, which is served alone, and until the input has had a
+    /// byte: the server is to go on. Nothing more is accepted until then. Returns whether it goes on: it
+    /// does not if the input ends first. Without an input no byte is awaited.
+    fn await_first(&mut self) -> bool
+        ensures same { (self.new.most ≡ self.old.most) × (self.new.accepted ≡ self.old.accepted)
+            × (self.new.reason ≡ self.old.reason) × (self.new.limits ≡ self.old.limits)
+            × (self.new.alone ≡ self.old.alone) × (self.new.listener ≡ self.old.listener) }
+        ensures input { is_some self.new.input ≡ is_some self.old.input }
+        ensures ended { result ≡ false → (is_some self.old.input ≡ true) × IsOver I.reads }
+    {
+        self.server.await_turn(true);
+        let is_over = await_byte(
+            &mut self.input,
+            &mut self.goes_on,
+            self.server,
+            self.accepted,
+        );
+        self.server.await_turn(false);
+        !is_over
+    }
+
     /// Accepts the next of the last sessions, which are served alone, once all sessions before it are
     /// over and what they held is back. There is none if there are to be no last sessions, if no queue
     /// has a message after one of them, or if no client connects in time; else there is one more.
     #[tactic(auto, using(sysv_engine::proofs::Looking::looks_stay, crate::proofs::Came::came_on, crate::proofs::Came::came_once, crate::proofs::Came::came_quiet, crate::proofs::Came::came_still))]
     fn accept_last<R: Wait>(&mut self, rows: &mut Rows<'_, R>) -> Option<SocketStream>
-        ensures same { (self.new.most ≡ self.old.most) × (self.new.reason ≡ self.old.reason)
-            × (self.new.limits ≡ self.old.limits) × (self.new.alone ≡ self.old.alone) }
-        ensures input { is_some self.new.input ≡ is_some self.old.input }
-        ensures alone { is_some result ≡ true → self.old.has_last ≡ true }
-        ensures bounded { IfSome result (λ _. self.old.most ≢ 0 →
-            self.old.accepted < self.old.most) }
-        ensures count { MatchOption result (self.new.accepted ≡ self.old.accepted)
-            (λ _. self.new.accepted ≡ capped (self.old.accepted + 1)) }
-        ensures limits { IfSome result (λ stream. limits_of stream ≡ self.old.limits) }
-        ensures opened { L.listens self.new.listener.now ≡ is_some result }
-        ensures told { L.accepted self.new.listener.now
-            ≡ added (L.accepted self.old.listener.now) (option_to_list result) }
-        ensures came { Came L.steps self.old.listener.now (option_to_list result)
-            self.new.listener.now }
-        ensures same_reference { self.new.listener.ghost_name ≡ self.old.listener.ghost_name }
+        ensures gives { AcceptsLast L.accepted L.listens L.steps self.old result self.new }
         ensures looks { Looks rows.old rows.new }
     {
         self.listener.close();
@@ -312,7 +286,7 @@ impl<'a, L: Listens, I: Input + Drop, H: Host> Accepting<'a, L, I, H> {
             return None;
         }
         self.server.resume();
-        let Some(stream) = self.await_last() else {
+        let Some(stream) = await_last(self.listener, self.limits) else {
             self.listener.close();
             self.host.note(Notice::NoLast);
             return None;
@@ -321,51 +295,29 @@ impl<'a, L: Listens, I: Input + Drop, H: Host> Accepting<'a, L, I, H> {
         self.had_last = true;
         Some(stream)
     }
+}
 
-    /// Opens the listener for a last session, and accepts the connection of its client. Returns `None`
-    /// if the listener cannot be opened, if an accept fails and is not tried again, or if no client
-    /// connects in time.
-    #[tactic(auto, using(crate::proofs::Came::came_on, crate::proofs::Came::came_once, crate::proofs::Came::came_quiet, crate::proofs::Came::came_still))]
-    fn await_last(&mut self) -> Option<SocketStream>
-        ensures same { (self.new.most ≡ self.old.most) × (self.new.accepted ≡ self.old.accepted)
-            × (self.new.reason ≡ self.old.reason) × (self.new.limits ≡ self.old.limits)
-            × (self.new.alone ≡ self.old.alone) × (self.new.had_last ≡ self.old.had_last) }
-        ensures input { is_some self.new.input ≡ is_some self.old.input }
-        ensures limits { IfSome result (λ stream. limits_of stream ≡ self.old.limits) }
-        ensures opened { is_some result ≡ true → L.listens self.new.listener.now ≡ true }
-        ensures told { L.accepted self.new.listener.now
-            ≡ added (L.accepted self.old.listener.now) (option_to_list result) }
-        ensures came { Came L.steps self.old.listener.now (option_to_list result)
-            self.new.listener.now }
-        ensures same_reference { self.new.listener.ghost_name ≡ self.old.listener.ghost_name }
-    {
-        if self.listener.open_alone().is_err() {
-            return None;
+/// Waits until the sessions of this number of connections are over and the input has had a byte, at
+/// which `goes_on` is set. Returns whether the input has ended before.
+fn await_byte<I: Input>(
+    input: &mut Option<I>,
+    goes_on: &mut bool,
+    server: &ServerState,
+    accepted: u64,
+) -> bool
+    ensures input { is_some input.new ≡ is_some input.old }
+    ensures ended { result ≡ true → (is_some input.old ≡ true) × IsOver I.reads }
+{
+    *goes_on = *goes_on || input.is_none();
+    for _ in 0..u64::MAX {
+        if *goes_on && server.is_over(accepted) {
+            return false;
         }
-        let mut listeners = Several::none();
-        self.listener.watch(&mut listeners);
-        let deadline = Moment::now().plus_millis(LAST_MILLIS);
-        for _ in 0..u64::MAX {
-            let left = Moment::now().until(deadline);
-            let (_, has_come) = await_any(
-                [Event::readable(Watched::NONE); 3],
-                &listeners,
-                Some(left),
-            );
-            if !has_come {
-                if left == 0 {
-                    break;
-                }
-                continue;
-            }
-            match self.listener.accept(self.limits) {
-                Ok(stream) => return Some(stream),
-                Err(why) if is_passing(&why) => pause(HOLD_MILLIS),
-                Err(_) => break,
-            }
+        if hears(input, server) && has_ended(input, goes_on) {
+            return true;
         }
-        None
     }
+    false
 }
 
 /// Waits until the input can be read or a session is over. Returns whether the input can be read.
@@ -379,8 +331,45 @@ fn hears<I: Input>(input: &Option<I>, server: &ServerState) -> bool {
     input
 }
 
+/// Opens a listener for a last session, and accepts the connection of its client, who may be cut off
+/// under these limits. Returns `None` if the listener cannot be opened, if an accept fails and is not
+/// tried again, or if no client connects in time.
+#[tactic(auto, using(crate::proofs::Came::came_on, crate::proofs::Came::came_once, crate::proofs::Came::came_quiet, crate::proofs::Came::came_still))]
+fn await_last<L: Listens>(listener: &mut L, limits: Limits) -> Option<SocketStream>
+    ensures limits { IfSome result (λ stream. limits_of stream ≡ limits) }
+    ensures opened { IfSome result (λ _. L.listens listener.new ≡ true) }
+    ensures told { MatchOption result (L.accepted listener.new ≡ L.accepted listener.old)
+        (λ stream. L.accepted listener.new ≡ added (L.accepted listener.old) (stream ∷ [])) }
+    ensures came { MatchOption result (Came L.steps listener.old [] listener.new)
+        (λ stream. Came L.steps listener.old (stream ∷ []) listener.new) }
+{
+    if listener.open_alone().is_err() {
+        return None;
+    }
+    let mut listeners = Several::none();
+    listener.watch(&mut listeners);
+    let deadline = Moment::now().plus_millis(LAST_MILLIS);
+    for _ in 0..u64::MAX {
+        let left = Moment::now().until(deadline);
+        let none = [Event::readable(Watched::NONE); 3];
+        let (_, has_come) = await_any(none, &listeners, Some(left));
+        if !has_come {
+            if left == 0 {
+                return None;
+            }
+            continue;
+        }
+        match listener.accept(limits) {
+            Ok(stream) => return Some(stream),
+            Err(why) if is_passing(&why) => pause(HOLD_MILLIS),
+            Err(_) => return None,
+        }
+    }
+    None
+}
+
 /// Returns whether a queue has a message.
-#[tactic(auto, using(sysv_engine::proofs::Looking::looks_stay))]
+#[tactic(auto, using(sysv_engine::proofs::Looking::looks_stay, sysv_engine::proofs::Looking::looks_on))]
 fn have_messages<R: Wait>(rows: &mut Rows<'_, R>) -> bool
     ensures { Looks rows.old rows.new }
 {
@@ -474,12 +463,8 @@ impl<H: Host> Acceptor<'_, '_, H> {
         for _ in 0..u64::MAX {
             let arrived = self.wait(told, descriptor(input), desk);
             desk.go_on(arrived.reader, self.view, rows);
-            if arrived.input {
-                match heard(input) {
-                    Heard::Something => *goes_on = true,
-                    Heard::Nothing => {}
-                    Heard::End => return Err(Reason::InputOver),
-                }
+            if arrived.input && has_ended(input, goes_on) {
+                return Err(Reason::InputOver);
             }
             if !arrived.connection {
                 continue;
@@ -582,37 +567,30 @@ pub(crate) fn is_passing(why: &io::Error) -> bool {
     }
 }
 
-/// What a read of an input has found.
-#[derive(Clone, Copy, PartialEq, Eq, Debug)]
-enum Heard {
-    /// Some bytes.
-    Something,
-    /// A signal has come first.
-    Nothing,
-    /// Its end, or that it cannot be read.
-    End,
-}
-
-/// Reads a piece of the input, which can be read and is dropped. Returns what it found.
-fn heard<I: Input>(input: &mut Option<I>) -> Heard
+/// Reads a piece of the input, which can be read and is dropped. Returns whether the input is at
+/// its end or cannot be read. `goes_on` is set if it had a byte.
+fn has_ended<I: Input>(input: &mut Option<I>, goes_on: &mut bool) -> bool
     ensures input { is_some input.new ≡ is_some input.old }
-    ensures ended { result ≡ Heard.End → (is_some input.old ≡ true) × IsOver I.reads }
+    ensures ended { result ≡ true → (is_some input.old ≡ true) × IsOver I.reads }
 {
     match input {
-        Some(input) => read_piece(input),
-        None => Heard::Nothing,
+        Some(input) => is_over(input, goes_on),
+        None => false,
     }
 }
 
-/// Reads a piece of the input. Returns what it found.
-fn read_piece<I: Input>(input: &mut I) -> Heard
-    ensures { result ≡ Heard.End → IsOver I.reads }
+/// Reads a piece of the input. Returns whether the input is at its end or cannot be read. `goes_on` is
+/// set if it had a byte.
+fn is_over<I: Input>(input: &mut I, goes_on: &mut bool) -> bool
+    ensures { result ≡ true → IsOver I.reads }
 {
     let mut piece = [0; INPUT_BYTES];
     match input.read(&mut piece) {
-        Ok(0) => Heard::End,
-        Ok(_) => Heard::Something,
-        Err(why) if why.kind() == ErrorKind::Interrupted => Heard::Nothing,
-        Err(_) => Heard::End,
+        Ok(0) => true,
+        Ok(_) => {
+            *goes_on = true;
+            false
+        }
+        Err(why) => why.kind() != ErrorKind::Interrupted,
     }
 }

@@ -1,5 +1,5 @@
 //! Several sockets that connections are accepted from.
-ghost use Rattle.std.specs.Prelude.{◌≡◌, ◌<◌, ◌+◌, ◌⊎◌, ◌||◌, IfErr, IfOk, IfSome, List, MatchResult, None, Some, drop, false, length, min, pos, take, true, vec_len};
+ghost use Rattle.std.specs.Prelude.{◌≡◌, ◌<◌, ◌+◌, ◌⊎◌, ◌||◌, ℕ, IfErr, IfOk, List, MatchResult, None, OnErr, OnOk, Some, drop, false, length, min, pos, take, true, vec_len};
 ghost use Rattle.std.specs.IoError.{raw_os_error};
 ghost use Rattle.std.specs.List.{list_any};
 ghost use Rattle.sysv_seats.specs.Untold.{limits_of};
@@ -90,11 +90,13 @@ impl<L: Listens, H: Host> Doors<L, H> {
     fn open_at(&mut self, number: usize) -> io::Result<()>
         requires { number < length self.old.sockets.items }
         ensures came { OneCame L.steps self.old.sockets.items None self.new.sockets.items }
-        ensures open { MatchResult result
-            (λ _. list_any L.listens self.new.sockets.items ≡ true)
-            (λ _. list_any L.listens self.new.sockets.items
+        ensures ok { OnOk result (list_any L.listens self.new.sockets.items ≡ true) }
+        ensures err { OnErr result (list_any L.listens self.new.sockets.items
             ≡ list_any L.listens self.old.sockets.items) }
         ensures length { vec_len self.new.sockets ≡ vec_len self.old.sockets }
+        ensures common { self.new.common ≡ self.old.common }
+        ensures rest { (from : ℕ) → number < from → drop from self.new.sockets.items
+            ≡ drop from self.old.sockets.items }
     {
         self.sockets[number].open()
     }
@@ -110,6 +112,8 @@ impl<L: Listens, H: Host> Doors<L, H> {
         ensures closed { list_any L.listens (take (number + 1) self.new.sockets.items)
             ≡ list_any L.listens (take number self.old.sockets.items) }
         ensures length { vec_len self.new.sockets ≡ vec_len self.old.sockets }
+        ensures rest { (from : ℕ) → number < from → drop from self.new.sockets.items
+            ≡ drop from self.old.sockets.items }
     {
         self.sockets[number].close();
     }

@@ -247,7 +247,7 @@ fn run<L: Listens, I: Input + Drop, H: Host, R: Threads + Wait + Net + Sync>(
         blocks,
         watches,
         &server,
-        stats || alone,
+        terms.looks(),
     );
     let (left, why) = source.into_parts();
     given_back(left);
