@@ -324,8 +324,8 @@ fn run_server<L: Listens, H: Host, I: Input + Drop, R: Net + Threads + Wait + Sy
 ) -> Result<Ended, ServeFault>
     requires { HasLimits serving.now }
     ensures ends { IfOk result (λ ended. EndsFrom L.accepted L.listens L.steps
-        (looks_in serving.now.terms) serving.now.terms.blocks (places_of limit serving.now.terms) serving.now.terms.sessions
-        (limits_in serving.now.terms) listener.old ended listener.new) }
+        (looks_in serving.now.terms) serving.now.terms.blocks (places_of limit serving.now.terms)
+        serving.now.terms.sessions (limits_in serving.now.terms) listener.old ended listener.new) }
     ensures setting { IfOk result (λ ended. RanWithin limit serving.now.terms ended.setting) }
     ensures meant { IfOk result (λ ended. HasCause I.reads L.fails serving.now.terms.alone
         serving.now.until_eof serving.now.terms.sessions ended.sums.sessions reason.new) }
