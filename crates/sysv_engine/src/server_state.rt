@@ -491,9 +491,12 @@ impl ServerState {
         dealt.saturating_sub(self.over.load(Ordering::SeqCst)) <= FEW_CLIENTS
     }
 
-    /// Returns whether one more client may be accepted, of which this many were.
-    pub fn has_room(&self, accepted: u64) -> bool {
-        accepted.saturating_sub(self.over.load(Ordering::SeqCst)) < self.at_once
+    /// Returns how many more clients may be accepted now, of which this many were.
+    pub fn room(&self, accepted: u64) -> u64
+        ensures { result ≤ self.now.at_once }
+    {
+        let there = accepted.saturating_sub(self.over.load(Ordering::SeqCst));
+        self.at_once.saturating_sub(there)
     }
 
     /// Returns whether all sessions are over, of which this many were accepted.

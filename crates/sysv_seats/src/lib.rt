@@ -5,6 +5,7 @@
 //! the service, and its reply reports how that call ended.
 #![tactic(auto)]
 
+mod attendance;
 mod book;
 mod callers;
 mod client;
@@ -26,6 +27,7 @@ mod tools;
 mod waiting;
 mod zero;
 
+pub use attendance::Attendance;
 pub use book::Replies;
 pub use callers::Callers;
 pub use client::Client;

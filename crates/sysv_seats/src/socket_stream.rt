@@ -5,6 +5,7 @@ ghost use Rattle.std.specs.Io.{ReadsAtMost, WritesAtMost};
 ghost use Rattle.std.specs.Net.Unix.{unix_stream_raw_fd};
 ghost use Rattle.sysv_seats.specs.Sockets.{drained_of, filled_of};
 
+use crate::attendance::Attendance;
 use crate::callers::Callers;
 use crate::limits::{Limit, Limits};
 use crate::non_blocking::{Drained, Filled, NonBlocking, Over};
@@ -24,22 +25,31 @@ pub struct SocketStream {
     refuses: bool,
     limits: Limits,
     callers: Callers,
+    /// Its share of the attendance of the socket that it came in at, if that is counted.
+    share: Option<Attendance>,
 }
 
 impl SocketStream {
     /// Creates the connection of this stream, whose calls do not wait from now on. The server may
-    /// cut its client off under these limits, and lets in these callers.
+    /// cut its client off under these limits, and lets in these callers. Until it is closed, it has a
+    /// share of an attendance, if one is given.
     ///
     /// # Errors
     ///
     /// - The system's error if the stream cannot be made non-blocking. The stream is closed.
-    pub fn new(stream: UnixStream, limits: Limits, callers: Callers) -> io::Result<SocketStream>
+    pub fn new(
+        stream: UnixStream,
+        limits: Limits,
+        callers: Callers,
+        share: Option<Attendance>,
+    ) -> io::Result<SocketStream>
         ensures { IfOk result (λ socket. socket ≡ record {
           stream = stream;
           over = None;
           refuses = false;
           limits = limits;
           callers = callers;
+          share = share;
         }) }
     {
         stream.set_nonblocking(true)?;
@@ -49,6 +59,7 @@ impl SocketStream {
             refuses: false,
             limits,
             callers,
+            share,
         })
     }
 

@@ -223,7 +223,7 @@ impl<'a, L: Listens, I: Input + Drop, H: Host> Accepting<'a, L, I, H> {
             }
         }
         let mut listeners = Several::none();
-        self.listener.watch(&mut listeners);
+        self.listener.watch(u64::MAX, &mut listeners);
         let view = View {
             alloc: self.alloc,
             server: self.server,
@@ -347,7 +347,7 @@ fn await_last<L: Listens>(listener: &mut L, limits: Limits) -> Option<SocketStre
         return None;
     }
     let mut listeners = Several::none();
-    listener.watch(&mut listeners);
+    listener.watch(u64::MAX, &mut listeners);
     let deadline = Moment::now().plus_millis(LAST_MILLIS);
     for _ in 0..u64::MAX {
         let left = Moment::now().until(deadline);
@@ -359,7 +359,7 @@ fn await_last<L: Listens>(listener: &mut L, limits: Limits) -> Option<SocketStre
             }
             continue;
         }
-        match listener.accept(limits) {
+        match listener.accept(u64::MAX, limits) {
             Ok(stream) => return Some(stream),
             Err(why) if is_passing(&why) => pause(HOLD_MILLIS),
             Err(_) => return None,
@@ -461,7 +461,7 @@ impl<H: Host> Acceptor<'_, '_, H> {
     {
         let mut held = false;
         for _ in 0..u64::MAX {
-            let arrived = self.wait(told, descriptor(input), desk);
+            let arrived = self.wait(listener, told, descriptor(input), desk);
             desk.go_on(arrived.reader, self.view, rows);
             if arrived.input && has_ended(input, goes_on) {
                 return Err(Reason::InputOver);
@@ -469,7 +469,7 @@ impl<H: Host> Acceptor<'_, '_, H> {
             if !arrived.connection {
                 continue;
             }
-            match listener.accept(self.limits) {
+            match listener.accept(self.room(), self.limits) {
                 Ok(stream) => {
                     if held {
                         self.host.note(Notice::Resumed);
@@ -483,7 +483,7 @@ impl<H: Host> Acceptor<'_, '_, H> {
                 Err(why) => return Err(Reason::Accept(why)),
             }
         }
-        let last = listener.accept(self.limits);
+        let last = listener.accept(self.room(), self.limits);
         match last {
             Ok(stream) => Ok(stream),
             Err(why) => Err(Reason::Accept(why)),
@@ -499,46 +499,51 @@ impl<H: Host> Acceptor<'_, '_, H> {
     }
 
     /// Waits until the input, whose descriptor is given, can be read, until something happens at
-    /// the desk, or until there is a connection and room for one more client. It may return early.
-    /// Tells the host of the first session whose memory was refused.
-    fn wait(&self, told: &mut bool, input: Watched, desk: &Desk) -> Arrived {
-        let View {
-            server,
-            listeners,
-            accepted,
-            ..
-        } = self.view;
+    /// the desk, or until there is a connection and room for its client. It may return early. Tells the
+    /// host of the first session whose memory was refused.
+    fn wait<L: Listens>(
+        &self,
+        listener: &L,
+        told: &mut bool,
+        input: Watched,
+        desk: &Desk,
+    ) -> Arrived {
+        let server = self.view.server;
         if server.is_starved() && !*told {
             self.host.note(Notice::NoMemory);
             *told = true;
         }
-        if server.has_room(accepted) {
-            return self.arrived(input, listeners, desk, desk.limit());
+        let mut listeners = Several::none();
+        if self.watch(listener, &mut listeners) {
+            return self.arrived(input, &listeners, desk);
         }
         server.await_turn(true);
-        let limit = if server.has_room(accepted) {
-            Some(0)
-        } else {
-            desk.limit()
-        };
-        let arrived = self.arrived(input, &Several::none(), desk, limit);
+        let mut listeners = Several::none();
+        self.watch(listener, &mut listeners);
+        let arrived = self.arrived(input, &listeners, desk);
         server.await_turn(false);
         arrived
     }
 
+    /// Adds what can be read when a client waits to be accepted for which there is room. Returns whether
+    /// no client is kept out until a session is over.
+    fn watch<L: Listens>(&self, listener: &L, listeners: &mut Several) -> bool {
+        let room = self.room();
+        room > 0 && listener.watch(room, listeners)
+    }
+
+    /// Returns how many more clients there is room for.
+    fn room(&self) -> u64 {
+        self.view.server.room(self.view.accepted)
+    }
+
     /// Waits until the input or the doorbell can be read, a client waits at one of the listeners, or
-    /// something happens at the desk, for at most `limit` milliseconds, and hushes the doorbell.
-    fn arrived(
-        &self,
-        input: Watched,
-        listeners: &Several,
-        desk: &Desk,
-        limit: Option<u64>,
-    ) -> Arrived {
+    /// something happens at the desk, at most until the desk is to be looked at, and hushes the doorbell.
+    fn arrived(&self, input: Watched, listeners: &Several, desk: &Desk) -> Arrived {
         let server = self.view.server;
         let [input, doorbell] = [input, server.doorbell()].map(Event::readable);
         let awaited = [input, doorbell, desk.awaited()];
-        let ([input, is_rung, reader], connection) = await_any(awaited, listeners, limit);
+        let ([input, is_rung, reader], connection) = await_any(awaited, listeners, desk.limit());
         if is_rung {
             server.hush();
         }

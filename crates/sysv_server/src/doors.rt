@@ -118,10 +118,10 @@ impl<L: Listens, H: Host> Doors<L, H> {
         self.sockets[number].close();
     }
 
-    /// Accepts a connection at the socket of this number, whose client may be cut off under these
-    /// limits.
+    /// Accepts a connection at the socket of this number while there is `room` for so many, whose client
+    /// may be cut off under these limits.
     #[tactic(auto, using(crate::proofs::Came::one_at, crate::proofs::Came::one_after))]
-    fn accept_at(&mut self, number: usize, limits: Limits) -> io::Result<SocketStream>
+    fn accept_at(&mut self, number: usize, room: u64, limits: Limits) -> io::Result<SocketStream>
         requires { number < length self.old.sockets.items }
         ensures came { MatchResult result
             (λ stream. OneCame L.steps self.old.sockets.items (Some stream) self.new.sockets.items)
@@ -132,7 +132,7 @@ impl<L: Listens, H: Host> Doors<L, H> {
             ≡ list_any L.listens self.old.sockets.items }
         ensures length { vec_len self.new.sockets ≡ vec_len self.old.sockets }
     {
-        match self.sockets[number].accept(limits) {
+        match self.sockets[number].accept(room, limits) {
             Ok(stream) => Ok(stream),
             Err(why) => Err(self.give_up(number, why)),
         }
@@ -243,16 +243,18 @@ impl<L: Listens, H: Host> Listens for Doors<L, H> {
         self.open_at(number)
     }
 
-    fn watch(&self, listeners: &mut Several) {
+    fn watch(&self, room: u64, listeners: &mut Several) -> bool {
+        let mut all = true;
         for socket in self.sockets.iter() {
-            socket.watch(listeners);
+            all = socket.watch(room, listeners) && all;
         }
+        all
     }
 
     #[tactic(auto, using(crate::proofs::Came::none_came, crate::proofs::Came::one_after))]
-    fn accept(&mut self, limits: Limits) -> io::Result<SocketStream> {
+    fn accept(&mut self, room: u64, limits: Limits) -> io::Result<SocketStream> {
         let mut listeners = Several::none();
-        self.watch(&mut listeners);
+        self.watch(room, &mut listeners);
         let seen = listeners.looked_at();
         let mut failed = none_waits();
         for _ in 0..self.sockets.len() {
@@ -260,7 +262,7 @@ impl<L: Listens, H: Host> Listens for Doors<L, H> {
             if number >= self.sockets.len() || !seen.has_client(number) {
                 continue;
             }
-            match self.accept_at(number, limits) {
+            match self.accept_at(number, room, limits) {
                 Ok(stream) => return Ok(stream),
                 Err(why) => failed = why,
             }

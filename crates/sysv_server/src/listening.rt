@@ -10,7 +10,7 @@ use std::io;
 use std::io::{ErrorKind, Read};
 use std::os::fd::AsRawFd;
 use std::os::unix::net::UnixListener;
-use sysv_seats::{Callers, Limits, SocketStream};
+use sysv_seats::{Attendance, Callers, Limits, SocketStream};
 use sysv_system::{Several, Watched};
 
 /// A socket that connections are accepted from.
@@ -61,15 +61,18 @@ pub trait Listens {
         Err(io::Error::from(ErrorKind::Unsupported))
     }
 
-    /// Adds what can be read when a client waits to be accepted.
-    fn watch(&self, listeners: &mut Several);
+    /// Adds what can be read when a client waits to be accepted that is let in while there is `room` for
+    /// so many more. Returns whether no client is kept out: one of several sockets takes no more clients
+    /// than it leaves room for.
+    fn watch(&self, room: u64, listeners: &mut Several) -> bool;
 
-    /// Accepts the next connection, whose client may be cut off under these limits.
+    /// Accepts the next connection while there is `room` for so many more, whose client may be cut off
+    /// under these limits.
     ///
     /// # Errors
     ///
     /// - The system's error if the accept fails. No connection was accepted.
-    fn accept(&mut self, limits: Limits) -> io::Result<SocketStream>
+    fn accept(&mut self, room: u64, limits: Limits) -> io::Result<SocketStream>
         ensures ok { IfOk result (λ stream.
             accepted self.new ≡ added (accepted self.old) (stream ∷ [])) }
         ensures limits { IfOk result (λ stream. limits_of stream ≡ limits) }
@@ -145,12 +148,13 @@ impl Listens for Lent<'_> {
         Ok(())
     }
 
-    fn watch(&self, listeners: &mut Several) {
+    fn watch(&self, _room: u64, listeners: &mut Several) -> bool {
         listeners.add(Watched::of(self.listener));
+        true
     }
 
-    fn accept(&mut self, limits: Limits) -> io::Result<SocketStream> {
-        accept_from(self.listener, limits, Callers::Anyone)
+    fn accept(&mut self, _room: u64, limits: Limits) -> io::Result<SocketStream> {
+        accept_from(self.listener, limits, Callers::Anyone, None)
     }
 
     fn close(&mut self) {
@@ -164,12 +168,20 @@ pub struct Hosted<H> {
     host: H,
     number: usize,
     callers: Callers,
+    /// Its clients, if it is one of several sockets.
+    attendance: Option<Attendance>,
     listener: Option<UnixListener>,
 }
 
 impl<H> Hosted<H> {
     /// Creates the socket of this number, which its host has not opened yet. It lets in these callers.
-    pub fn new(host: H, number: usize, callers: Callers) -> Hosted<H>
+    /// If it has an attendance, it takes a client only if it has fewer than there is room for.
+    pub fn new(
+        host: H,
+        number: usize,
+        callers: Callers,
+        attendance: Option<Attendance>,
+    ) -> Hosted<H>
         ensures closed { has_opened result ≡ false }
         ensures number { result.number ≡ number }
         ensures callers { result.callers ≡ callers }
@@ -178,7 +190,16 @@ impl<H> Hosted<H> {
             host,
             number,
             callers,
+            attendance,
             listener: None,
+        }
+    }
+
+    /// Returns whether it takes one more client while there is room for so many.
+    fn takes_one(&self, room: u64) -> bool {
+        match &self.attendance {
+            Some(attendance) => attendance.count() < room,
+            None => true,
         }
     }
 }
@@ -205,16 +226,22 @@ impl<H: Host> Listens for Hosted<H> {
         Ok(())
     }
 
-    fn watch(&self, listeners: &mut Several) {
+    fn watch(&self, room: u64, listeners: &mut Several) -> bool {
+        let takes_one = self.takes_one(room);
         listeners.add(match &self.listener {
-            Some(listener) => Watched::of(listener),
-            None => Watched::NONE,
+            Some(listener) if takes_one => Watched::of(listener),
+            _ => Watched::NONE,
         });
+        takes_one || self.listener.is_none()
     }
 
-    fn accept(&mut self, limits: Limits) -> io::Result<SocketStream> {
+    fn accept(&mut self, _room: u64, limits: Limits) -> io::Result<SocketStream> {
+        let share = match &self.attendance {
+            Some(attendance) => attendance.join(),
+            None => None,
+        };
         match &self.listener {
-            Some(listener) => accept_from(listener, limits, self.callers),
+            Some(listener) => accept_from(listener, limits, self.callers, share),
             None => Err(io::Error::from(ErrorKind::NotConnected)),
         }
     }
@@ -224,18 +251,19 @@ impl<H: Host> Listens for Hosted<H> {
     }
 }
 
-/// Accepts a connection from a Unix socket, which lets in these callers. It is closed if it cannot be
-/// made non-blocking.
+/// Accepts a connection from a Unix socket, which lets in these callers and has this share of its
+/// attendance. It is closed if it cannot be made non-blocking.
 fn accept_from(
     listener: &UnixListener,
     limits: Limits,
     callers: Callers,
+    share: Option<Attendance>,
 ) -> io::Result<SocketStream>
     ensures limits { IfOk result (λ stream. limits_of stream ≡ limits) }
     ensures callers { IfOk result (λ stream. callers_of stream ≡ callers) }
 {
     let (stream, _address) = listener.accept()?;
-    SocketStream::new(stream, limits, callers)
+    SocketStream::new(stream, limits, callers, share)
 }
 
 /// An input of the standard library.

@@ -142,7 +142,7 @@ pub fn serve_listener<I: Read + AsRawFd + Drop, H: Host + Drop, R: Threads + Wai
     ensures setting { IfOk result (λ ended. RanOn terms ended.setting) }
     ensures err { IfErr result (FailsOn (looks_in terms) terms.blocks terms.at_once terms.sessions) }
 {
-    let mut socket = Hosted::new(&host, 0, Callers::Anyone);
+    let mut socket = Hosted::new(&host, 0, Callers::Anyone, None);
     let input = input_of(input);
     run(rt, alloc, &mut socket, true, &host, input, terms, reason)
 }

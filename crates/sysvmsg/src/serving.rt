@@ -23,6 +23,7 @@ use std::{fs, io};
 use sysv_connect::{FAULT, complain};
 use sysv_model::BLOCK_BYTES;
 use sysv_options::Serving;
+use sysv_seats::Attendance;
 use sysv_server::{
     Callers, Doors, Ended, Fates, Host, Hosted, Input, Listens, MAX_CLIENTS, Notice, Reading,
     Reason, ServeFault, Sums, Terms, serve_from,
@@ -114,14 +115,19 @@ fn sockets_of<H: Copy>(alloc: Global, host: H, serving: &Serving<'_>) -> Option<
     let count = serving.count();
     let mut sockets = Vec::with_capacity(alloc, count.saturating_add(1)).ok()?;
     for number in 0..count {
-        if let Some(socket) = serving.socket(number) {
-            sockets
-                .push(Hosted::new(host, number, socket.callers))
-                .ok()?;
-        }
+        let Some(socket) = serving.socket(number) else {
+            continue;
+        };
+        let attendance = if count > 1 {
+            Some(Attendance::try_new(alloc)?)
+        } else {
+            None
+        };
+        let socket = Hosted::new(host, number, socket.callers, attendance);
+        sockets.push(socket).ok()?;
     }
     if serving.alone.is_some() {
-        sockets.push(Hosted::new(host, count, ROOT)).ok()?;
+        sockets.push(Hosted::new(host, count, ROOT, None)).ok()?;
     }
     Some(sockets)
 }

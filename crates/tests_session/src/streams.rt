@@ -35,7 +35,7 @@ fn memory<'a>(
 /// Returns a connection on a socket, and its client.
 fn socket<R: Net + Abort>(rt: &R) -> (SocketStream, UnixStream) {
     let (ours, client) = UnixStream::pair(rt).expect(rt, "a pair of sockets");
-    let stream = SocketStream::new(ours, Limits::all_or_none(true), Callers::Anyone).expect(
+    let stream = SocketStream::new(ours, Limits::all_or_none(true), Callers::Anyone, None).expect(
         rt,
         "a socket that does not wait",
     );

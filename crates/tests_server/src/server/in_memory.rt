@@ -41,15 +41,16 @@ impl Listens for Connected {
         Ok(())
     }
 
-    fn watch(&self, listeners: &mut Several) {
+    fn watch(&self, _room: u64, listeners: &mut Several) -> bool {
         listeners.add(Watched::of(&self.readable));
+        true
     }
 
-    fn accept(&mut self, limits: Limits) -> io::Result<SocketStream> {
+    fn accept(&mut self, _room: u64, limits: Limits) -> io::Result<SocketStream> {
         let Some(stream) = self.waiting.pop() else {
             return Err(io::Error::from(ErrorKind::NotConnected));
         };
-        let socket = SocketStream::new(stream, limits, Callers::Anyone)?;
+        let socket = SocketStream::new(stream, limits, Callers::Anyone, None)?;
         match self.accepted.push(Snapshot::of(&socket)) {
             Ok(()) => Ok(socket),
             Err(_) => Err(io::Error::from(ErrorKind::OutOfMemory)),
