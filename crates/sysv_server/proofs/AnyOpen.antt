@@ -21,14 +21,6 @@ right_off : (a b : Bool) → a || b ≡ false → b ≡ false
 right_off true b is = absurd (true≢false is)
 right_off false b is = is
 
--- One was set: those after it are as before.
-pub drop_after : {L : Type 0} (ls : List L) (n : ℕ) (m : L) (from : ℕ) → n < from →
-    drop from (slice_set ls n m) ≡ drop from ls
-drop_after [] n m from after = ap (λ (l : List L). drop from l) refl
-drop_after (x ∷ ls) n m zero after = absurd (omega (arith, after))
-drop_after (x ∷ ls) zero m (suc from) after = refl
-drop_after (x ∷ ls) (suc n) m (suc from) after = drop_after ls n m from (omega (arith, after))
-
 next : (n : ℕ) → suc n + 1 ≡ suc (n + 1)
 next n = omega arith
 

@@ -1,6 +1,7 @@
 -- One socket made a step.
 use Rattle.std.proofs.Common.{None, subst}
-use Rattle.sysv_server.proofs.AnyOpen.{drop_after, opened_err, opened_ok}
+use Rattle.std.proofs.lemmas.List.{drop-set-lt}
+use Rattle.sysv_server.proofs.AnyOpen.{opened_err, opened_ok}
 use Rattle.sysv_server.proofs.Came.{one_at}
 use Rattle.sysv_server.proofs.doors.Doors.open_at.Goals as goal
 
@@ -22,4 +23,4 @@ returns-clause-err g c =
 
 pub returns-clause-rest : goal.returns-clause-rest
 returns-clause-rest g c =
-    λ from after. drop_after c.args.self.now.sockets.items c.args.number c.open.new.self from after
+    λ from after. drop-set-lt from c.args.self.now.sockets.items c.args.number c.open.new.self after
