@@ -18,7 +18,7 @@ use Rattle.sysv_server.specs.declared.host.Reason.{Reason}
 use Rattle.sysv_server.specs.declared.host.Reason.TheVariants.{Full, InputOver, NoSocket, Accept}
 use Rattle.sysv_engine.specs.declared.sums.Sums.{Sums}
 use Rattle.sysv_engine.specs.declared.terms.Ended.{Ended}
-use Rattle.sysv_server.specs.Accepts.{Accepts, AcceptsLast, HasEnded}
+use Rattle.sysv_server.specs.Accepts.{Accepts, HasEnded}
 use Rattle.sysv_server.specs.Doors.{Came}
 use Rattle.sysv_server.proofs.Came.{came_on, came_still}
 use Rattle.sysv_server.specs.Listening.{HasFailed, IsOver, added}
@@ -416,32 +416,35 @@ module _ {L I H : Type 0} (told : L → Option (List SocketStream)) (listens : L
 
     module _ (l l' : L) (counted : length books ≡ workers) (before : s.listener.now ≡ l)
         (after : s'.listener.now ≡ l') where
-      pub all_end : (limits : Limits) → s.limits ≡ limits →
-          IfOk result (λ ended. EndsFrom told listens steps shows blocks workers m limits l ended l')
-      all_end limits held = of result ok
+      pub all_end : (looks : Bool) (limits : Limits) → shows ≡ looks → s.limits ≡ limits →
+          IfOk result (λ ended. EndsFrom told listens steps looks blocks workers m limits l ended l')
+      all_end looks limits read held = of result ok
         where
           of : (r : Result Ended ServeFault) → IfOk r (λ ended. Serves shows blocks s books ended s' books')
-              → IfOk r (λ ended. EndsFrom told listens steps shows blocks workers m limits l ended l')
+              → IfOk r (λ ended. EndsFrom told listens steps looks blocks workers m limits l ended l')
           of (Ok ended) all =
-              subst (λ k. EndsFrom told listens steps shows blocks workers m limits k ended l') before
+              subst (λ k. EndsFrom told listens steps k blocks workers m limits l ended l') read
+              (subst (λ k. EndsFrom told listens steps shows blocks workers m limits k ended l') before
               (subst (λ k. EndsFrom told listens steps shows blocks workers m limits s.listener.now ended k) after
               (subst (λ k. EndsFrom told listens steps shows blocks workers m k s.listener.now ended s'.listener.now)
               held
-              (ends_from shows blocks workers m s s' books books' ended none same small counted all)))
+              (ends_from shows blocks workers m s s' books books' ended none same small counted all))))
           of (Err why) all = tt
 
-      pub all_fail : IfErr result (λ why. FailsFrom told shows blocks workers m l why l')
-      all_fail = of result err
+      pub all_fail : (looks : Bool) → shows ≡ looks →
+          IfErr result (λ why. FailsFrom told looks blocks workers m l why l')
+      all_fail looks read = of result err
         where
           of : (r : Result Ended ServeFault)
               → IfErr r
               (λ why. LeavesConnections untold untold closing_sockets Gives (HasLived shows blocks) s books why s'
-              books') → IfErr r (λ why. FailsFrom told shows blocks workers m l why l')
+              books') → IfErr r (λ why. FailsFrom told looks blocks workers m l why l')
           of (Ok ended) left = tt
           of (Err why) left =
-              subst (λ k. FailsFrom told shows blocks workers m k why l') before
+              subst (λ k. FailsFrom told k blocks workers m l why l') read
+              (subst (λ k. FailsFrom told shows blocks workers m k why l') before
               (subst (λ k. FailsFrom told shows blocks workers m s.listener.now why k) after
-              (fails_from shows blocks workers m s s' books books' why none same small counted left))
+              (fails_from shows blocks workers m s s' books books' why none same small counted left)))
 
     pub all_for : (alone input : Bool) (reason : Option Reason) → s.reason ≡ None → s.alone ≡ alone →
         is_some s.input ≡ input → s'.reason ≡ reason →
@@ -454,63 +457,6 @@ module _ {L I H : Type 0} (told : L → Option (List SocketStream)) (listens : L
             ends_for shows blocks m s s' books books' ended alone input reason none same small unended of_alone of_input
             of_reason all
         of (Err why) all = tt
-
--- A source that has ended, in this call or before it, gives a last connection or none.
-module _ {L I H : Type 0} (told : L → Option (List SocketStream)) (listens : L → Bool)
-    (reads : I → ℕ → Result ℕ Error → I → Type 0) (fails : L → Error → L → Type 0)
-    (steps : L → Option SocketStream → L → Type 0) where
-  -- Nothing was given since, and the reason was set before, or since then.
-  pub record HasJustEnded (old mid : Accepting L I H) : Type 0 where
-    pub most : mid.most ≡ old.most
-    pub accepted : mid.accepted ≡ old.accepted
-    pub limits : mid.limits ≡ old.limits
-    pub alone : mid.alone ≡ old.alone
-    pub input : is_some mid.input ≡ is_some old.input
-    pub same : told mid.listener.now ≡ told old.listener.now
-    pub lent : mid.listener.ghost_name ≡ old.listener.ghost_name
-    pub came : Came steps old.listener.now [] mid.listener.now
-    pub may : mid.has_last ≡ true → old.alone ≡ true
-    pub unended : old.reason ≡ None
-    pub why : IsSomeAnd mid.reason (HasEnded listens reads fails old)
-
-  pub gives_last : (old mid new : Accepting L I H) (step : Option SocketStream) → HasJustEnded old mid →
-      AcceptsLast told listens steps mid step new → Accepts told listens reads fails steps old step new
-  gives_last old mid new None ended last = (
-    last.0 ∙ ended.most,
-    last.1 ∙ ended.accepted,
-    inr (subst (λ r. IsSomeAnd r (HasEnded listens reads fails old)) (sym last.2) ended.why),
-    last.3,
-    last.4 ∙ ended.same,
-    last.5 ∙ ended.lent,
-    came_on steps old.listener.now mid.listener.now new.listener.now [] [] ended.came last.6,
-  )
-  gives_last old mid new (Some stream) ended last = (
-    last.0 ∙ ended.most,
-    λ some. subst (λ (n : ℕ). n < old.most) ended.accepted
-        (subst (λ (n : ℕ). mid.accepted < n) ended.most (last.1 (λ z. some (sym ended.most ∙ z)))),
-    last.2 ∙ ap (λ (n : ℕ). capped (n + 1)) ended.accepted,
-    last.3,
-    inr (
-      ended.may last.5,
-      ended.unended,
-      subst (λ r. IsSomeAnd r (HasEnded listens reads fails old)) (sym last.4) ended.why,
-    ),
-    last.6 ∙ ended.input,
-    last.7 ∙ ap (λ o. added o (stream ∷ [])) ended.same,
-    last.8 ∙ ended.lent,
-    last.9 ∙ ended.limits,
-    last.10 ∙ ended.limits,
-    came_on steps old.listener.now mid.listener.now new.listener.now [] (stream ∷ []) ended.came last.12,
-    last.11 ∙ ended.alone,
-  )
-
-  -- The same if it had ended before.
-  pub gives_more : (old new : Accepting L I H) (step : Option SocketStream) → is_some old.reason ≡ true →
-      AcceptsLast told listens steps old step new → Accepts told listens reads fails steps old step new
-  gives_more old new None over last =
-      (last.0, last.1, inl (over, last.2), last.3, last.4, last.5, last.6)
-  gives_more old new (Some stream) over last =
-      (last.0, last.1, last.2, last.3, inl last.4, last.6, last.7, last.8, last.9, last.10, last.12, last.11)
 
 -- What is told of a listener and of an input may be left out.
 pub ok_so : {A E : Type 0} (P Q : A → Type 0) (result : Result A E) → ((x : A) → P x → Q x) → IfOk result P →

@@ -24,6 +24,11 @@ right_off false b is = is
 next : (n : ℕ) → suc n + 1 ≡ suc (n + 1)
 next n = omega arith
 
+-- What holds anyway holds after a failure.
+pub on_err : {A E Q : Type 0} (r : Result A E) → Q → OnErr r Q
+on_err (Ok a) q = tt
+on_err (Err e) q = q
+
 module _ {L : Type 0} (f : L → Bool) where
   -- One was closed: the others are left.
   pub any_others : (ls : List L) (n : ℕ) (m : L) → n < length ls → f m ≡ false →

@@ -74,8 +74,8 @@ module _ {L I H : Type 0} (told : L → Option (List SocketStream)) (listens : L
 
 module _ {L I H : Type 0} (told : L → Option (List SocketStream)) (listens : L → Bool)
     (steps : L → Option SocketStream → L → Type 0) where
-  -- The source, which had ended, closed its listener, and returned a connection that is served alone or none. It returns
-  -- one only if it was to have such ones after its end.
+  -- The source, which had ended, closed its listener, and returned a connection that is served alone, or none. It
+  -- returns one only if it was to have such ones after its end.
   abbrev pub AcceptsLast : Accepting L I H → Option SocketStream → Accepting L I H → Type 0
   AcceptsLast old None new =
       (new.most ≡ old.most) × (new.accepted ≡ old.accepted) × (new.reason ≡ old.reason)

@@ -2,7 +2,7 @@
 ghost use Rattle.std.specs.Prelude.{◌≡◌, ◌≢◌, ◌<◌, ◌≤◌, ◌-◌, ◌^◌, ◌∷◌, [], true, false, is_some, None, IfErr, IfOk, IfSome, MatchOption, MatchResult, OnErr, OnOk};
 ghost use Rattle.sysv_engine.specs.Looks.{Looks};
 ghost use Rattle.sysv_seats.specs.Untold.{limits_of};
-ghost use Rattle.sysv_server.specs.Accepts.{AcceptsLast, EndsWait, HasEnded};
+ghost use Rattle.sysv_server.specs.Accepts.{AcceptsLast, EndsWait, HasEnded, IsFull};
 ghost use Rattle.sysv_server.specs.Doors.{Came};
 ghost use Rattle.sysv_server.specs.Listening.{added, IsOver};
 
@@ -188,6 +188,14 @@ impl<'a, L: Listens, I: Input + Drop, H: Host> Accepting<'a, L, I, H> {
         self.listener.open()
     }
 
+    /// Returns whether the number of connections is limited, and the limit is reached.
+    fn is_full(&self) -> bool
+        ensures full { result ≡ true → IsFull self.now.most self.now.accepted }
+        ensures room { result ≡ false → self.now.most ≢ 0 → self.now.accepted < self.now.most }
+    {
+        self.most != 0 && self.accepted >= self.most
+    }
+
     /// Accepts the next connection. The error is why no more connections are to be accepted.
     #[tactic(auto, using(sysv_engine::proofs::Looking::looks_stay, crate::proofs::Came::came_on, crate::proofs::Came::came_once, crate::proofs::Came::came_quiet, crate::proofs::Came::came_still))]
     fn accept<R: Wait>(&mut self, rows: &mut Rows<'_, R>) -> Result<SocketStream, Reason>
@@ -210,7 +218,7 @@ impl<'a, L: Listens, I: Input + Drop, H: Host> Accepting<'a, L, I, H> {
         ensures same_reference { self.new.listener.ghost_name ≡ self.old.listener.ghost_name }
         ensures looks { Looks rows.old rows.new }
     {
-        if self.most != 0 && self.accepted >= self.most {
+        if self.is_full() {
             return Err(Reason::Full);
         }
         let was_alone = self.alone && self.accepted == 1;
@@ -278,7 +286,7 @@ impl<'a, L: Listens, I: Input + Drop, H: Host> Accepting<'a, L, I, H> {
         ensures looks { Looks rows.old rows.new }
     {
         self.listener.close();
-        if !self.has_last || (self.most != 0 && self.accepted >= self.most) {
+        if !self.has_last || self.is_full() {
             return None;
         }
         let is_back = self.server.await_over(self.accepted);
@@ -388,7 +396,7 @@ impl<L: Listens, I: Input + Drop, H: Host> Arrivals<SocketStream> for Accepting<
 
     ghost gives = { Accepts L.accepted L.listens I.reads L.fails L.steps };
 
-    #[tactic(auto, using(sysv_engine::proofs::Looking::looks_stay, crate::proofs::Came::came_on, crate::proofs::Came::came_once, crate::proofs::Came::came_quiet, crate::proofs::Came::came_still))]
+    #[tactic(auto, using(sysv_engine::proofs::Looking::looks_on))]
     fn next<R: Wait>(&mut self, rows: &mut Rows<'_, R>) -> Option<SocketStream> {
         if self.reason.is_some() {
             return self.accept_last(rows);
