@@ -62,6 +62,25 @@ module _ {A : Type 0} where
   one_added None x xs = refl
   one_added (Some ys) x xs = ap Some (append_assoc ys (x ∷ []) xs)
 
+-- ---- why a source may have ended
+
+module _ {L I : Type 0} (reads : I → ℕ → Result ℕ Error → I → Type 0) (fails : L → Error → L → Type 0) where
+  -- Why a source may have ended before its last sessions, which are served alone.
+  abbrev EndsEarly : (alone input : Bool) → Option Reason → Type 0
+  EndsEarly alone input None = ⊥
+  EndsEarly alone input (Some Full) = ⊥
+  EndsEarly alone input (Some InputOver) = (input ≡ true) × IsOver reads
+  EndsEarly alone input (Some (NoSocket why)) = alone ≡ true
+  EndsEarly alone input (Some (Accept why)) = HasFailed fails why
+
+  early_cause : (alone input : Bool) (m sessions : ℕ) (reason : Option Reason) → EndsEarly alone input reason →
+      HasCause reads fails alone input m sessions reason
+  early_cause alone input m sessions None early = early
+  early_cause alone input m sessions (Some Full) early = absurd early
+  early_cause alone input m sessions (Some InputOver) early = early
+  early_cause alone input m sessions (Some (NoSocket why)) early = λ off. absurd (true≢false (sym early ∙ off))
+  early_cause alone input m sessions (Some (Accept why)) early = early
+
 -- ---- the connections of a listener
 
 module _ {L I H : Type 0} (told : L → Option (List SocketStream)) (listens : L → Bool)
@@ -110,18 +129,10 @@ module _ {L I H : Type 0} (told : L → Option (List SocketStream)) (listens : L
       let more = step.2 in
       (rest.0 ∙ step.0, omega arith, rest.2 ∙ step.5, rest.3 ∙ step.11)
 
-  -- Why a source may have ended before its last sessions, which are served alone.
-  abbrev EndsEarly : (alone input : Bool) → Option Reason → Type 0
-  EndsEarly alone input None = ⊥
-  EndsEarly alone input (Some Full) = ⊥
-  EndsEarly alone input (Some InputOver) = (input ≡ true) × IsOver reads
-  EndsEarly alone input (Some (NoSocket why)) = alone ≡ true
-  EndsEarly alone input (Some (Accept why)) = HasFailed fails why
-
   -- A source that gives one more has not reached its limit.
   ends_early : (s : Accepting L I H) (reason : Option Reason) → s.alone ≡ true
       → (s.most ≢ 0 → s.accepted < s.most) → IsSomeAnd reason (HasEnded listens reads fails s)
-      → EndsEarly s.alone (is_some s.input) reason
+      → EndsEarly reads fails s.alone (is_some s.input) reason
   ends_early s None alone low why = why
   ends_early s (Some Full) alone low full =
       let below_it = low full.0 in
@@ -133,19 +144,19 @@ module _ {L I H : Type 0} (told : L → Option (List SocketStream)) (listens : L
 
   -- while connections are given, the source has ended for no reason, or before its last sessions
   keeps : (items : List SocketStream) (s s' : Accepting L I H) → Given items s s'
-      → (s'.reason ≡ s.reason) ⊎ EndsEarly s.alone (is_some s.input) s'.reason
+      → (s'.reason ≡ s.reason) ⊎ EndsEarly reads fails s.alone (is_some s.input) s'.reason
   keeps [] s s' h = inl (sym (ap (λ (t : Accepting L I H). t.reason) h))
   keeps (x ∷ items) s s' h =
       let step = h.1 in
       elim (keeps items h.0 s' h.2) [
         | inr early ↦
-            inr (subst (λ b. EndsEarly b (is_some s.input) s'.reason) step.11
-            (subst (λ b. EndsEarly h.0.alone b s'.reason) step.5 early))
+            inr (subst (λ b. EndsEarly reads fails b (is_some s.input) s'.reason) step.11
+            (subst (λ b. EndsEarly reads fails h.0.alone b s'.reason) step.5 early))
         | inl kept ↦
             elim step.4 [
               | inl same ↦ inl (kept ∙ same)
               | inr ended ↦
-                  inr (subst (λ r. EndsEarly s.alone (is_some s.input) r) (sym kept)
+                  inr (subst (λ r. EndsEarly reads fails s.alone (is_some s.input) r) (sym kept)
                   (ends_early s h.0.reason ended.0 step.1 ended.2))
             ]
       ]
@@ -226,14 +237,6 @@ module _ {L I H : Type 0} (told : L → Option (List SocketStream)) (listens : L
       s'.listener.ghost_name ≡ s.listener.ghost_name
   gave_hold items s s' (inl all) = all_hold items s s' all
   gave_hold items s s' (inr none) = ap (λ (t : Accepting L I H). t.listener.ghost_name) none.1
-
-  early_cause : (alone input : Bool) (m sessions : ℕ) (reason : Option Reason) → EndsEarly alone input reason →
-      HasCause reads fails alone input m sessions reason
-  early_cause alone input m sessions None early = early
-  early_cause alone input m sessions (Some Full) early = absurd early
-  early_cause alone input m sessions (Some InputOver) early = early
-  early_cause alone input m sessions (Some (NoSocket why)) early = λ off. absurd (true≢false (sym early ∙ off))
-  early_cause alone input m sessions (Some (Accept why)) early = early
 
   has_cause : (m sessions : ℕ) (s last s' : Accepting L I H) (items : List SocketStream) (alone input : Bool)
       (reason : Option Reason)
@@ -357,10 +360,10 @@ module _ {L I H : Type 0} (told : L → Option (List SocketStream)) (listens : L
             elim (keeps served.given s gave.last gave.gave) [
               | inl still ↦ absurd (true≢false (sym over.0 ∙ ap is_some (still ∙ unended)))
               | inr early ↦
-                  early_cause alone input m ended.sums.sessions reason
-                  (subst (λ r. EndsEarly alone input r) (sym over.1 ∙ of_reason)
-                  (subst (λ b. EndsEarly b input gave.last.reason) of_alone
-                  (subst (λ b. EndsEarly s.alone b gave.last.reason) of_input early)))
+                  early_cause reads fails alone input m ended.sums.sessions reason
+                  (subst (λ r. EndsEarly reads fails alone input r) (sym over.1 ∙ of_reason)
+                  (subst (λ b. EndsEarly reads fails b input gave.last.reason) of_alone
+                  (subst (λ b. EndsEarly reads fails s.alone b gave.last.reason) of_input early)))
             ]
         | inr why ↦
             has_cause m ended.sums.sessions s gave.last s' served.given alone input reason none same small of_alone

@@ -1,6 +1,7 @@
 -- A source that has ended gives a last connection, or none.
-use Rattle.std.proofs.Common.{◌≡◌, ◌∙◌, ◌+◌, ◌<◌, inl, inr, ap, subst, sym, ℕ, Bool, List, [], ◌∷◌, Option, Some, None}
-use Rattle.std.specs.Prelude.{IsSomeAnd, Result, is_some, true}
+use mathlib.Core.Bool.{true≢false}
+use Rattle.std.proofs.Common.{◌≡◌, ◌∙◌, ◌+◌, ◌<◌, inr, ap, refl, subst, sym, ℕ, Bool, List, [], ◌∷◌, Option, Some, None}
+use Rattle.std.specs.Prelude.{IsSomeAnd, Result, false, is_some, true}
 use Rattle.std.specs.declared.io.Error.{Error}
 use Rattle.sysv_engine.specs.Added.{capped}
 use Rattle.sysv_seats.specs.declared.socket_stream.SocketStream.{SocketStream}
@@ -9,6 +10,11 @@ use Rattle.sysv_server.specs.Accepts.{Accepts, AcceptsLast, HasEnded}
 use Rattle.sysv_server.specs.Doors.{Came}
 use Rattle.sysv_server.specs.Listening.{added}
 use Rattle.sysv_server.specs.declared.accepting.Accepting.{Accepting}
+
+-- Without a value there is none.
+pub none_is : {A : Type 0} (o : Option A) → is_some o ≡ false → o ≡ None
+none_is None none = refl
+none_is (Some x) none = absurd (true≢false none)
 
 module _ {L I H : Type 0} (told : L → Option (List SocketStream)) (listens : L → Bool)
     (reads : I → ℕ → Result ℕ Error → I → Type 0) (fails : L → Error → L → Type 0)
@@ -57,11 +63,3 @@ module _ {L I H : Type 0} (told : L → Option (List SocketStream)) (listens : L
     came_on steps old.listener.now mid.listener.now new.listener.now [] (stream ∷ []) ended.came last.12,
     last.11 ∙ ended.alone,
   )
-
-  -- The same if it had ended before.
-  pub gives_more : (old new : Accepting L I H) (step : Option SocketStream) → is_some old.reason ≡ true →
-      AcceptsLast told listens steps old step new → Accepts told listens reads fails steps old step new
-  gives_more old new None over last =
-      (last.0, last.1, inl (over, last.2), last.3, last.4, last.5, last.6)
-  gives_more old new (Some stream) over last =
-      (last.0, last.1, last.2, last.3, inl last.4, last.6, last.7, last.8, last.9, last.10, last.12, last.11)

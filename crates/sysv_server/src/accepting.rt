@@ -277,6 +277,14 @@ impl<'a, L: Listens, I: Input + Drop, H: Host> Accepting<'a, L, I, H> {
         !is_over
     }
 
+    /// Returns whether there may be last sessions that are served alone: there was a first one, and the
+    /// server went on after it.
+    fn may_have_last(&self) -> bool
+        ensures { result ≡ true → self.now.alone ≡ true }
+    {
+        self.alone && self.goes_on
+    }
+
     /// Accepts the next of the last sessions, which are served alone, once all sessions before it are
     /// over and what they held is back. There is none if there are to be no last sessions, if no queue
     /// has a message after one of them, or if no client connects in time; else there is one more.
@@ -409,7 +417,7 @@ impl<L: Listens, I: Input + Drop, H: Host> Arrivals<SocketStream> for Accepting<
             Err(why) => {
                 let closes_idle = why.is_input_over();
                 self.reason = Some(why);
-                self.has_last = self.alone && self.goes_on;
+                self.has_last = self.may_have_last();
                 self.listener.close();
                 self.desk = Desk::closed();
                 if self.server.drain(self.accepted, closes_idle) {

@@ -9,7 +9,8 @@ use Rattle.sysv_server.proofs.doors.DoorsListens.open.Goals as goal
 pub returns-then-any_open-clause-ok : goal.returns-then-any_open-clause-ok
 returns-then-any_open-clause-ok g c =
     some_before g.L.Listens.listens c.args.self.now.sockets.items c.common.result
-    (sym c.any_open.ensures ∙ c.if-any_open.true)
+    (ap (λ ls. list_any g.L.Listens.listens (take c.common.result ls)) (sym c.deref.ensures.value)
+    ∙ (sym c.any_open.ensures ∙ c.if-any_open.true))
 
 pub returns-then-is_err-clause-step : goal.returns-then-is_err-clause-step
 returns-then-is_err-clause-step g c =
@@ -26,7 +27,8 @@ returns-then-is_err-clause-err g c =
     let bound : min opened.common (vec_len opened.sockets) ≡ min old.common (vec_len old.sockets) = omega arith in
     let before : list_any listens (take (min old.common (vec_len old.sockets)) old.sockets.items) ≡ false =
     subst (λ (n : ℕ). list_any listens (take n old.sockets.items) ≡ false) c.common.ensures
-    (sym c.any_open.ensures ∙ c.if-any_open.false) in
+    (ap (λ ls. list_any listens (take c.common.result ls)) (sym c.deref.ensures.value)
+    ∙ (sym c.any_open.ensures ∙ c.if-any_open.false)) in
     on_err c.open_all-opened.result
     (c.close_common.ensures.open
     ∙ (ap (λ (n : ℕ). list_any listens (drop n opened.sockets.items)) bound
@@ -40,7 +42,8 @@ returns-else-is_open-clause-err g c =
     let opened = c.open_all-opened.new.self in
     let before : list_any listens (take (min old.common (vec_len old.sockets)) old.sockets.items) ≡ false =
     subst (λ (n : ℕ). list_any listens (take n old.sockets.items) ≡ false) c.common.ensures
-    (sym c.any_open.ensures ∙ c.if-any_open.false) in
+    (ap (λ ls. list_any listens (take c.common.result ls)) (sym c.deref.ensures.value)
+    ∙ (sym c.any_open.ensures ∙ c.if-any_open.false)) in
     let now : list_any listens opened.sockets.items ≡ false = sym c.is_open.ensures ∙ c.if-is_open.false in
     now
     ∙ sym (any_after listens old.sockets.items _ before
