@@ -21,7 +21,7 @@ returns-after-drain-clause-gives g c =
       lent = told.same_reference;
       came = came_on steps c.args.self.now.listener.now accepted.listener.now c.close.new.self [] [] told.came
           (came_quiet steps accepted.listener.now c.close.new.self c.close.ensures.step);
-      may = λ on. sym told.same.4 ∙ c.may_have_last.ensures on;
+      may = λ on. sym told.same.4 ∙ c.may_have_last-self.ensures on;
       unended = none_is c.args.self.now.reason (sym c.is_some.ensures ∙ c.if-is_some.false);
       why = told.ended;
     }
