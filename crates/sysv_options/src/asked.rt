@@ -471,15 +471,14 @@ fn server<'a>(words: &ArgMatches<'a>) -> Result<Serving<'a>, Bad>
 {
     let file = file_of(words)?;
     let others = others_of(words)?;
+    let terms = terms_of(words)?;
     let no_main = is_on(words, "no-main");
-    let has_alone = has_word(words, "alone");
-    let Some(sockets) = number_of_sockets(no_main, has_alone, others.count()) else {
+    let Some(sockets) = number_of_sockets(no_main, terms.alone, others.count()) else {
         return Err(NO_SOCKET);
     };
     let stats = stats_of(words, file.path)?;
     let alone = alone_of(words, file.path)?;
-    let terms = terms_of(words)?;
-    if has_alone && !may_serve_alone(words, terms.sessions) {
+    if !may_serve(words, terms.alone, terms.sessions) {
         return Err(NOT_ALONE);
     }
     Ok(Serving {
@@ -510,14 +509,17 @@ fn number_of_sockets(no_main: bool, alone: bool, others: usize) -> Option<u32>
     }
 }
 
-/// Returns whether a server that is to run this number of sessions, 0 for no limit, may have some that
-/// are served alone: it ends after its input has ended, and the number is not limited.
-fn may_serve_alone(words: &ArgMatches<'_>, sessions: u64) -> bool
-    ensures can { result ≡ true →
+/// Returns whether a server may run this number of sessions, 0 for no limit. If some are served `alone`,
+/// it must end after its input has ended, and the number must not be limited.
+fn may_serve(words: &ArgMatches<'_>, alone: bool, sessions: u64) -> bool
+    ensures can { result ≡ true → alone ≡ true →
         IsOn (word_of (words_in words.now) (codes "until-eof")) × (sessions ≡ 0) }
-    ensures cannot { result ≡ false →
-        ¬ (IsOn (word_of (words_in words.now) (codes "until-eof")) × (sessions ≡ 0)) }
+    ensures cannot { result ≡ false → (alone ≡ true)
+        × ¬ (IsOn (word_of (words_in words.now) (codes "until-eof")) × (sessions ≡ 0)) }
 {
+    if !alone {
+        return true;
+    }
     is_on(words, "until-eof") && sessions == 0
 }
 

@@ -1,5 +1,5 @@
 //! A source of accepted connections.
-ghost use Rattle.std.specs.Prelude.{◌≡◌, ◌≢◌, ◌<◌, ◌≤◌, ◌-◌, ◌^◌, ◌∷◌, [], true, false, is_some, None, IfErr, IfOk, IfSome, MatchOption, MatchResult, OnErr, OnOk};
+ghost use Rattle.std.specs.Prelude.{◌≡◌, ◌≢◌, ◌<◌, ◌≤◌, ◌-◌, ◌^◌, ◌∷◌, [], true, false, is_some, None, Some, IfErr, IfOk, IfSome, MatchOption, MatchResult, OnErr, OnOk};
 ghost use Rattle.sysv_engine.specs.Looks.{Looks};
 ghost use Rattle.sysv_seats.specs.Untold.{limits_of};
 ghost use Rattle.sysv_server.specs.Accepts.{AcceptsLast, EndsWait, HasEnded, IsFull};
@@ -277,6 +277,29 @@ impl<'a, L: Listens, I: Input + Drop, H: Host> Accepting<'a, L, I, H> {
         !is_over
     }
 
+    /// Ends for this reason: closes the listener and the desk, and waits until the sessions are over or the
+    /// time for that is.
+    #[tactic(auto, using(crate::proofs::Came::came_quiet))]
+    fn end_for(&mut self, why: Reason)
+        ensures same { (self.new.most ≡ self.old.most) × (self.new.accepted ≡ self.old.accepted)
+            × (self.new.limits ≡ self.old.limits) × (self.new.alone ≡ self.old.alone) }
+        ensures input { is_some self.new.input ≡ is_some self.old.input }
+        ensures reason { self.new.reason ≡ Some why }
+        ensures last { self.new.has_last ≡ true → self.old.alone ≡ true }
+        ensures told { L.accepted self.new.listener.now ≡ L.accepted self.old.listener.now }
+        ensures came { Came L.steps self.old.listener.now [] self.new.listener.now }
+        ensures same_reference { self.new.listener.ghost_name ≡ self.old.listener.ghost_name }
+    {
+        let closes_idle = why.is_input_over();
+        self.reason = Some(why);
+        self.has_last = self.may_have_last();
+        self.listener.close();
+        self.desk = Desk::closed();
+        if self.server.drain(self.accepted, closes_idle) {
+            self.host.note(Notice::Cut);
+        }
+    }
+
     /// Returns whether there may be last sessions that are served alone: there was a first one, and the
     /// server went on after it.
     fn may_have_last(&self) -> bool
@@ -415,14 +438,7 @@ impl<L: Listens, I: Input + Drop, H: Host> Arrivals<SocketStream> for Accepting<
                 Some(socket)
             }
             Err(why) => {
-                let closes_idle = why.is_input_over();
-                self.reason = Some(why);
-                self.has_last = self.may_have_last();
-                self.listener.close();
-                self.desk = Desk::closed();
-                if self.server.drain(self.accepted, closes_idle) {
-                    self.host.note(Notice::Cut);
-                }
+                self.end_for(why);
                 self.accept_last(rows)
             }
         }
