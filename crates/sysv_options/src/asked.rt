@@ -642,9 +642,10 @@ fn alone_of<'a>(words: &ArgMatches<'a>, own: &str) -> Result<Option<SocketFile<'
     ensures { IsRead result (MayAskForAlone (words_in words.now)) }
 {
     match word_in(words, "alone") {
-        Some(path) if path.is_empty() || path.len() > MAX_PATH_WITH_MODE || path == own => {
+        Some(path) if path.is_empty() || path.len() > MAX_PATH_WITH_MODE => {
             Err(invalid("alone", PATH_ALONE))
         }
+        Some(path) if path == own => Err(invalid("alone", PATH_ALONE)),
         Some(path) => Ok(Some(SocketFile {
             path,
             mode: Some(MODE_ALONE),
