@@ -288,7 +288,7 @@ impl<H: Host> Acceptor<'_, '_, H> {
         let mut held = false;
         for _ in 0..u64::MAX {
             let arrived = self.wait(listener, told, descriptor(input), desk);
-            desk.go_on(arrived.reader, self.view, rows);
+            desk.go_on(arrived.reader, self.view, listener, rows);
             if arrived.input && has_ended(input) {
                 return Err(Reason::InputOver);
             }

@@ -205,6 +205,10 @@ impl<R: Files + Net + Eprint + AllocGlobal + Clone + Drop> Host for Reporter<'_,
         }
     }
 
+    fn path(&self, number: usize) -> Option<&str> {
+        Some(self.serving.socket(number)?.file.path)
+    }
+
     fn note(&self, notice: Notice) {
         if !takes_line() {
             return;
@@ -216,10 +220,7 @@ impl<R: Files + Net + Eprint + AllocGlobal + Clone + Drop> Host for Reporter<'_,
                 let _ = eprintln!(*rt; "sysvmsg: accepts again");
             }
             Notice::Lost(number, why) => {
-                let path = match self.serving.socket(number) {
-                    Some(socket) => socket.file.path,
-                    None => "",
-                };
+                let path = self.path(number).unwrap_or("");
                 let _ = eprintln!(*rt; "sysvmsg: no more clients at {path}: {why}");
             }
             Notice::NoMemory => {

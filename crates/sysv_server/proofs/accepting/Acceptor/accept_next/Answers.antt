@@ -7,14 +7,8 @@ use Rattle.sysv_server.proofs.accepting.Acceptor.accept_next.Goals as goal
 use Rattle.sysv_server.proofs.accepting.Acceptor.accept_next.Goals.{else-arrived-via-else-arrived}
 use Rattle.sysv_server.proofs.accepting.Acceptor.accept_next.Goals.{else-arrived-via-then-arrived+else-has_ended}
 
-pub returns-then-held-clause-came : goal.returns-then-held-clause-came
-returns-then-held-clause-came g c =
-    let steps = g.L.Listens.steps in
-    came_on steps c.args.listener.now c.loop.listener c.accept.new.self [] (c.in-Ok.stream ∷ []) c.loop.invariant.4
-    (came_once steps c.loop.listener c.accept.new.self c.in-Ok.stream c.in-Ok.ensures.step)
-
-pub returns-else-held-clause-came : goal.returns-else-held-clause-came
-returns-else-held-clause-came g c =
+pub returns-in-Ok-clause-came : goal.returns-in-Ok-clause-came
+returns-in-Ok-clause-came g c =
     let steps = g.L.Listens.steps in
     came_on steps c.args.listener.now c.loop.listener c.accept.new.self [] (c.in-Ok.stream ∷ []) c.loop.invariant.4
     (came_once steps c.loop.listener c.accept.new.self c.in-Ok.stream c.in-Ok.ensures.step)
