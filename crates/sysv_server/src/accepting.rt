@@ -494,7 +494,7 @@ impl<H: Host> Acceptor<'_, '_, H> {
         let mut held = false;
         for _ in 0..u64::MAX {
             let arrived = self.wait(listener, told, descriptor(input), desk);
-            desk.go_on(arrived.reader, self.view, rows);
+            desk.go_on(arrived.reader, self.view, listener, rows);
             if arrived.input && has_ended(input, goes_on) {
                 return Err(Reason::InputOver);
             }

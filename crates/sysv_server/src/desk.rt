@@ -1,6 +1,7 @@
 //! Where the state of a server is shown.
 ghost use Rattle.sysv_engine.specs.Looks.{Looks};
 
+use crate::listening::Listens;
 use crate::visitor::{View, Visitor};
 use std::os::unix::net::UnixListener;
 use std::sync::Wait;
@@ -57,7 +58,13 @@ impl Desk {
 
     /// Serves the reader, if there is one, or lets in the next one if one has come.
     #[tactic(auto, using(sysv_engine::proofs::Looking::looks_stay))]
-    pub(crate) fn go_on<R: Wait>(&mut self, has_come: bool, view: View<'_>, rows: &mut Rows<'_, R>)
+    pub(crate) fn go_on<L: Listens, R: Wait>(
+        &mut self,
+        has_come: bool,
+        view: View<'_>,
+        listener: &L,
+        rows: &mut Rows<'_, R>,
+    )
         ensures { Looks rows.old rows.new }
     {
         if self.visitor.is_none() && has_come {
@@ -66,7 +73,7 @@ impl Desk {
         let Some(visitor) = &mut self.visitor else {
             return;
         };
-        if !visitor.go_on(view, rows) {
+        if !visitor.go_on(view, listener, rows) {
             self.visitor = None;
         }
     }

@@ -7,7 +7,7 @@ ghost use Rattle.sysv_server.specs.Doors.{IsFailure, OneCame};
 
 use crate::accepting::is_passing;
 use crate::host::{Host, Notice};
-use crate::listening::Listens;
+use crate::listening::{Listens, Shown};
 use std::io;
 use std::io::ErrorKind;
 use sysv_seats::{Limits, SocketStream};
@@ -249,6 +249,13 @@ impl<L: Listens, H: Host> Listens for Doors<L, H> {
             all = socket.watch(room, listeners) && all;
         }
         all
+    }
+
+    fn show<'s>(&'s self, shown: &mut Vec<Shown<'s>>) -> Option<()> {
+        for socket in self.sockets.iter() {
+            socket.show(shown)?;
+        }
+        Some(())
     }
 
     #[tactic(auto, using(crate::proofs::Came::none_came, crate::proofs::Came::one_after))]

@@ -18,6 +18,12 @@ pub trait Host {
         Ok(None)
     }
 
+    /// Returns the path of the socket of this number, if it is known. It is shown with the state of a
+    /// server that has several sockets.
+    fn path(&self, _number: usize) -> Option<&str> {
+        None
+    }
+
     /// Learns of something that happened to the server. Like `listen`, the thread that accepts
     /// connections calls it.
     fn note(&self, notice: Notice);
@@ -31,6 +37,10 @@ impl<H: Host> Host for &H {
 
     fn listen_for_readers(&self) -> io::Result<Option<UnixListener>> {
         (**self).listen_for_readers()
+    }
+
+    fn path(&self, number: usize) -> Option<&str> {
+        (**self).path(number)
     }
 
     fn note(&self, notice: Notice) {

@@ -14,7 +14,7 @@ mod visitor;
 
 pub use doors::Doors;
 pub use host::{Host, Notice, Reason};
-pub use listening::{Hosted, Input, Listens, Reading};
+pub use listening::{Hosted, Input, Listens, Reading, Shown};
 pub use serving::{MAX_CLIENTS, serve_from, serve_listener, serve_on};
 pub use sysv_engine::{Ended, Fates, Patience, ServeFault, Sums};
 pub use sysv_seats::Callers;

@@ -13,6 +13,15 @@ use std::os::unix::net::UnixListener;
 use sysv_seats::{Attendance, Callers, Limits, SocketStream};
 use sysv_system::{Several, Watched};
 
+/// What the state of a server shows of one of several sockets.
+#[derive(Clone, Copy, PartialEq, Eq, Debug)]
+pub struct Shown<'s> {
+    /// The path of the socket.
+    pub path: &'s str,
+    /// The number of its connections that are open.
+    pub clients: u64,
+}
+
 /// A socket that connections are accepted from.
 pub trait Listens {
     /// The connections that were accepted so far, in order, if it tells them.
@@ -65,6 +74,12 @@ pub trait Listens {
     /// so many more. Returns whether no client is kept out: one of several sockets takes no more clients
     /// than it leaves room for.
     fn watch(&self, room: u64, listeners: &mut Several) -> bool;
+
+    /// Adds what is shown of it, if it is one of several sockets and its path is known. Returns `None` if
+    /// memory is refused.
+    fn show<'s>(&'s self, _shown: &mut Vec<Shown<'s>>) -> Option<()> {
+        Some(())
+    }
 
     /// Accepts the next connection while there is `room` for so many more, whose client may be cut off
     /// under these limits.
@@ -233,6 +248,14 @@ impl<H: Host> Listens for Hosted<H> {
             _ => Watched::NONE,
         });
         takes_one || self.listener.is_none()
+    }
+
+    fn show<'s>(&'s self, shown: &mut Vec<Shown<'s>>) -> Option<()> {
+        if let (Some(attendance), Some(path)) = (&self.attendance, self.host.path(self.number)) {
+            let clients = attendance.count();
+            shown.push(Shown { path, clients }).ok()?;
+        }
+        Some(())
     }
 
     fn accept(&mut self, _room: u64, limits: Limits) -> io::Result<SocketStream> {

@@ -4,6 +4,7 @@ ghost use Rattle.sysv_engine.specs.Looks.{Looks};
 ghost use Rattle.sysv_server.specs.Report.{AreNumbers, free_blocks, numbers_of};
 
 use crate::VERSION;
+use crate::listening::Shown;
 use itoa::{Buffer, Integer};
 use std::alloc::Global;
 use std::sync::Wait;
@@ -148,6 +149,17 @@ const BUILD: Metric = (
     "The version of the server, as a label.",
 );
 
+/// The number of each of several sockets.
+const OF_SOCKET: Metric = (
+    "clients",
+    "sysvmsg_socket_clients",
+    Kind::Gauge,
+    "Connections that are open at the socket.",
+);
+
+/// The character codes below this one are those of control characters.
+const SPACE: u8 = b' ';
+
 /// The numbers of a queue, in the order of `Slot::of_queue`.
 const OF_QUEUE: [Metric; 4] = [
     (
@@ -279,20 +291,21 @@ impl State {
         })
     }
 
-    /// Returns the state as text. Returns `None` if memory is refused.
-    pub(crate) fn text(&self, alloc: Global, form: Form) -> Option<Vec<u8>> {
+    /// Returns the state as text, with what is shown of each of several sockets. Returns `None` if
+    /// memory is refused.
+    pub(crate) fn text(&self, alloc: Global, form: Form, sockets: &[Shown<'_>]) -> Option<Vec<u8>> {
         let mut text = Text {
             bytes: Vec::new(alloc),
         };
         match form {
-            Form::Metrics => self.metrics(&mut text)?,
-            Form::Json => self.json(&mut text)?,
+            Form::Metrics => self.metrics(&mut text, sockets)?,
+            Form::Json => self.json(&mut text, sockets)?,
         }
         Some(text.bytes)
     }
 
     /// Appends the state in the text format of Prometheus.
-    fn metrics(&self, text: &mut Text) -> Option<()> {
+    fn metrics(&self, text: &mut Text, sockets: &[Shown<'_>]) -> Option<()> {
         text.head(&BUILD)?;
         text.put(BUILD.1)?;
         text.put("{version=\"")?;
@@ -305,6 +318,7 @@ impl State {
             text.digits(number)?;
             text.put("\n")?;
         }
+        text.metric_of_sockets(sockets)?;
         for (at, metric) in OF_QUEUE.iter().enumerate() {
             self.metric_of_queues(text, metric, at)?;
         }
@@ -359,11 +373,12 @@ impl State {
     }
 
     /// Appends the state as a JSON object and an LF.
-    fn json(&self, text: &mut Text) -> Option<()> {
+    fn json(&self, text: &mut Text, sockets: &[Shown<'_>]) -> Option<()> {
         text.put("{\"version\":\"")?;
         text.put(VERSION)?;
         text.put("\",")?;
         text.members(&OF_SERVER, &self.numbers)?;
+        text.json_of_sockets(sockets)?;
         text.put(",\"queues\":[")?;
         self.json_of_queues(text)?;
         text.put("],\"slots\":[")?;
@@ -494,10 +509,69 @@ impl Text {
     fn key(&mut self, key: i32) -> Option<()> {
         self.put("0x")?;
         for byte in key.to_be_bytes() {
-            let digits = [hex_digit(byte / 16), hex_digit(byte % 16)];
-            self.bytes.extend_from_slice(&digits).ok()?;
+            self.hex(byte)?;
         }
         Some(())
+    }
+
+    /// Appends a byte as two hexadecimal digits.
+    fn hex(&mut self, byte: u8) -> Option<()> {
+        let digits = [hex_digit(byte / 16), hex_digit(byte % 16)];
+        self.bytes.extend_from_slice(&digits).ok()
+    }
+
+    /// Appends a piece as it is between quotation marks in this form. Only JSON escapes control characters
+    /// other than LF.
+    fn quoted(&mut self, piece: &str, form: Form) -> Option<()> {
+        for byte in piece.as_bytes() {
+            match *byte {
+                b'"' => self.put("\\\"")?,
+                b'\\' => self.put("\\\\")?,
+                b'\n' => self.put("\\n")?,
+                code if code < SPACE && form == Form::Json => {
+                    self.put("\\u00")?;
+                    self.hex(code)?;
+                }
+                other => self.bytes.push(other).ok()?,
+            }
+        }
+        Some(())
+    }
+
+    /// Appends the number of each socket in the text format of Prometheus.
+    fn metric_of_sockets(&mut self, sockets: &[Shown<'_>]) -> Option<()> {
+        if !sockets.is_empty() {
+            self.head(&OF_SOCKET)?;
+        }
+        for socket in sockets {
+            self.put(OF_SOCKET.1)?;
+            self.put("{path=\"")?;
+            self.quoted(socket.path, Form::Metrics)?;
+            self.put("\"} ")?;
+            self.digits(socket.clients)?;
+            self.put("\n")?;
+        }
+        Some(())
+    }
+
+    /// Appends the sockets as a member of a JSON object that has members before it, unless there are none.
+    fn json_of_sockets(&mut self, sockets: &[Shown<'_>]) -> Option<()> {
+        if sockets.is_empty() {
+            return Some(());
+        }
+        self.put(",\"sockets\":[")?;
+        for (at, socket) in sockets.iter().enumerate() {
+            self.put(if at == 0 {
+                "{\"path\":\""
+            } else {
+                ",{\"path\":\""
+            })?;
+            self.quoted(socket.path, Form::Json)?;
+            self.put("\",")?;
+            self.members(&[OF_SOCKET], &[socket.clients])?;
+            self.put("}")?;
+        }
+        self.put("]")
     }
 
     /// Appends the lines before the samples of a number.

@@ -1,6 +1,7 @@
 //! A reader of the state of a server.
 ghost use Rattle.sysv_engine.specs.Looks.{Looks};
 
+use crate::listening::Listens;
 use crate::report::{Admission, Form, State};
 use std::alloc::Global;
 use std::io;
@@ -69,8 +70,14 @@ pub(crate) struct View<'v> {
 }
 
 impl View<'_> {
-    /// Returns the state of the server as text. Returns `None` if memory is refused.
-    fn text<R: Wait>(self, rows: &mut Rows<'_, R>, form: Form) -> Option<Vec<u8>>
+    /// Returns the state of the server as text, of which this is the listener. Returns `None` if memory
+    /// is refused.
+    fn text<L: Listens, R: Wait>(
+        self,
+        listener: &L,
+        rows: &mut Rows<'_, R>,
+        form: Form,
+    ) -> Option<Vec<u8>>
         ensures { Looks rows.old rows.new }
     {
         let View {
@@ -88,7 +95,9 @@ impl View<'_> {
             started,
         };
         let state = State::read(alloc, server, rows, &admission)?;
-        state.text(alloc, form)
+        let mut sockets = Vec::new(alloc);
+        listener.show(&mut sockets)?;
+        state.text(alloc, form, &sockets)
     }
 }
 
@@ -164,10 +173,15 @@ impl Visitor {
 
     /// Reads what it asks, and writes the answer, as far as that can be done now. Returns whether
     /// it is still there.
-    pub(crate) fn go_on<R: Wait>(&mut self, view: View<'_>, rows: &mut Rows<'_, R>) -> bool
+    pub(crate) fn go_on<L: Listens, R: Wait>(
+        &mut self,
+        view: View<'_>,
+        listener: &L,
+        rows: &mut Rows<'_, R>,
+    ) -> bool
         ensures { Looks rows.old rows.new }
     {
-        if !self.take_up(view, rows) {
+        if !self.take_up(view, listener, rows) {
             return true;
         }
         self.tell() && self.left() > 0
@@ -175,7 +189,12 @@ impl Visitor {
 
     /// Reads what it asks, and prepares the answer once it has asked. Returns whether it has.
     #[tactic(auto, using(sysv_engine::proofs::Looking::looks_stay))]
-    fn take_up<R: Wait>(&mut self, view: View<'_>, rows: &mut Rows<'_, R>) -> bool
+    fn take_up<L: Listens, R: Wait>(
+        &mut self,
+        view: View<'_>,
+        listener: &L,
+        rows: &mut Rows<'_, R>,
+    ) -> bool
         ensures { Looks rows.old rows.new }
     {
         if self.answer.is_some() {
@@ -185,7 +204,7 @@ impl Visitor {
         if !self.has_asked() {
             return false;
         }
-        self.answer = self.wanted().answer(view, rows);
+        self.answer = self.wanted().answer(view, listener, rows);
         self.due = Moment::now().plus_millis(TELL_MILLIS);
         true
     }
@@ -272,27 +291,33 @@ impl Wanted {
 
     /// Returns the answer. Returns `None` if memory is refused.
     #[tactic(auto, using(sysv_engine::proofs::Looking::looks_stay))]
-    fn answer<R: Wait>(self, view: View<'_>, rows: &mut Rows<'_, R>) -> Option<Vec<u8>>
+    fn answer<L: Listens, R: Wait>(
+        self,
+        view: View<'_>,
+        listener: &L,
+        rows: &mut Rows<'_, R>,
+    ) -> Option<Vec<u8>>
         ensures { Looks rows.old rows.new }
     {
         match self {
-            Wanted::Plain(form) => view.text(rows, form),
-            Wanted::Http { found, has_body } => found.answer(view, rows, has_body),
+            Wanted::Plain(form) => view.text(listener, rows, form),
+            Wanted::Http { found, has_body } => found.answer(view, listener, rows, has_body),
         }
     }
 }
 
 impl Found {
     /// Returns the answer of HTTP, with its body or without it. Returns `None` if memory is refused.
-    fn answer<R: Wait>(
+    fn answer<L: Listens, R: Wait>(
         self,
         view: View<'_>,
+        listener: &L,
         rows: &mut Rows<'_, R>,
         has_body: bool,
     ) -> Option<Vec<u8>>
         ensures { Looks rows.old rows.new }
     {
-        let text = self.text(view, rows)?;
+        let text = self.text(view, listener, rows)?;
         let head = format!(in view.alloc;
             "HTTP/1.0 {}\r\nContent-Type: {}\r\nContent-Length: {}\r\n{}Connection: close\r\n\r\n",
             self.status(),
@@ -311,11 +336,16 @@ impl Found {
 
     /// Returns the body of the answer. Returns `None` if memory is refused.
     #[tactic(auto, using(sysv_engine::proofs::Looking::looks_stay))]
-    fn text<R: Wait>(self, view: View<'_>, rows: &mut Rows<'_, R>) -> Option<Vec<u8>>
+    fn text<L: Listens, R: Wait>(
+        self,
+        view: View<'_>,
+        listener: &L,
+        rows: &mut Rows<'_, R>,
+    ) -> Option<Vec<u8>>
         ensures { Looks rows.old rows.new }
     {
         match self {
-            Found::Report(form) => view.text(rows, form),
+            Found::Report(form) => view.text(listener, rows, form),
             Found::Nothing | Found::NoMethod => Some(Vec::new(view.alloc)),
         }
     }

@@ -218,6 +218,13 @@ impl<R: Files + Net + Eprint + AllocGlobal + Clone + Drop> Host for Reporter<'_,
         }
     }
 
+    fn path(&self, number: usize) -> Option<&str> {
+        match self.serving.socket(number) {
+            Some(socket) => Some(socket.file.path),
+            None => Some(self.serving.alone?.path),
+        }
+    }
+
     fn note(&self, notice: Notice) {
         if !takes_line() {
             return;
@@ -229,10 +236,7 @@ impl<R: Files + Net + Eprint + AllocGlobal + Clone + Drop> Host for Reporter<'_,
                 let _ = eprintln!(*rt; "sysvmsg: accepts again");
             }
             Notice::Lost(number, why) => {
-                let path = match self.serving.socket(number) {
-                    Some(socket) => socket.file.path,
-                    None => "",
-                };
+                let path = self.path(number).unwrap_or("");
                 let _ = eprintln!(*rt; "sysvmsg: no more clients at {path}: {why}");
             }
             Notice::NoMemory => {
