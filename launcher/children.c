@@ -2,6 +2,7 @@
 #include "children.h"
 
 #include <errno.h>
+#include <fcntl.h>
 #include <limits.h>
 #include <stdio.h>
 #include <stdlib.h>
@@ -28,8 +29,9 @@ static _Noreturn void give_up(const char *name)
     _exit(error == ENOENT ? NOT_FOUND : NOT_EXECUTABLE);
 }
 
-/* The server ends by its input or is killed. A signal that reaches both processes, such as that of
- * Ctrl-C, has no effect on it. SIGHUP is ignored here already. */
+/* The server ends by its input or is killed, and what loads or saves ends by itself. A signal that
+ * reaches both processes, such as that of Ctrl-C, has no effect on it. SIGHUP is ignored here
+ * already. */
 static void ignore_ends(void)
 {
     static const int ends[] = {SIGTERM, SIGINT, SIGQUIT};
@@ -72,6 +74,23 @@ pid_t start_server(char **words, const struct streams *streams, const struct sig
         dup2(streams->output, STDOUT_FILENO);
     dup2(streams->errors, STDERR_FILENO);
     raise_descriptor_limit();
+    ignore_ends();
+    sigaction(SIGPIPE, &before->broken_pipe, NULL);
+    sigprocmask(SIG_SETMASK, &before->mask, NULL);
+    execute_server_program(words);
+    give_up(words[0]);
+}
+
+pid_t start_tool(char **words, const struct tool *tool, const struct signals *before)
+{
+    pid_t child = fork_bound(SIGKILL);
+    if (child != 0)
+        return child;
+    int none = open("/dev/null", O_RDWR | O_CLOEXEC);
+    dup2(tool->input >= 0 ? tool->input : none, STDIN_FILENO);
+    dup2(tool->output >= 0 ? tool->output : none, STDOUT_FILENO);
+    if (tool->errors >= 0)
+        dup2(tool->errors, STDERR_FILENO);
     ignore_ends();
     sigaction(SIGPIPE, &before->broken_pipe, NULL);
     sigprocmask(SIG_SETMASK, &before->mask, NULL);

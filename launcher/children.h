@@ -1,5 +1,5 @@
-/* The two processes that are started: the server and, with --with, a command. Each gets a signal if
- * this process ends first, even if that is killed. */
+/* The processes that are started: the server, with --with a command, and with --state what loads
+ * and saves. Each gets a signal if this process ends first, even if that is killed. */
 #ifndef CHILDREN_H
 #define CHILDREN_H
 
@@ -22,9 +22,17 @@ struct streams {
     int errors;
 };
 
+/* The descriptors of a tool that runs beside the server. */
+struct tool {
+    int input;  /* -1: none */
+    int output; /* -1: none */
+    int errors; /* -1: that of this process */
+};
+
 /* Start a process: its words, from its name on, end with a null pointer. Each returns the process,
  * or -1 with errno set. */
 pid_t start_server(char **words, const struct streams *streams, const struct signals *before);
+pid_t start_tool(char **words, const struct tool *tool, const struct signals *before);
 pid_t start_command(char **words, const struct signals *before);
 
 /* Executes the server's program, of the name that words[0] is: the one beside this program, or else

@@ -27,6 +27,9 @@ static const char help[] =
     "can be process 1 of a container. The limit of open files of the server is the\n"
     "hard limit, so it serves more clients at once.\n"
     "\n"
+    "With --state FILE the queues are loaded from FILE before the server serves anyone,\n"
+    "and saved to it when it is shut down: a restart loses no message.\n"
+    "\n"
     "With --with it runs COMMAND once the server accepts connections, with SYSVMSG_PATH\n"
     "set to the absolute path, and shuts the server down after it. The exit status is\n"
     "that of COMMAND.\n"
@@ -94,7 +97,8 @@ static struct request read_words(char **words)
         refuse("the path comes first, and does not begin with -");
     char why[WHY_BYTES];
     if (!options_are_valid(request.options, why)
-        || !users_take(&request.options, &request.users, why))
+        || !users_take(&request.options, &request.users, why)
+        || !state_take(&request.options, &request.state, why))
         refuse(why);
     return request;
 }

@@ -26,6 +26,7 @@ static const struct option options[] = {
     {"--no-main", NULL, NULL, 0, 0, 0},
     {"--users", "GROUP|LIST", NULL, 0, 0, 0},
     {"--run", "DIR", NULL, 0, 0, 0},
+    {"--state", "FILE", NULL, 0, 0, 0},
     {"--blocks", "B", "a number", 10, 128, 65536},
     {"--workers", "W", "a number", 10, 1, 16},
     {"--at-once", "N", "a number", 10, 1, 16384},

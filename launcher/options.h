@@ -1,6 +1,6 @@
-/* The options of the server, and --users and --run of this program. They are checked before it is
- * started, so that a refusal shows the usage of this program and not that of the server, which has
- * options that nobody gave. */
+/* The options of the server, and --users, --run and --state of this program. They are checked
+ * before it is started, so that a refusal shows the usage of this program and not that of the
+ * server, which has options that nobody gave. */
 #ifndef OPTIONS_H
 #define OPTIONS_H
 

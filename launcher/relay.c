@@ -56,6 +56,12 @@ static bool begins_with(const struct relay *relay, const char *words)
     return relay->length >= length && memcmp(relay->bytes, words, length) == 0;
 }
 
+static bool ends_with(const struct relay *relay, const char *words)
+{
+    size_t length = strlen(words), front = front_length(relay);
+    return front >= length && memcmp(relay->bytes + front - length, words, length) == 0;
+}
+
 enum line relay_front(const struct relay *relay)
 {
     if (relay->chosen > 0 || front_length(relay) == 0)
@@ -63,7 +69,7 @@ enum line relay_front(const struct relay *relay)
     if (relay->is_in_line)
         return OTHER_LINE;
     if (begins_with(relay, "sysvmsg: serving "))
-        return SERVING_LINE;
+        return ends_with(relay, " alone\n") ? ALONE_LINE : SERVING_LINE;
     return begins_with(relay, "sessions ") ? SUMS_LINE : OTHER_LINE;
 }
 

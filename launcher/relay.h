@@ -16,7 +16,7 @@ struct relay {
     bool is_in_line; /* a part of the line at the front has left already */
 };
 
-enum line { NO_LINE, SERVING_LINE, SUMS_LINE, OTHER_LINE };
+enum line { NO_LINE, SERVING_LINE, ALONE_LINE, SUMS_LINE, OTHER_LINE };
 
 /* Whether all that was read has been written or dropped, and no more is to come. */
 bool relay_is_over(const struct relay *relay);

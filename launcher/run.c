@@ -38,6 +38,7 @@ struct made {
 
 struct run {
     const struct request *request;
+    struct state *state;
     struct signals before;
     int signals;
     pid_t parent;          /* 0: it is outside this process's namespace */
@@ -78,6 +79,7 @@ static void kill_server(struct run *run)
     run->is_killed = true;
     if (run->server > 0)
         kill(run->server, SIGKILL);
+    state_kill(run->state);
 }
 
 /* Has the server shut down gracefully. */
@@ -89,6 +91,7 @@ static void end_server(struct run *run)
     close(run->input);
     run->input = -1;
     run->ends_since = milliseconds();
+    state_stop(run->state);
 }
 
 /* Shuts the server down, or ends it at once if that has begun. Some programs send one signal twice:
@@ -116,7 +119,8 @@ static void take_end(struct run *run, const struct signalfd_siginfo *signal)
 }
 
 /* A thread of the parent has ended. If it was the last one, all ends at once. A server that does
- * not serve yet is shut down, because only its line reports which socket file it made. */
+ * not serve yet is shut down, because only its line reports which socket file it made, and so is
+ * one whose queues are to be saved. */
 static void take_parent_end(struct run *run)
 {
     if (run->parent == 0 || getppid() == run->parent)
@@ -125,7 +129,7 @@ static void take_parent_end(struct run *run)
         kill(run->command, SIGTERM);
     run->command = 0;
     run->stopped_by = SIGTERM;
-    if (run->socket.file < 0)
+    if (run->socket.file < 0 || run->state->file)
         end_server(run);
     else
         kill_server(run);
@@ -135,6 +139,7 @@ static void note_server_end(struct run *run, int status)
 {
     run->server = 0;
     run->server_status = status;
+    run->state->is_over = true;
     if (run->is_killed || (WIFEXITED(status) && WEXITSTATUS(status) == 0))
         return;
     if (WIFSIGNALED(status))
@@ -145,13 +150,25 @@ static void note_server_end(struct run *run, int status)
         kill(run->command, SIGTERM);
 }
 
+/* With --state: the server goes on once all is loaded, and ends if that has failed. */
+static void take_outcome(struct run *run, enum outcome outcome)
+{
+    if (outcome == STATE_FAILS)
+        end_server(run);
+    else if (outcome == STATE_GOES && run->input >= 0 && write(run->input, "\n", 1) != 1)
+        dprintf(STDERR_FILENO, "sysvmsg-serve: write: %s\n", strerror(errno));
+}
+
 /* Takes the status of each child that has ended. Process 1 has children that it did not start. */
 static void reap(struct run *run)
 {
     int status;
     pid_t child;
     while ((child = waitpid(-1, &status, WNOHANG)) > 0) {
-        if (child == run->server) {
+        enum outcome outcome = state_reap(run->state, child, status);
+        if (outcome != STATE_NOT_MINE) {
+            take_outcome(run, outcome);
+        } else if (child == run->server) {
             note_server_end(run, status);
         } else if (child == run->command) {
             run->command = 0;
@@ -209,7 +226,7 @@ static void take_lines(struct run *run)
     while ((line = relay_front(&run->relay)) != NO_LINE) {
         if (line == SERVING_LINE && !run->is_serving)
             take_serving(run);
-        if (run->request->command && line != OTHER_LINE)
+        if (line == ALONE_LINE || (run->request->command && line != OTHER_LINE))
             relay_drop(&run->relay);
         else
             relay_choose(&run->relay);
@@ -219,15 +236,19 @@ static void take_lines(struct run *run)
 /* Waits for something to happen, and takes it. What the server said before it ended comes first. */
 static void step(struct run *run)
 {
-    bool has_ended = run->server <= 0 && run->command <= 0;
+    bool has_ended = run->server <= 0 && run->command <= 0 && run->state->child <= 0;
     struct pollfd events[] = {
         {.fd = relay_input(&run->relay), .events = POLLIN},
         {.fd = relay_output(&run->relay), .events = POLLOUT},
         {.fd = run->signals, .events = POLLIN},
+        {.fd = state_news(run->state), .events = POLLIN},
     };
-    int ready = poll(events, sizeof events / sizeof *events, has_ended ? LAST_LINES_MS : -1);
-    if (ready == 0 || (has_ended && run->is_killed))
+    int limit = has_ended ? LAST_LINES_MS : state_limit(run->state);
+    int ready = poll(events, sizeof events / sizeof *events, limit);
+    if (has_ended && (ready == 0 || run->is_killed))
         relay_end(&run->relay);
+    if (ready == 0 || events[3].revents)
+        take_outcome(run, state_step(run->state, &run->before));
     if (ready <= 0)
         return;
     if (events[0].revents)
@@ -398,8 +419,8 @@ static void export_path(const char *path)
     free(absolute);
 }
 
-/* The status to exit with. */
-static int ended(const struct run *run)
+/* The status to exit with, but for what --state has to say. */
+static int status_of(const struct run *run)
 {
     if (run->status >= 0)
         return run->status;
@@ -410,13 +431,23 @@ static int ended(const struct run *run)
     return run->request->command && status != NOT_UNDERSTOOD ? NOT_STARTED : status;
 }
 
-/* Makes the directories of the users. */
-static void begin_users(struct request *request)
+/* The status to exit with. */
+static int ended(const struct run *run)
+{
+    int status = status_of(run);
+    if (status != 0 || !run->state->has_failed)
+        return status;
+    return run->request->command ? NOT_STARTED : 1;
+}
+
+/* Makes the directories of the users, and takes the file of the state. */
+static void begin_files(struct request *request)
 {
     char why[WHY_BYTES];
-    if (users_make(&request->users, why))
+    if (state_begin(&request->state, why) && users_make(&request->users, why))
         return;
     users_remove(&request->users);
+    state_end(&request->state);
     fprintf(stderr, "sysvmsg-serve: %s\n", why);
     exit(request->command ? NOT_STARTED : 1);
 }
@@ -425,6 +456,7 @@ int run(struct request *request)
 {
     struct run state = {
         .request = request,
+        .state = &request->state,
         .input = -1,
         .socket = {request->path, -1},
         .stats = {value_of(request->options, "--stats"), -1},
@@ -439,10 +471,12 @@ int run(struct request *request)
     } else {
         notify_begin();
     }
-    begin_users(request);
+    begin_files(request);
     begin_server(&state);
-    while (state.server > 0 || state.command > 0 || !relay_is_over(&state.relay))
+    while (state.server > 0 || state.command > 0 || request->state.child > 0
+           || !relay_is_over(&state.relay))
         step(&state);
+    state_end(&request->state);
     remove_made(&state.socket);
     remove_made(&state.stats);
     for (size_t i = 0; i < MOST_OTHERS; i++)

@@ -2,6 +2,7 @@
 #ifndef RUN_H
 #define RUN_H
 
+#include "state.h"
 #include "users.h"
 
 /* What the command line requests. */
@@ -9,6 +10,7 @@ struct request {
     const char *path;
     char **options; /* of the server */
     struct users users;
+    struct state state;
     char **command; /* null: none */
 };
 

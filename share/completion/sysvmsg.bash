@@ -14,7 +14,7 @@ _sysvmsg_words() {
     load) echo "--from --into --adopt --nowait --wait --me --uid --gid --pid --help --version" ;;
     stats) echo "--json --wait --stderr --help --version" ;;
     script) echo "--help --version" ;;
-    serve) echo "$_sysvmsg_server --until-eof --help --version" ;;
+    serve) echo "$_sysvmsg_server --until-eof --alone --help --version" ;;
     ipcs) echo "-i --json --wait $credentials --help --version" ;;
     ipcmk) echo "--mode --qbytes --wait $credentials --help --version" ;;
     ipcrm) echo "-q -Q --all --wait $credentials --help --version" ;;
@@ -63,7 +63,7 @@ _sysvmsg_serve() {
     elif [[ $word == -* ]]; then
         case $COMP_CWORD in
         1) mapfile -t COMPREPLY < <(compgen -W "--with --help --version" -- "$word") ;;
-        *) mapfile -t COMPREPLY < <(compgen -W "$_sysvmsg_server --users --run" -- "$word") ;;
+        *) mapfile -t COMPREPLY < <(compgen -W "$_sysvmsg_server --users --run --state" -- "$word") ;;
         esac
     fi
 }

@@ -72,7 +72,9 @@ set -l launcher -c sysvmsg-serve -n 'not __sysvmsg_has_words 1; and not __sysvms
 __sysvmsg_complete_server $launcher
 complete $launcher -l users -x -a '(__fish_complete_groups)' -d 'Create a socket for each of these users'
 complete $launcher -l run -r -d 'The directory for the sockets of users'
+complete $launcher -l state -r -d 'Load the queues from this file, and save them to it'
 complete -c sysvmsg -n '__sysvmsg_is serve' -l until-eof -d 'End once standard input has ended'
+complete -c sysvmsg -n '__sysvmsg_is serve' -l alone -r -d 'A socket for one session before all others, and one after'
 
 set -l snd -c sysvmsg -n '__sysvmsg_is snd'
 complete $snd -l stdin -d 'Send the bytes of standard input'

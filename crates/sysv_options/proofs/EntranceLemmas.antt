@@ -11,12 +11,13 @@ use Rattle.std.specs.Str.Parse.{AllDigits}
 use Rattle.std.specs.Str.Pattern.{RFindsChar, SplitsAroundMatch}
 use Rattle.clap.specs.Words.{Row}
 use Rattle.sysv_words.specs.OneSplit.{OneSplit}
-use Rattle.sysv_words.specs.Words.{SplitsAt}
+use Rattle.sysv_words.specs.Words.{IsNat64, SplitsAt}
+use Rattle.sysv_words.proofs.OneValue.{each_word}
 use Rattle.sysv_options.specs.declared.sockets.Entrance.{Entrance}
 use Rattle.sysv_options.specs.declared.sockets.Entrances.{Entrances}
 use Rattle.sysv_options.specs.Servers.{AreBoth, AreEntrances, AreIds, AreOthers, IsEntrance, SplitsAtLast}
 use Rattle.sysv_options.specs.Sockets.{listed}
-use Rattle.sysv_options.specs.Words.{IsExactly, IsUnsigned}
+use Rattle.sysv_options.specs.Words.{HasOr, IsExactly, IsUnsigned}
 
 -- ---- what a text has
 
@@ -139,6 +140,12 @@ same_flag found true true first second = refl
 same_flag found true false first second = absurd (second.1 refl (first.0 refl))
 same_flag found false true first second = absurd (first.1 refl (second.0 refl))
 same_flag found false false first second = refl
+
+-- A number of sessions is determined by its word.
+pub same_sessions : (found : Option (List ℕ)) (one other : ℕ) → HasOr IsNat64 0 found one →
+    HasOr IsNat64 0 found other → one ≡ other
+same_sessions (Some word) one other first second = each_word.nat64.once word one other first second
+same_sessions None one other first second = first ∙ sym second
 
 -- ---- a socket
 

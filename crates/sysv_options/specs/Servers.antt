@@ -15,10 +15,10 @@ use Rattle.sysv_options.specs.declared.sockets.Entrances.{Entrances}
 use Rattle.sysv_options.specs.declared.sockets.SocketFile.{SocketFile}
 use Rattle.sysv_options.specs.declared.sockets.TheConstants.{MAX_OTHERS}
 use Rattle.sysv_options.specs.Sockets.{listed}
-use Rattle.sysv_options.specs.declared.asked.TheConstants.{WORKERS, MAX_PATH, MAX_PATH_WITH_MODE}
+use Rattle.sysv_options.specs.declared.asked.TheConstants.{WORKERS, MAX_PATH, MAX_PATH_WITH_MODE, MODE_ALONE}
 use Rattle.sysv_server.specs.declared.serving.TheConstants.{MAX_CLIENTS}
 use Rattle.sysv_options.specs.Asked.{AreAtOnce, AreBlocks, AreWorkers}
-use Rattle.sysv_options.specs.Words.{HasFlag, HasMaybe, HasOr, IsExactly, IsMode, IsTime, IsUnsigned, word_of}
+use Rattle.sysv_options.specs.Words.{HasFlag, HasMaybe, HasOr, IsExactly, IsMode, IsOn, IsTime, IsUnsigned, word_of}
 
 -- A command with these words asks for this number of blocks.
 abbrev pub AsksForBlocks : List Row → ℕ → Type 0
@@ -54,6 +54,7 @@ pub record AsksForTerms (words : List Row) (terms : Terms) : Type 0 where
   pub drain : HasOr IsNat32 0 (word_of words (codes "drain")) terms.drain
   pub stats : terms.stats ≡ is_some (word_of words (codes "stats"))
   pub hold : HasFlag words (codes "hold") terms.hold
+  pub alone : terms.alone ≡ is_some (word_of words (codes "alone"))
 
 -- A command with these words has this path.
 abbrev pub HasPath : List Row → List ℕ → Type 0
@@ -85,6 +86,15 @@ MayAskForStats words (Some file) =
     × (length file.path.now ≤ MAX_PATH) × (word_of words (codes "path") ≢ Some file.path.now)
     × AsksForFileAt words file.path.now file
 MayAskForStats words None = word_of words (codes "stats") ≡ None
+
+-- A `serve` with these words serves sessions alone at this socket file, which is not at its own path and which only its
+-- user may use, or serves none alone.
+abbrev pub MayAskForAlone : List Row → Option SocketFile → Type 0
+MayAskForAlone words (Some file) =
+    (word_of words (codes "alone") ≡ Some file.path.now) × (1 ≤ length file.path.now)
+    × (length file.path.now ≤ MAX_PATH_WITH_MODE) × (word_of words (codes "path") ≢ Some file.path.now)
+    × (file.mode ≡ Some MODE_ALONE) × (file.replace ≡ true)
+MayAskForAlone words None = word_of words (codes "alone") ≡ None
 
 -- A `stats` with these words shows this.
 pub record AsksToLook (words : List Row) (looking : Looking) : Type 0 where
@@ -159,17 +169,23 @@ pub record AreOthers (words : List Row) (given : List (List ℕ)) (others : Entr
 abbrev pub AsksForOthers : List Row → Entrances → Type 0
 AsksForOthers words others = AreOthers words (unwrap_or (all_of (codes "as") words) []) others
 
--- A server with this number of other sockets has so many sockets. If it has not its first one, it has another.
-abbrev pub CountsSockets : (no_main : Bool) (others sockets : ℕ) → Type 0
-CountsSockets true others sockets = (1 ≤ others) × (sockets ≡ others)
-CountsSockets false others sockets = sockets ≡ others + 1
+-- A server with this number of other sockets has so many sockets. If it has not its first one, it has another. It may
+-- have one more, at which sessions are served alone.
+abbrev pub CountsSockets : (no_main alone : Bool) (others sockets : ℕ) → Type 0
+CountsSockets true false others sockets = (1 ≤ others) × (sockets ≡ others)
+CountsSockets true true others sockets = (1 ≤ others) × (sockets ≡ others + 1)
+CountsSockets false false others sockets = sockets ≡ others + 1
+CountsSockets false true others sockets = sockets ≡ others + 2
 
 -- A `serve` with these words is this one.
 pub record AsksToServe (words : List Row) (serving : Serving) : Type 0 where
   pub file : AsksForFile words serving.file
   pub others : AsksForOthers words serving.others
   pub no_main : IsExactly (word_of words (codes "no-main")) serving.no_main
-  pub sockets : CountsSockets serving.no_main serving.others.count serving.terms.sockets
+  pub sockets : CountsSockets serving.no_main serving.terms.alone serving.others.count serving.terms.sockets
   pub stats : MayAskForStats words serving.stats
+  -- Sessions that are served alone end by the input, and their number is not limited.
+  pub alone : MayAskForAlone words serving.alone
+  pub lone : serving.terms.alone ≡ true → IsOn (word_of words (codes "until-eof")) × (serving.terms.sessions ≡ 0)
   pub terms : AsksForTerms words serving.terms
   pub until_eof : HasFlag words (codes "until-eof") serving.until_eof

@@ -6,7 +6,7 @@ ghost use Rattle.clap.specs.Words.{app_of, subcommand_rows_of};
 ghost use Rattle.clap.specs.declared.error.kind.ErrorKind.TheVariants.{InvalidValue, OutOfMemory};
 ghost use Rattle.sysv_options.specs.Asked.{AreAtOnce, AreBlocks, AreTerms, AreWorkers, HasLimits, IsWithinLimits};
 ghost use Rattle.sysv_options.specs.Requests.{AreRefused, AsksFor, ClientAsks, IsAskedBy, IsMeant, IsRefused};
-ghost use Rattle.sysv_options.specs.Servers.{AsksForAtOnce, AsksForBlocks, AsksForFile, AsksForFileAt, AsksForOthers, AsksForTerms, AsksForWorkers, AsksToLoad, AsksToLook, AsksToSave, AsksToServe, AreBoth, AreIds, AreOthers, CountsSockets, HasPath, IsEntrance, IsLineNumber, MayAskForStats, SplitsAtLast};
+ghost use Rattle.sysv_options.specs.Servers.{AsksForAtOnce, AsksForBlocks, AsksForFile, AsksForFileAt, AsksForOthers, AsksForTerms, AsksForWorkers, AsksToLoad, AsksToLook, AsksToSave, AsksToServe, AreBoth, AreIds, AreOthers, CountsSockets, HasPath, IsEntrance, IsLineNumber, MayAskForAlone, MayAskForStats, SplitsAtLast};
 ghost use Rattle.sysv_options.specs.Sockets.{sockets_of};
 ghost use Rattle.sysv_options.specs.Tasks.{AsksToList, AsksToMake, AsksToReceive, AsksToRemove, AsksToSend, HasTask, HasHow, NamesTarget, IsAhead, Receives, ShowsIn, StatesWho, is_json};
 ghost use Rattle.sysv_options.specs.Words.{ArePartsOf, AreSeconds, Has, HasFlag, HasMaybe, HasOr, IsMode, IsOctalMode, IsOn, IsRead, IsThousandths, IsTime, IsUnsigned, WantsType, word_of, words_in};
@@ -67,6 +67,8 @@ pub struct Serving<'a> {
     pub no_main: bool,
     /// The file of the socket on which its state is shown, if it is to be shown.
     pub stats: Option<SocketFile<'a>>,
+    /// The file of the socket for sessions that are served alone, if there are any.
+    pub alone: Option<SocketFile<'a>>,
     /// The terms of the server.
     pub terms: Terms,
     /// Whether the server ends after its standard input has ended.
@@ -135,6 +137,17 @@ const PATH: &str = "a PATH has 1 to 107 bytes";
 const PATH_WITH_MODE: &str = "with --mode a PATH has 1 to 103 bytes";
 
 const OTHER_PATH: &str = "PATH2 is PATH: --stats names a socket of its own";
+
+const PATH_ALONE: &str = "the SOCKET of --alone has 1 to 103 bytes, and is not PATH";
+
+/// The mode of the socket for sessions that are served alone.
+const MODE_ALONE: u32 = 0o600;
+
+/// The sessions that are served alone lack what they need.
+const NOT_ALONE: Bad = Bad {
+    name: "",
+    valid: "--alone needs --until-eof, and takes no --sessions",
+};
 
 /// A word after `--as` is none.
 const NO_ENTRANCE: Bad = Bad {
@@ -458,36 +471,56 @@ fn server<'a>(words: &ArgMatches<'a>) -> Result<Serving<'a>, Bad>
 {
     let file = file_of(words)?;
     let others = others_of(words)?;
+    let terms = terms_of(words)?;
     let no_main = is_on(words, "no-main");
-    let Some(sockets) = number_of_sockets(no_main, others.count()) else {
+    let Some(sockets) = number_of_sockets(no_main, terms.alone, others.count()) else {
         return Err(NO_SOCKET);
     };
     let stats = stats_of(words, file.path)?;
-    let terms = terms_of(words)?;
+    let alone = alone_of(words, file.path)?;
+    if !may_serve(words, terms.alone, terms.sessions) {
+        return Err(NOT_ALONE);
+    }
     Ok(Serving {
         file,
         others,
         no_main,
         stats,
+        alone,
         terms: Terms { sockets, ..terms },
         until_eof: has_flag(words, "until-eof"),
     })
 }
 
-/// Returns the number of sockets of a server with this number of other ones, or `None` if it has
-/// none at all.
-fn number_of_sockets(no_main: bool, others: usize) -> Option<u32>
+/// Returns the number of sockets of a server with this number of other ones, and with one more at
+/// which sessions are served `alone`, or `None` if it has no others.
+fn number_of_sockets(no_main: bool, alone: bool, others: usize) -> Option<u32>
     requires { others ≤ MAX_OTHERS }
-    ensures { MatchOption result ((sockets : ℕ) → ¬ CountsSockets no_main others sockets)
-        (CountsSockets no_main others) }
+    ensures { MatchOption result ((sockets : ℕ) → ¬ CountsSockets no_main alone others sockets)
+        (CountsSockets no_main alone others) }
 {
-    if no_main {
-        if others == 0 {
-            return None;
-        }
-        return Some(others as u32);
+    let others = others as u32;
+    match (no_main, alone) {
+        (true, true) if others > 0 => Some(others + 1),
+        (true, false) if others > 0 => Some(others),
+        (true, _) => None,
+        (false, true) => Some(others + 2),
+        (false, false) => Some(others + 1),
     }
-    Some(others as u32 + 1)
+}
+
+/// Returns whether a server may run this number of sessions, 0 for no limit. If some are served `alone`,
+/// it must end after its input has ended, and the number must not be limited.
+fn may_serve(words: &ArgMatches<'_>, alone: bool, sessions: u64) -> bool
+    ensures can { result ≡ true → alone ≡ true →
+        IsOn (word_of (words_in words.now) (codes "until-eof")) × (sessions ≡ 0) }
+    ensures cannot { result ≡ false → (alone ≡ true)
+        × ¬ (IsOn (word_of (words_in words.now) (codes "until-eof")) × (sessions ≡ 0)) }
+{
+    if !alone {
+        return true;
+    }
+    is_on(words, "until-eof") && sessions == 0
 }
 
 /// Returns the sockets that let in one user each.
@@ -602,6 +635,26 @@ fn stats_of<'a>(words: &ArgMatches<'a>, own: &str) -> Result<Option<SocketFile<'
     }
 }
 
+/// Returns the file of the socket for sessions that are served alone by a server at the path `own`, if
+/// the command has any. Only the user of the server may connect to it, and a stale one is removed.
+fn alone_of<'a>(words: &ArgMatches<'a>, own: &str) -> Result<Option<SocketFile<'a>>, Bad>
+    requires { word_of (words_in words.now) (codes "path") ≡ Some own.now }
+    ensures { IsRead result (MayAskForAlone (words_in words.now)) }
+{
+    match word_in(words, "alone") {
+        Some(path) if path.is_empty() || path.len() > MAX_PATH_WITH_MODE => {
+            Err(invalid("alone", PATH_ALONE))
+        }
+        Some(path) if path == own => Err(invalid("alone", PATH_ALONE)),
+        Some(path) => Ok(Some(SocketFile {
+            path,
+            mode: Some(MODE_ALONE),
+            replace: true,
+        })),
+        None => Ok(None),
+    }
+}
+
 /// Returns the file of a socket of a server at this path, which is the word of this name.
 fn file_at<'a>(
     words: &ArgMatches<'a>,
@@ -640,6 +693,7 @@ fn terms_of(words: &ArgMatches<'_>) -> Result<Terms, Bad>
         stats: has_word(words, "stats"),
         hold: has_flag(words, "hold"),
         sockets: 1,
+        alone: has_word(words, "alone"),
     })
 }
 

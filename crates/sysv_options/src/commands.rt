@@ -203,6 +203,11 @@ Example:
             Form::Value("PATH2"),
             "A second socket to create, on which the server shows its state",
         ),
+        (
+            "alone",
+            Form::Value("SOCKET"),
+            "A socket for user 0: for one session before all others, and one after them",
+        ),
     ],
     groups: &[],
     usage: None,

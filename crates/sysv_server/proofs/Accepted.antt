@@ -9,7 +9,7 @@ use Rattle.sysv_seats.specs.declared.limits.Limits.{Limits}
 use Rattle.std.specs.declared.io.Error.{Error}
 use Rattle.std.proofs.lemmas.List.{append-nil}
 use Rattle.std.proofs.lemmas.List.Sums.{sum_by-cons}
-use Rattle.std.specs.Prelude.{⊤}
+use Rattle.std.specs.Prelude.{⊤, ◌⊎◌}
 use Rattle.sysv_session.specs.declared.served.Served.{Served}
 use Rattle.sysv_workers.specs.Sources.{GivesAll, Gave, Returned}
 use Rattle.sysv_server.specs.declared.accepting.Accepting.{Accepting}
@@ -21,7 +21,7 @@ use Rattle.sysv_engine.specs.declared.terms.Ended.{Ended}
 use Rattle.sysv_server.specs.Accepts.{Accepts, HasEnded}
 use Rattle.sysv_server.specs.Doors.{Came}
 use Rattle.sysv_server.proofs.Came.{came_on, came_still}
-use Rattle.sysv_server.specs.Listening.{added}
+use Rattle.sysv_server.specs.Listening.{HasFailed, IsOver, added}
 use Rattle.sysv_engine.specs.Added.{capped, one_session}
 use Rattle.sysv_seats.specs.declared.socket_stream.SocketStream.{SocketStream}
 use Rattle.sysv_service.specs.Seats.{Gates}
@@ -62,6 +62,25 @@ module _ {A : Type 0} where
   one_added None x xs = refl
   one_added (Some ys) x xs = ap Some (append_assoc ys (x ∷ []) xs)
 
+-- ---- why a source may have ended
+
+module _ {L I : Type 0} (reads : I → ℕ → Result ℕ Error → I → Type 0) (fails : L → Error → L → Type 0) where
+  -- Why a source may have ended before its last sessions, which are served alone.
+  abbrev EndsEarly : (alone input : Bool) → Option Reason → Type 0
+  EndsEarly alone input None = ⊥
+  EndsEarly alone input (Some Full) = ⊥
+  EndsEarly alone input (Some InputOver) = (input ≡ true) × IsOver reads
+  EndsEarly alone input (Some (NoSocket why)) = alone ≡ true
+  EndsEarly alone input (Some (Accept why)) = HasFailed fails why
+
+  early_cause : (alone input : Bool) (m sessions : ℕ) (reason : Option Reason) → EndsEarly alone input reason →
+      HasCause reads fails alone input m sessions reason
+  early_cause alone input m sessions None early = early
+  early_cause alone input m sessions (Some Full) early = absurd early
+  early_cause alone input m sessions (Some InputOver) early = early
+  early_cause alone input m sessions (Some (NoSocket why)) early = λ off. absurd (true≢false (sym early ∙ off))
+  early_cause alone input m sessions (Some (Accept why)) early = early
+
 -- ---- the connections of a listener
 
 module _ {L I H : Type 0} (told : L → Option (List SocketStream)) (listens : L → Bool)
@@ -98,17 +117,49 @@ module _ {L I H : Type 0} (told : L → Option (List SocketStream)) (listens : L
       omega arith
   returned_most items s s' (inr gave) none small some = bounded items s s' gave none small some
 
-  -- while connections are given, not more are counted than were given, and the source has not ended
+  -- while connections are given, not more are counted than were given
   stays : (items : List SocketStream) (s s' : Accepting L I H) → Given items s s'
       → (s'.most ≡ s.most) × (s'.accepted ≤ s.accepted + length items) × (is_some s'.input ≡ is_some s.input)
-      × (s'.reason ≡ s.reason)
+      × (s'.alone ≡ s.alone)
   stays [] s s' h = rw h (refl, omega arith, refl, refl)
   stays (x ∷ items) s s' h =
       let step = h.1 in
       let rest = stays items h.0 s' h.2 in
       let low = rest.1 in
       let more = step.2 in
-      (rest.0 ∙ step.0, omega arith, rest.2 ∙ step.5, rest.3 ∙ step.4)
+      (rest.0 ∙ step.0, omega arith, rest.2 ∙ step.5, rest.3 ∙ step.11)
+
+  -- A source that gives one more has not reached its limit.
+  ends_early : (s : Accepting L I H) (reason : Option Reason) → s.alone ≡ true
+      → (s.most ≢ 0 → s.accepted < s.most) → IsSomeAnd reason (HasEnded listens reads fails s)
+      → EndsEarly reads fails s.alone (is_some s.input) reason
+  ends_early s None alone low why = why
+  ends_early s (Some Full) alone low full =
+      let below_it = low full.0 in
+      let reached = full.1 in
+      absurd (omega (arith, below_it, reached))
+  ends_early s (Some InputOver) alone low over = over
+  ends_early s (Some (NoSocket why)) alone low unopened = alone
+  ends_early s (Some (Accept why)) alone low failed = failed
+
+  -- while connections are given, the source has ended for no reason, or before its last sessions
+  keeps : (items : List SocketStream) (s s' : Accepting L I H) → Given items s s'
+      → (s'.reason ≡ s.reason) ⊎ EndsEarly reads fails s.alone (is_some s.input) s'.reason
+  keeps [] s s' h = inl (sym (ap (λ (t : Accepting L I H). t.reason) h))
+  keeps (x ∷ items) s s' h =
+      let step = h.1 in
+      elim (keeps items h.0 s' h.2) [
+        | inr early ↦
+            inr (subst (λ b. EndsEarly reads fails b (is_some s.input) s'.reason) step.11
+            (subst (λ b. EndsEarly reads fails h.0.alone b s'.reason) step.5 early))
+        | inl kept ↦
+            elim step.4 [
+              | inl same ↦ inl (kept ∙ same)
+              | inr ended ↦
+                  inr (subst (λ r. EndsEarly reads fails s.alone (is_some s.input) r) (sym kept)
+                  (ends_early s h.0.reason ended.0 step.1 ended.2))
+            ]
+      ]
 
   -- once a connection was given, the listener is open
   is_opened : (x : SocketStream) (items : List SocketStream) (s s' : Accepting L I H) → Given (x ∷ items) s s' →
@@ -187,14 +238,14 @@ module _ {L I H : Type 0} (told : L → Option (List SocketStream)) (listens : L
   gave_hold items s s' (inl all) = all_hold items s s' all
   gave_hold items s s' (inr none) = ap (λ (t : Accepting L I H). t.listener.ghost_name) none.1
 
-  has_cause : (m sessions : ℕ) (s last s' : Accepting L I H) (items : List SocketStream) (input : Bool)
+  has_cause : (m sessions : ℕ) (s last s' : Accepting L I H) (items : List SocketStream) (alone input : Bool)
       (reason : Option Reason)
-      → s.accepted ≡ 0 → s.most ≡ m → m ≤ 2 ^ 64 - 1 → is_some s.input ≡ input → Given items s last
-      → GivesAll Gives s items s' → sessions ≡ capped (length items)
+      → s.accepted ≡ 0 → s.most ≡ m → m ≤ 2 ^ 64 - 1 → s.alone ≡ alone → is_some s.input ≡ input
+      → Given items s last → GivesAll Gives s items s' → sessions ≡ capped (length items)
       → IsSomeAnd reason (HasEnded listens reads fails last)
-      → HasCause reads fails input m sessions reason
-  has_cause m sessions s last s' items input None none same small of_input gave all count why = why
-  has_cause m sessions s last s' items input (Some Full) none same small of_input gave all count full =
+      → HasCause reads fails alone input m sessions reason
+  has_cause m sessions s last s' items alone input None none same small of_alone of_input gave all count why = why
+  has_cause m sessions s last s' items alone input (Some Full) none same small of_alone of_input gave all count full =
       let fits : s.most ≤ 2 ^ 64 - 1 = omega arith in
       let stay = stays items s last gave in
       let some : s.most ≢ 0 = λ z. full.0 (stay.0 ∙ z) in
@@ -204,12 +255,21 @@ module _ {L I H : Type 0} (told : L → Option (List SocketStream)) (listens : L
       let least = full.1 in
       let many : length items ≡ m = omega arith in
       (λ z. some (same ∙ z), count ∙ (ap capped many ∙ below m small))
-  has_cause m sessions s last s' items input (Some InputOver) none same small of_input gave all count over =
+  has_cause m sessions s last s' items alone input (Some InputOver) none same small of_alone of_input gave all count
+      over =
       (sym of_input ∙ (sym (stays items s last gave).2 ∙ over.0), over.1)
-  has_cause m sessions s last s' items input (Some (NoSocket why)) none same small of_input gave all count unopened =
-      let no_item = none_given items s last gave unopened in
-      count ∙ (ap capped no_item ∙ below 0 (omega arith))
-  has_cause m sessions s last s' items input (Some (Accept why)) none same small of_input gave all count failed = failed
+  has_cause m sessions s last s' items alone input (Some (NoSocket why)) none same small of_alone of_input gave all
+      count unopened =
+      λ off.
+      elim unopened [
+        | inl closed ↦
+            let no_item = none_given items s last gave closed in
+            count ∙ (ap capped no_item ∙ below 0 (omega arith))
+        | inr one ↦ absurd (true≢false (sym one.0 ∙ ((stays items s last gave).3 ∙ (of_alone ∙ off))))
+      ]
+  has_cause m sessions s last s' items alone input (Some (Accept why)) none same small of_alone of_input gave all count
+      failed =
+      failed
 
   abbrev pub Serves : Bool → ℕ → Accepting L I H → List ⊤ → Ended → Accepting L I H → List ⊤ → Type 0
   Serves = ServesConnections untold untold closing_sockets Gives
@@ -282,11 +342,12 @@ module _ {L I H : Type 0} (told : L → Option (List SocketStream)) (listens : L
 
   -- the reason why no more connections were accepted tells how many sessions there were
   pub ends_for : (shows : Bool) (blocks m : ℕ) (s s' : Accepting L I H) (books books' : List ⊤)
-      (ended : Ended) (input : Bool) (reason : Option Reason)
-      → s.accepted ≡ 0 → s.most ≡ m → m ≤ 2 ^ 64 - 1 → s.reason ≡ None
+      (ended : Ended) (alone input : Bool) (reason : Option Reason)
+      → s.accepted ≡ 0 → s.most ≡ m → m ≤ 2 ^ 64 - 1 → s.reason ≡ None → s.alone ≡ alone
       → is_some s.input ≡ input → s'.reason ≡ reason → Serves shows blocks s books ended s' books'
-      → HasCause reads fails input m ended.sums.sessions reason
-  ends_for shows blocks m s s' books books' ended input reason none same small unended of_input of_reason served =
+      → HasCause reads fails alone input m ended.sums.sessions reason
+  ends_for shows blocks m s s' books books' ended alone input reason none same small unended of_alone of_input
+      of_reason served =
       let gave = served.gave in
       let each = one_each untold untold closing_sockets served.desks served.shifts served.given served.in_team.sat
       served.dealt in
@@ -294,12 +355,19 @@ module _ {L I H : Type 0} (told : L → Option (List SocketStream)) (listens : L
       ≡ capped (sum_by (λ (s : Sums). s.sessions) (map (λ t. one_session (tally_of t)) (told_in served.shifts))) =
       ap (λ (s : Sums). s.sessions) served.sums in
       let counted = all_counted (told_in served.shifts) ∙ each in
-      let still : gave.last.reason ≡ None = (stays served.given s gave.last gave.gave).3 ∙ unended in
       elim gave.ended.2 [
-        | inl over ↦ absurd (true≢false (sym over ∙ ap is_some still))
+        | inl over ↦
+            elim (keeps served.given s gave.last gave.gave) [
+              | inl still ↦ absurd (true≢false (sym over.0 ∙ ap is_some (still ∙ unended)))
+              | inr early ↦
+                  early_cause reads fails alone input m ended.sums.sessions reason
+                  (subst (λ r. EndsEarly reads fails alone input r) (sym over.1 ∙ of_reason)
+                  (subst (λ b. EndsEarly reads fails b input gave.last.reason) of_alone
+                  (subst (λ b. EndsEarly reads fails s.alone b gave.last.reason) of_input early)))
+            ]
         | inr why ↦
-            has_cause m ended.sums.sessions s gave.last s' served.given input reason none same small of_input
-            gave.gave gave (sums ∙ ap capped counted)
+            has_cause m ended.sums.sessions s gave.last s' served.given alone input reason none same small of_alone
+            of_input gave.gave gave (sums ∙ ap capped counted)
             (subst (λ r. IsSomeAnd r (HasEnded listens reads fails gave.last)) of_reason why)
       ]
 
@@ -351,41 +419,46 @@ module _ {L I H : Type 0} (told : L → Option (List SocketStream)) (listens : L
 
     module _ (l l' : L) (counted : length books ≡ workers) (before : s.listener.now ≡ l)
         (after : s'.listener.now ≡ l') where
-      pub all_end : (limits : Limits) → s.limits ≡ limits →
-          IfOk result (λ ended. EndsFrom told listens steps shows blocks workers m limits l ended l')
-      all_end limits held = of result ok
+      pub all_end : (looks : Bool) (limits : Limits) → shows ≡ looks → s.limits ≡ limits →
+          IfOk result (λ ended. EndsFrom told listens steps looks blocks workers m limits l ended l')
+      all_end looks limits read held = of result ok
         where
           of : (r : Result Ended ServeFault) → IfOk r (λ ended. Serves shows blocks s books ended s' books')
-              → IfOk r (λ ended. EndsFrom told listens steps shows blocks workers m limits l ended l')
+              → IfOk r (λ ended. EndsFrom told listens steps looks blocks workers m limits l ended l')
           of (Ok ended) all =
-              subst (λ k. EndsFrom told listens steps shows blocks workers m limits k ended l') before
+              subst (λ k. EndsFrom told listens steps k blocks workers m limits l ended l') read
+              (subst (λ k. EndsFrom told listens steps shows blocks workers m limits k ended l') before
               (subst (λ k. EndsFrom told listens steps shows blocks workers m limits s.listener.now ended k) after
               (subst (λ k. EndsFrom told listens steps shows blocks workers m k s.listener.now ended s'.listener.now)
               held
-              (ends_from shows blocks workers m s s' books books' ended none same small counted all)))
+              (ends_from shows blocks workers m s s' books books' ended none same small counted all))))
           of (Err why) all = tt
 
-      pub all_fail : IfErr result (λ why. FailsFrom told shows blocks workers m l why l')
-      all_fail = of result err
+      pub all_fail : (looks : Bool) → shows ≡ looks →
+          IfErr result (λ why. FailsFrom told looks blocks workers m l why l')
+      all_fail looks read = of result err
         where
           of : (r : Result Ended ServeFault)
               → IfErr r
               (λ why. LeavesConnections untold untold closing_sockets Gives (HasLived shows blocks) s books why s'
-              books') → IfErr r (λ why. FailsFrom told shows blocks workers m l why l')
+              books') → IfErr r (λ why. FailsFrom told looks blocks workers m l why l')
           of (Ok ended) left = tt
           of (Err why) left =
-              subst (λ k. FailsFrom told shows blocks workers m k why l') before
+              subst (λ k. FailsFrom told k blocks workers m l why l') read
+              (subst (λ k. FailsFrom told shows blocks workers m k why l') before
               (subst (λ k. FailsFrom told shows blocks workers m s.listener.now why k) after
-              (fails_from shows blocks workers m s s' books books' why none same small counted left))
+              (fails_from shows blocks workers m s s' books books' why none same small counted left)))
 
-    pub all_for : (input : Bool) (reason : Option Reason) → s.reason ≡ None → is_some s.input ≡ input →
-        s'.reason ≡ reason → IfOk result (λ ended. HasCause reads fails input m ended.sums.sessions reason)
-    all_for input reason unended of_input of_reason = of result ok
+    pub all_for : (alone input : Bool) (reason : Option Reason) → s.reason ≡ None → s.alone ≡ alone →
+        is_some s.input ≡ input → s'.reason ≡ reason →
+        IfOk result (λ ended. HasCause reads fails alone input m ended.sums.sessions reason)
+    all_for alone input reason unended of_alone of_input of_reason = of result ok
       where
         of : (r : Result Ended ServeFault) → IfOk r (λ ended. Serves shows blocks s books ended s' books')
-            → IfOk r (λ ended. HasCause reads fails input m ended.sums.sessions reason)
+            → IfOk r (λ ended. HasCause reads fails alone input m ended.sums.sessions reason)
         of (Ok ended) all =
-            ends_for shows blocks m s s' books books' ended input reason none same small unended of_input of_reason all
+            ends_for shows blocks m s s' books books' ended alone input reason none same small unended of_alone of_input
+            of_reason all
         of (Err why) all = tt
 
 -- What is told of a listener and of an input may be left out.
@@ -400,19 +473,19 @@ err_so P Q (Ok x) so p = tt
 err_so P Q (Err e) so p = so e p
 
 has_reason : {L I : Type 0} (reads : I → ℕ → Result ℕ Error → I → Type 0) (fails : L → Error → L → Type 0)
-    (input : Bool) (m sessions : ℕ) (reason : Option Reason) → HasCause reads fails input m sessions reason →
-    HasReason input m sessions reason
-has_reason reads fails input m sessions None cause = cause
-has_reason reads fails input m sessions (Some Full) cause = cause
-has_reason reads fails input m sessions (Some InputOver) cause = cause.0
-has_reason reads fails input m sessions (Some (NoSocket why)) cause = cause
-has_reason reads fails input m sessions (Some (Accept why)) cause = tt
+    (alone input : Bool) (m sessions : ℕ) (reason : Option Reason)
+    → HasCause reads fails alone input m sessions reason → HasReason alone input m sessions reason
+has_reason reads fails alone input m sessions None cause = cause
+has_reason reads fails alone input m sessions (Some Full) cause = cause
+has_reason reads fails alone input m sessions (Some InputOver) cause = cause.0
+has_reason reads fails alone input m sessions (Some (NoSocket why)) cause = cause
+has_reason reads fails alone input m sessions (Some (Accept why)) cause = tt
 
 pub reason_so : {L I : Type 0} (reads : I → ℕ → Result ℕ Error → I → Type 0) (fails : L → Error → L → Type 0)
-    (input input' : Bool) (m : ℕ) (reason : Option Reason) (result : Result Ended ServeFault) → input' ≡ input
-    → IfOk result (λ ended. HasCause reads fails input' m ended.sums.sessions reason)
-    → IfOk result (λ ended. HasReason input m ended.sums.sessions reason)
-reason_so reads fails input input' m reason (Ok ended) same cause =
-    subst (λ b. HasReason b m ended.sums.sessions reason) same
-    (has_reason reads fails input' m ended.sums.sessions reason cause)
-reason_so reads fails input input' m reason (Err why) same cause = tt
+    (alone input input' : Bool) (m : ℕ) (reason : Option Reason) (result : Result Ended ServeFault) → input' ≡ input
+    → IfOk result (λ ended. HasCause reads fails alone input' m ended.sums.sessions reason)
+    → IfOk result (λ ended. HasReason alone input m ended.sums.sessions reason)
+reason_so reads fails alone input input' m reason (Ok ended) same cause =
+    subst (λ b. HasReason alone b m ended.sums.sessions reason) same
+    (has_reason reads fails alone input' m ended.sums.sessions reason cause)
+reason_so reads fails alone input input' m reason (Err why) same cause = tt

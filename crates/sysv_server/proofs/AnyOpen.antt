@@ -1,7 +1,8 @@
 -- Whether one of several listeners is open, after one of them was closed.
+use mathlib.Core.Bool.{true≢false}
 use Rattle.std.proofs.Common.{◌≡◌, ◌∙◌, ℕ, zero, suc, ◌+◌, ◌<◌, List, [], ◌∷◌, length, take, drop, Bool, true, false}
 use Rattle.std.proofs.Common.{ap, arith, refl, sym}
-use Rattle.std.specs.Prelude.{◌||◌, slice_index_or, slice_set}
+use Rattle.std.specs.Prelude.{◌||◌, Err, Ok, OnErr, OnOk, Result, slice_index_or, slice_set}
 use Rattle.std.specs.List.{list_any}
 
 or_assoc : (a b c : Bool) → a || (b || c) ≡ (a || b) || c
@@ -16,8 +17,17 @@ if_one : (a b c : Bool) → (b ≡ true → c ≡ true) → a || b ≡ true → 
 if_one true b c then is = refl
 if_one false b c then is = then is
 
+right_off : (a b : Bool) → a || b ≡ false → b ≡ false
+right_off true b is = absurd (true≢false is)
+right_off false b is = is
+
 next : (n : ℕ) → suc n + 1 ≡ suc (n + 1)
 next n = omega arith
+
+-- What holds anyway holds after a failure.
+pub on_err : {A E Q : Type 0} (r : Result A E) → Q → OnErr r Q
+on_err (Ok a) q = tt
+on_err (Err e) q = q
 
 module _ {L : Type 0} (f : L → Bool) where
   -- One was closed: the others are left.
@@ -46,6 +56,48 @@ module _ {L : Type 0} (f : L → Bool) where
   any_still (x ∷ ls) zero m d there same = ap (λ (b : Bool). b || list_any f ls) same
   any_still (x ∷ ls) (suc n) m d there same =
       ap (λ (b : Bool). f x || b) (any_still ls n m d (omega (arith, there)) same)
+
+  -- One was opened.
+  pub any_opened : (ls : List L) (n : ℕ) (m : L) → n < length ls → f m ≡ true →
+      list_any f (slice_set ls n m) ≡ true
+  any_opened [] n m there on = absurd (omega (arith, there))
+  any_opened (x ∷ ls) zero m there on = ap (λ (b : Bool). b || list_any f ls) on
+  any_opened (x ∷ ls) (suc n) m there on =
+      ap (λ (b : Bool). f x || b) (any_opened ls n m (omega (arith, there)) on) ∙ or_true (f x)
+
+  -- The same of a result, and else it is as open as before.
+  pub opened_ok : {A E : Type 0} (r : Result A E) (ls : List L) (n : ℕ) (m : L) → n < length ls →
+      OnOk r (f m ≡ true) → OnOk r (list_any f (slice_set ls n m) ≡ true)
+  opened_ok (Ok a) ls n m there on = any_opened ls n m there on
+  opened_ok (Err e) ls n m there on = tt
+
+  pub opened_err : {A E : Type 0} (r : Result A E) (ls : List L) (n : ℕ) (m old d : L) → n < length ls →
+      old ≡ slice_index_or ls n d → OnErr r (f m ≡ f old) → OnErr r (list_any f (slice_set ls n m) ≡ list_any f ls)
+  opened_err (Ok a) ls n m old d there is same = tt
+  opened_err (Err e) ls n m old d there is same = any_still ls n m d there (same ∙ ap f is)
+
+  -- Those up to a number and those from there on.
+  pub any_of_both : (ls : List L) (n : ℕ) →
+      list_any f ls ≡ list_any f (take n ls) || list_any f (drop n ls)
+  any_of_both [] zero = refl
+  any_of_both [] (suc n) = refl
+  any_of_both (x ∷ ls) zero = refl
+  any_of_both (x ∷ ls) (suc n) =
+      ap (λ (b : Bool). f x || b) (any_of_both ls n)
+      ∙ or_assoc (f x) (list_any f (take n ls)) (list_any f (drop n ls))
+
+  -- If one of those up to a number is open, one is.
+  pub some_before : (ls : List L) (n : ℕ) → list_any f (take n ls) ≡ true → list_any f ls ≡ true
+  some_before ls n on = any_of_both ls n ∙ ap (λ (b : Bool). b || list_any f (drop n ls)) on
+
+  -- None of those up to a number is open: the others are left.
+  pub any_after : (ls : List L) (n : ℕ) → list_any f (take n ls) ≡ false →
+      list_any f ls ≡ list_any f (drop n ls)
+  any_after ls n off = any_of_both ls n ∙ ap (λ (b : Bool). b || list_any f (drop n ls)) off
+
+  -- If none is open, none of those from a number on is.
+  pub none_after : (ls : List L) (n : ℕ) → list_any f ls ≡ false → list_any f (drop n ls) ≡ false
+  none_after ls n off = right_off (list_any f (take n ls)) (list_any f (drop n ls)) (sym (any_of_both ls n) ∙ off)
 
   -- If another one is open, one is.
   pub one_of_others : (ls : List L) (n : ℕ) → n < length ls →

@@ -1,7 +1,7 @@
 -- The steps of a listener, one after another.
 use Rattle.std.proofs.Common.{◌≡◌, ◌∙◌, List, [], ◌∷◌, ◌++◌, Option, None, Some, refl, sym, subst, append_assoc}
-use Rattle.std.proofs.Common.{append-nil, ap, arith, length, ℕ, zero, suc, ◌<◌}
-use Rattle.std.specs.Prelude.{slice_index_or, slice_set}
+use Rattle.std.proofs.Common.{inl, inr, append-nil, ap, arith, length, ℕ, zero, suc, ◌<◌}
+use Rattle.std.specs.Prelude.{◌⊎◌, slice_index_or, slice_set}
 use Rattle.std.specs.Option.{option_to_list}
 use Rattle.sysv_seats.specs.declared.socket_stream.SocketStream.{SocketStream}
 use Rattle.sysv_server.specs.Doors as doors
@@ -19,6 +19,10 @@ module _ {L : Type 0} (steps : L → Option SocketStream → L → Type 0) where
 
   pub came_still : (a b : L) → b ≡ a → Came steps a [] b
   came_still a b is = subst (λ (l : L). Came steps a [] l) (sym is) doors.begins
+
+  pub came_or_still : (a b : L) → (b ≡ a) ⊎ steps a None b → Came steps a [] b
+  came_or_still a b (inl is) = came_still a b is
+  came_or_still a b (inr step) = doors.quietly b doors.begins step
 
   pub came_quiet : (a b : L) → steps a None b → Came steps a [] b
   came_quiet a b step = doors.quietly b doors.begins step

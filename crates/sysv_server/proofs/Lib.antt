@@ -1,3 +1,4 @@
 pub mod Came
 pub mod AnyOpen
+pub mod Last
 pub mod Accepted

@@ -26,13 +26,25 @@ module _ {L I : Type 0} (reads : I → ℕ → Result ℕ Error → I → Type 0
 
 module _ {L I H : Type 0} (listens : L → Bool) (reads : I → ℕ → Result ℕ Error → I → Type 0)
     (fails : L → Error → L → Type 0) where
+  -- The listener of the source is not open. If a session is served alone before the others, that was the only one.
+  abbrev pub IsNotOpen : Accepting L I H → Type 0
+  IsNotOpen source =
+      (listens source.listener.now ≡ false) ⊎ ((source.alone ≡ true) × (source.accepted ≡ 1))
+
   -- The source may end for this reason: the limit is reached, its input is over, its listener could not
   -- be opened, or an accept failed with this error.
   abbrev pub HasEnded : Accepting L I H → Reason → Type 0
   HasEnded source Full = IsFull source.most source.accepted
   HasEnded source InputOver = (is_some source.input ≡ true) × IsOver reads
-  HasEnded source (NoSocket why) = listens source.listener.now ≡ false
+  HasEnded source (NoSocket why) = IsNotOpen source
   HasEnded source (Accept why) = HasFailed fails why
+
+  -- A source that returned a connection has not ended by that, or it has sessions that are served alone, and ended for
+  -- a reason before the last ones, of which this is the first.
+  abbrev pub KeepsReason : Accepting L I H → Accepting L I H → Type 0
+  KeepsReason old new =
+      (new.reason ≡ old.reason)
+      ⊎ ((old.alone ≡ true) × (old.reason ≡ None) × IsSomeAnd new.reason (HasEnded old))
 
 module _ {L I H : Type 0} (told : L → Option (List SocketStream)) (listens : L → Bool)
     (reads : I → ℕ → Result ℕ Error → I → Type 0) (fails : L → Error → L → Type 0)
@@ -40,20 +52,40 @@ module _ {L I H : Type 0} (told : L → Option (List SocketStream)) (listens : L
   -- The source returned a connection or none, and its counts changed accordingly. A connection that it
   -- returned is the one that its listener accepted, which accepted no other. It returns a connection
   -- only below the limit, if there is one, and has an open listener then. It returns none only if it
-  -- has ended, or for a reason, which is kept; then its listener has accepted none, and is closed. The
+  -- has ended, or for a reason, which is kept; then its listener has accepted none, and is closed. Only a source with
+  -- sessions that are served alone returns connections after it has ended. The
   -- client of a connection is cut off only under the limits of the source. The listener made steps in which it accepted
   -- just this connection, or none.
   abbrev pub Accepts : Accepting L I H → Option SocketStream → Accepting L I H → Type 0
   Accepts old None new =
       (new.most ≡ old.most) × (new.accepted ≡ old.accepted)
-      × ((is_some old.reason ≡ true) ⊎ IsSomeAnd new.reason (HasEnded listens reads fails old))
+      × (((is_some old.reason ≡ true) × (new.reason ≡ old.reason))
+      ⊎ IsSomeAnd new.reason (HasEnded listens reads fails old))
       × (listens new.listener.now ≡ false) × (told new.listener.now ≡ told old.listener.now)
       × (new.listener.ghost_name ≡ old.listener.ghost_name) × Came steps old.listener.now [] new.listener.now
   Accepts old (Some stream) new =
       (new.most ≡ old.most) × (old.most ≢ 0 → old.accepted < old.most) × (new.accepted ≡ capped (old.accepted + 1))
-      × (listens new.listener.now ≡ true) × (new.reason ≡ old.reason)
+      × (listens new.listener.now ≡ true) × KeepsReason listens reads fails old new
       × (is_some new.input ≡ is_some old.input)
       × (told new.listener.now ≡ added (told old.listener.now) (stream ∷ []))
       × (new.listener.ghost_name ≡ old.listener.ghost_name)
       × (limits_of stream ≡ old.limits) × (new.limits ≡ old.limits)
+      × Came steps old.listener.now (stream ∷ []) new.listener.now × (new.alone ≡ old.alone)
+
+module _ {L I H : Type 0} (told : L → Option (List SocketStream)) (listens : L → Bool)
+    (steps : L → Option SocketStream → L → Type 0) where
+  -- The source, which had ended, closed its listener, and returned a connection that is served alone, or none. It
+  -- returns one only if it was to have such ones after its end.
+  abbrev pub AcceptsLast : Accepting L I H → Option SocketStream → Accepting L I H → Type 0
+  AcceptsLast old None new =
+      (new.most ≡ old.most) × (new.accepted ≡ old.accepted) × (new.reason ≡ old.reason)
+      × (listens new.listener.now ≡ false) × (told new.listener.now ≡ told old.listener.now)
+      × (new.listener.ghost_name ≡ old.listener.ghost_name) × Came steps old.listener.now [] new.listener.now
+  AcceptsLast old (Some stream) new =
+      (new.most ≡ old.most) × (old.most ≢ 0 → old.accepted < old.most) × (new.accepted ≡ capped (old.accepted + 1))
+      × (listens new.listener.now ≡ true) × (new.reason ≡ old.reason) × (old.has_last ≡ true)
+      × (is_some new.input ≡ is_some old.input)
+      × (told new.listener.now ≡ added (told old.listener.now) (stream ∷ []))
+      × (new.listener.ghost_name ≡ old.listener.ghost_name)
+      × (limits_of stream ≡ old.limits) × (new.limits ≡ old.limits) × (new.alone ≡ old.alone)
       × Came steps old.listener.now (stream ∷ []) new.listener.now

@@ -1,8 +1,8 @@
 -- How a server serves a listener, and what a fault leaves (this project's profile). It has a number
 -- of places, all at one service. Each place has a pass of its own and serves one client after another,
 -- and there is one session for each connection.
-use Rattle.std.specs.Prelude.{◌≡◌, ◌≢◌, ◌≤◌, ◌+◌, ◌^◌, ⊤, ℕ, Bool, true, false, List, [], Option, Some, None, Result}
-use Rattle.std.specs.Prelude.{length, min}
+use Rattle.std.specs.Prelude.{◌≡◌, ◌≢◌, ◌≤◌, ◌+◌, ◌^◌, ◌||◌, ⊤, ℕ, Bool, true, false, List, [], Option, Some, None}
+use Rattle.std.specs.Prelude.{Result, length, min}
 use Rattle.std.specs.declared.io.Error.{Error}
 use Rattle.std.specs.List.{AllByRecursion}
 use Rattle.std.specs.List.Sorted.{IsPermutation}
@@ -47,6 +47,11 @@ SatOnSockets = Sat untold untold closing_sockets
 -- The limits under which a server on these terms may cut off its clients: those that the terms have.
 abbrev pub limits_in : Terms → Limits
 limits_in terms = limits_for terms.patience.idle terms.patience.stall terms.drain
+
+-- The rows of the queues may be read while a server on these terms runs: to show its state, or before it ends without a
+-- further session that is served alone.
+abbrev pub looks_in : Terms → Bool
+looks_in terms = terms.stats || terms.alone
 
 -- A server on these terms ran with as many workers as they have, or as many as it could have clients, and
 -- with the limits of time that they have. Its clients might hold messages if the terms say so.
@@ -112,23 +117,24 @@ FailsOn shows blocks places most Worn =
     LeavesSockets places (HasLived shows blocks) × (most ≢ 0 → 2 ^ 62 ≤ most + MAX_WORKERS)
 FailsOn shows blocks places most Missed = LeavesSockets places (HasLived shows blocks)
 
--- A server that may have an input, that was to run this maximum number of sessions, 0 for no limit,
--- and that ran this number of them, accepted no more connections for this reason.
-abbrev pub HasReason : Bool → (most sessions : ℕ) → Option Reason → Type 0
-HasReason has_input most sessions None = ⊥
-HasReason has_input most sessions (Some Full) = (most ≢ 0) × (sessions ≡ most)
-HasReason has_input most sessions (Some InputOver) = has_input ≡ true
-HasReason has_input most sessions (Some (NoSocket why)) = sessions ≡ 0
-HasReason has_input most sessions (Some (Accept why)) = ⊤
+-- A server that may have sessions that are served alone, that may have an input, that was to run this maximum number of
+-- sessions, 0 for no limit, and that ran this number of them, accepted no more connections for this reason. If its
+-- sockets could not be opened, and no session is served alone, it ran none.
+abbrev pub HasReason : (alone has_input : Bool) → (most sessions : ℕ) → Option Reason → Type 0
+HasReason alone has_input most sessions None = ⊥
+HasReason alone has_input most sessions (Some Full) = (most ≢ 0) × (sessions ≡ most)
+HasReason alone has_input most sessions (Some InputOver) = has_input ≡ true
+HasReason alone has_input most sessions (Some (NoSocket why)) = alone ≡ false → sessions ≡ 0
+HasReason alone has_input most sessions (Some (Accept why)) = ⊤
 
 module _ {L I : Type 0} (reads : I → ℕ → Result ℕ Error → I → Type 0) (fails : L → Error → L → Type 0) where
   -- The same, and an input that is over was read to its end, or could not be read, and an accept has failed
   -- with the error that is told. `reads` are the reads of the input, and `fails` the accepts of the listener
   -- that may fail.
-  abbrev pub HasCause : Bool → (most sessions : ℕ) → Option Reason → Type 0
-  HasCause has_input most sessions (Some InputOver) = (has_input ≡ true) × IsOver reads
-  HasCause has_input most sessions (Some (Accept why)) = HasFailed fails why
-  HasCause has_input most sessions reason = HasReason has_input most sessions reason
+  abbrev pub HasCause : (alone has_input : Bool) → (most sessions : ℕ) → Option Reason → Type 0
+  HasCause alone has_input most sessions (Some InputOver) = (has_input ≡ true) × IsOver reads
+  HasCause alone has_input most sessions (Some (Accept why)) = HasFailed fails why
+  HasCause alone has_input most sessions reason = HasReason alone has_input most sessions reason
 
 module _ {L : Type 0} (told : L → Option (List SocketStream)) where
   -- A server served the connections of a listener, which went from the one state to the other and is

@@ -1,8 +1,8 @@
 //! A source of accepted connections.
-ghost use Rattle.std.specs.Prelude.{◌≡◌, ◌≢◌, ◌<◌, ◌≤◌, ◌-◌, ◌^◌, ◌∷◌, [], true, false, is_some, None, IfErr, IfOk, MatchResult, OnErr, OnOk};
+ghost use Rattle.std.specs.Prelude.{◌≡◌, ◌≢◌, ◌<◌, ◌≤◌, ◌-◌, ◌^◌, ◌∷◌, [], true, false, is_some, None, Some, IfErr, IfOk, IfSome, MatchOption, MatchResult, OnErr, OnOk};
 ghost use Rattle.sysv_engine.specs.Looks.{Looks};
 ghost use Rattle.sysv_seats.specs.Untold.{limits_of};
-ghost use Rattle.sysv_server.specs.Accepts.{EndsWait, HasEnded};
+ghost use Rattle.sysv_server.specs.Accepts.{AcceptsLast, EndsWait, HasEnded, IsFull};
 ghost use Rattle.sysv_server.specs.Doors.{Came};
 ghost use Rattle.sysv_server.specs.Listening.{added, IsOver};
 
@@ -14,7 +14,8 @@ use std::alloc::Global;
 use std::io;
 use std::io::ErrorKind;
 use std::sync::Wait;
-use sysv_engine::{Arrivals, Rows, ServerState};
+use sysv_engine::{Arrivals, Moment, Rows, ServerState};
+use sysv_keys::SLOTS;
 use sysv_seats::{Limits, SocketStream};
 use sysv_system::{
     EAGAIN, ECONNABORTED, EMFILE, ENOMEM, EPERM, Event, Several, Watched, await_any, pause,
@@ -25,6 +26,9 @@ const INPUT_BYTES: usize = 512;
 
 /// The time from an accept that failed to the next one, in milliseconds.
 const HOLD_MILLIS: u64 = 100;
+
+/// How long the client of a last session may take to connect, in milliseconds.
+const LAST_MILLIS: u32 = 10_000;
 
 /// Too many files are open in the system.
 const ENFILE: i32 = 23;
@@ -72,6 +76,14 @@ pub(crate) struct Accepting<'a, L, I: Drop, H> {
     blocks: u32,
     /// Whether the state of the server is shown.
     stats: bool,
+    /// Whether a session is served alone before the others, and one after them.
+    alone: bool,
+    /// Whether the input had a byte: then the server goes on after its first session.
+    goes_on: bool,
+    /// Whether last sessions are served alone.
+    has_last: bool,
+    /// Whether one was accepted.
+    had_last: bool,
     alloc: Global,
     server: &'a ServerState,
     host: &'a H,
@@ -88,6 +100,7 @@ impl<'a, L: Listens, I: Input + Drop, H: Host> Accepting<'a, L, I, H> {
         most: u64,
         blocks: u32,
         stats: bool,
+        alone: bool,
         server: &'a ServerState,
         host: &'a H,
     ) -> Accepting<'a, L, I, H>
@@ -95,6 +108,7 @@ impl<'a, L: Listens, I: Input + Drop, H: Host> Accepting<'a, L, I, H> {
         ensures range { result.most ≤ 2 ^ 64 - 1 }
         ensures input { result.input ≡ input }
         ensures limits { result.limits ≡ limits }
+        ensures alone { result.alone ≡ alone }
         ensures listener { result.listener.now ≡ listener.old }
         ensures same_reference { result.listener.ghost_name ≡ listener.entry.ghost_name }
     {
@@ -110,6 +124,10 @@ impl<'a, L: Listens, I: Input + Drop, H: Host> Accepting<'a, L, I, H> {
             desk: Desk::closed(),
             blocks,
             stats,
+            alone,
+            goes_on: false,
+            has_last: false,
+            had_last: false,
             alloc,
             server,
             host,
@@ -134,6 +152,10 @@ impl<'a, L: Listens, I: Input + Drop, H: Host> Accepting<'a, L, I, H> {
             desk: _,
             blocks: _,
             stats: _,
+            alone: _,
+            goes_on: _,
+            has_last: _,
+            had_last: _,
             alloc: _,
             server: _,
             host: _,
@@ -141,12 +163,14 @@ impl<'a, L: Listens, I: Input + Drop, H: Host> Accepting<'a, L, I, H> {
         (listener, reason)
     }
 
-    /// Has the host open the socket for readers of the server's state, if it is to be shown, and
-    /// opens the listener.
+    /// Opens the listener: for the first session if that is served alone and was not accepted yet, and
+    /// else for all others. Before it opens it for these, it has the host open the socket for readers
+    /// of the server's state, if that is to be shown.
     #[tactic(auto, using(crate::proofs::Came::came_quiet, crate::proofs::Came::came_still))]
     fn open(&mut self) -> io::Result<()>
         ensures same { (self.new.most ≡ self.old.most) × (self.new.accepted ≡ self.old.accepted)
-            × (self.new.reason ≡ self.old.reason) × (self.new.limits ≡ self.old.limits) }
+            × (self.new.reason ≡ self.old.reason) × (self.new.limits ≡ self.old.limits)
+            × (self.new.alone ≡ self.old.alone) }
         ensures input { is_some self.new.input ≡ is_some self.old.input }
         ensures ok { OnOk result (L.listens self.new.listener.now ≡ true) }
         ensures err { OnErr result
@@ -155,17 +179,29 @@ impl<'a, L: Listens, I: Input + Drop, H: Host> Accepting<'a, L, I, H> {
         ensures came { Came L.steps self.old.listener.now [] self.new.listener.now }
         ensures same_reference { self.new.listener.ghost_name ≡ self.old.listener.ghost_name }
     {
+        if self.alone && self.accepted == 0 {
+            return self.listener.open_alone();
+        }
         if self.stats {
             self.desk.open(self.host.listen_for_readers()?);
         }
         self.listener.open()
     }
 
+    /// Returns whether the number of connections is limited, and the limit is reached.
+    fn is_full(&self) -> bool
+        ensures full { result ≡ true → IsFull self.now.most self.now.accepted }
+        ensures room { result ≡ false → self.now.most ≢ 0 → self.now.accepted < self.now.most }
+    {
+        self.most != 0 && self.accepted >= self.most
+    }
+
     /// Accepts the next connection. The error is why no more connections are to be accepted.
     #[tactic(auto, using(sysv_engine::proofs::Looking::looks_stay, crate::proofs::Came::came_on, crate::proofs::Came::came_once, crate::proofs::Came::came_quiet, crate::proofs::Came::came_still))]
     fn accept<R: Wait>(&mut self, rows: &mut Rows<'_, R>) -> Result<SocketStream, Reason>
         ensures same { (self.new.most ≡ self.old.most) × (self.new.accepted ≡ self.old.accepted)
-            × (self.new.reason ≡ self.old.reason) × (self.new.limits ≡ self.old.limits) }
+            × (self.new.reason ≡ self.old.reason) × (self.new.limits ≡ self.old.limits)
+            × (self.new.alone ≡ self.old.alone) }
         ensures input { is_some self.new.input ≡ is_some self.old.input }
         ensures bounded { IfOk result (λ _. self.old.most ≢ 0 →
             self.old.accepted < self.old.most) }
@@ -182,10 +218,14 @@ impl<'a, L: Listens, I: Input + Drop, H: Host> Accepting<'a, L, I, H> {
         ensures same_reference { self.new.listener.ghost_name ≡ self.old.listener.ghost_name }
         ensures looks { Looks rows.old rows.new }
     {
-        if self.most != 0 && self.accepted >= self.most {
+        if self.is_full() {
             return Err(Reason::Full);
         }
-        if !self.listener.is_open() {
+        let was_alone = self.alone && self.accepted == 1;
+        if was_alone && !self.await_first() {
+            return Err(Reason::InputOver);
+        }
+        if was_alone || !self.listener.is_open() {
             if let Err(why) = self.open() {
                 return Err(Reason::NoSocket(why));
             }
@@ -205,9 +245,181 @@ impl<'a, L: Listens, I: Input + Drop, H: Host> Accepting<'a, L, I, H> {
             limits: self.limits,
             host: self.host,
         };
-        let (told, input, desk) = (&mut self.told, &mut self.input, &mut self.desk);
-        acceptor.accept_next(self.listener, told, input, desk, rows, self.retries)
+        acceptor.accept_next(
+            self.listener,
+            &mut self.told,
+            &mut self.input,
+            &mut self.goes_on,
+            &mut self.desk,
+            rows,
+            self.retries,
+        )
     }
+
+    /// Waits for the end of the first session, which is served alone, and until the input has had a
+    /// byte: the server is to go on. Nothing more is accepted until then. Returns whether it goes on: it
+    /// does not if the input ends first. Without an input no byte is awaited.
+    fn await_first(&mut self) -> bool
+        ensures same { (self.new.most ≡ self.old.most) × (self.new.accepted ≡ self.old.accepted)
+            × (self.new.reason ≡ self.old.reason) × (self.new.limits ≡ self.old.limits)
+            × (self.new.alone ≡ self.old.alone) × (self.new.listener ≡ self.old.listener) }
+        ensures input { is_some self.new.input ≡ is_some self.old.input }
+        ensures ended { result ≡ false → (is_some self.old.input ≡ true) × IsOver I.reads }
+    {
+        self.server.await_turn(true);
+        let is_over = await_byte(
+            &mut self.input,
+            &mut self.goes_on,
+            self.server,
+            self.accepted,
+        );
+        self.server.await_turn(false);
+        !is_over
+    }
+
+    /// Ends for this reason: closes the listener and the desk, and waits until the sessions are over or the
+    /// time for that is.
+    #[tactic(auto, using(crate::proofs::Came::came_quiet))]
+    fn end_for(&mut self, why: Reason)
+        ensures same { (self.new.most ≡ self.old.most) × (self.new.accepted ≡ self.old.accepted)
+            × (self.new.limits ≡ self.old.limits) × (self.new.alone ≡ self.old.alone) }
+        ensures input { is_some self.new.input ≡ is_some self.old.input }
+        ensures reason { self.new.reason ≡ Some why }
+        ensures last { self.new.has_last ≡ true → self.old.alone ≡ true }
+        ensures told { L.accepted self.new.listener.now ≡ L.accepted self.old.listener.now }
+        ensures came { Came L.steps self.old.listener.now [] self.new.listener.now }
+        ensures same_reference { self.new.listener.ghost_name ≡ self.old.listener.ghost_name }
+    {
+        let closes_idle = why.is_input_over();
+        self.reason = Some(why);
+        self.has_last = self.may_have_last();
+        self.listener.close();
+        self.desk = Desk::closed();
+        if self.server.drain(self.accepted, closes_idle) {
+            self.host.note(Notice::Cut);
+        }
+    }
+
+    /// Returns whether there may be last sessions that are served alone: there was a first one, and the
+    /// server went on after it.
+    fn may_have_last(&self) -> bool
+        ensures { result ≡ true → self.now.alone ≡ true }
+    {
+        self.alone && self.goes_on
+    }
+
+    /// Accepts the next of the last sessions, which are served alone, once all sessions before it are
+    /// over and what they held is back. There is none if there are to be no last sessions, if no queue
+    /// has a message after one of them, or if no client connects in time; else there is one more.
+    #[tactic(auto, using(sysv_engine::proofs::Looking::looks_stay, crate::proofs::Came::came_on, crate::proofs::Came::came_once, crate::proofs::Came::came_quiet, crate::proofs::Came::came_still))]
+    fn accept_last<R: Wait>(&mut self, rows: &mut Rows<'_, R>) -> Option<SocketStream>
+        ensures gives { AcceptsLast L.accepted L.listens L.steps self.old result self.new }
+        ensures looks { Looks rows.old rows.new }
+    {
+        self.listener.close();
+        if !self.has_last || self.is_full() {
+            return None;
+        }
+        let is_back = self.server.await_over(self.accepted);
+        if self.had_last && is_back && !have_messages(rows) {
+            return None;
+        }
+        self.server.resume();
+        let Some(stream) = await_last(self.listener, self.limits) else {
+            self.listener.close();
+            self.host.note(Notice::NoLast);
+            return None;
+        };
+        self.accepted = self.accepted.saturating_add(1);
+        self.had_last = true;
+        Some(stream)
+    }
+}
+
+/// Waits until the sessions of this number of connections are over and the input has had a byte, at
+/// which `goes_on` is set. Returns whether the input has ended before.
+fn await_byte<I: Input>(
+    input: &mut Option<I>,
+    goes_on: &mut bool,
+    server: &ServerState,
+    accepted: u64,
+) -> bool
+    ensures input { is_some input.new ≡ is_some input.old }
+    ensures ended { result ≡ true → (is_some input.old ≡ true) × IsOver I.reads }
+{
+    *goes_on = *goes_on || input.is_none();
+    for _ in 0..u64::MAX {
+        if *goes_on && server.is_over(accepted) {
+            return false;
+        }
+        if hears(input, server) && has_ended(input, goes_on) {
+            return true;
+        }
+    }
+    false
+}
+
+/// Waits until the input can be read or a session is over. Returns whether the input can be read.
+fn hears<I: Input>(input: &Option<I>, server: &ServerState) -> bool {
+    let none = Event::readable(Watched::NONE);
+    let [input, doorbell] = [descriptor(input), server.doorbell()].map(Event::readable);
+    let ([input, is_rung, _], _) = await_any([input, doorbell, none], &Several::none(), None);
+    if is_rung {
+        server.hush();
+    }
+    input
+}
+
+/// Opens a listener for a last session, and accepts the connection of its client, who may be cut off
+/// under these limits. Returns `None` if the listener cannot be opened, if an accept fails and is not
+/// tried again, or if no client connects in time.
+#[tactic(auto, using(crate::proofs::Came::came_on, crate::proofs::Came::came_once, crate::proofs::Came::came_quiet, crate::proofs::Came::came_still))]
+fn await_last<L: Listens>(listener: &mut L, limits: Limits) -> Option<SocketStream>
+    ensures limits { IfSome result (λ stream. limits_of stream ≡ limits) }
+    ensures opened { IfSome result (λ _. L.listens listener.new ≡ true) }
+    ensures told { MatchOption result (L.accepted listener.new ≡ L.accepted listener.old)
+        (λ stream. L.accepted listener.new ≡ added (L.accepted listener.old) (stream ∷ [])) }
+    ensures came { MatchOption result (Came L.steps listener.old [] listener.new)
+        (λ stream. Came L.steps listener.old (stream ∷ []) listener.new) }
+{
+    if listener.open_alone().is_err() {
+        return None;
+    }
+    let mut listeners = Several::none();
+    listener.watch(u64::MAX, &mut listeners);
+    let deadline = Moment::now().plus_millis(LAST_MILLIS);
+    for _ in 0..u64::MAX {
+        let left = Moment::now().until(deadline);
+        let none = [Event::readable(Watched::NONE); 3];
+        let (_, has_come) = await_any(none, &listeners, Some(left));
+        if !has_come {
+            if left == 0 {
+                return None;
+            }
+            continue;
+        }
+        match listener.accept(u64::MAX, limits) {
+            Ok(stream) => return Some(stream),
+            Err(why) if is_passing(&why) => pause(HOLD_MILLIS),
+            Err(_) => return None,
+        }
+    }
+    None
+}
+
+/// Returns whether a queue has a message.
+#[tactic(auto, using(sysv_engine::proofs::Looking::looks_stay, sysv_engine::proofs::Looking::looks_on))]
+fn have_messages<R: Wait>(rows: &mut Rows<'_, R>) -> bool
+    ensures { Looks rows.old rows.new }
+{
+    for slot in 0..SLOTS as u32 {
+        if let Some(row) = rows.row(slot) {
+            if row.qnum > 0 {
+                return true;
+            }
+        }
+    }
+    false
 }
 
 impl<L: Listens, I: Input + Drop, H: Host> Arrivals<SocketStream> for Accepting<'_, L, I, H> {
@@ -215,11 +427,10 @@ impl<L: Listens, I: Input + Drop, H: Host> Arrivals<SocketStream> for Accepting<
 
     ghost gives = { Accepts L.accepted L.listens I.reads L.fails L.steps };
 
-    #[tactic(auto, using(sysv_engine::proofs::Looking::looks_stay, crate::proofs::Came::came_on, crate::proofs::Came::came_once, crate::proofs::Came::came_quiet, crate::proofs::Came::came_still))]
+    #[tactic(auto, using(sysv_engine::proofs::Looking::looks_on))]
     fn next<R: Wait>(&mut self, rows: &mut Rows<'_, R>) -> Option<SocketStream> {
         if self.reason.is_some() {
-            self.listener.close();
-            return None;
+            return self.accept_last(rows);
         }
         match self.accept(rows) {
             Ok(socket) => {
@@ -227,14 +438,8 @@ impl<L: Listens, I: Input + Drop, H: Host> Arrivals<SocketStream> for Accepting<
                 Some(socket)
             }
             Err(why) => {
-                let closes_idle = why.is_input_over();
-                self.reason = Some(why);
-                self.listener.close();
-                self.desk = Desk::closed();
-                if self.server.drain(self.accepted, closes_idle) {
-                    self.host.note(Notice::Cut);
-                }
-                None
+                self.end_for(why);
+                self.accept_last(rows)
             }
         }
     }
@@ -263,13 +468,14 @@ struct Arrived {
 impl<H: Host> Acceptor<'_, '_, H> {
     /// Waits for a connection and accepts it. Until it comes, serves the desk. If the server
     /// `retries`, an accept that fails for want of something is tried again; the host is told so,
-    /// and when it succeeds.
+    /// and when it succeeds. `goes_on` is set if the input has had a byte.
     #[tactic(auto, using(sysv_engine::proofs::Looking::looks_stay, sysv_engine::proofs::Looking::looks_on, crate::proofs::Came::came_on, crate::proofs::Came::came_once, crate::proofs::Came::came_quiet, crate::proofs::Came::came_still))]
     fn accept_next<L: Listens, I: Input, R: Wait>(
         &self,
         listener: &mut L,
         told: &mut bool,
         input: &mut Option<I>,
+        goes_on: &mut bool,
         desk: &mut Desk,
         rows: &mut Rows<'_, R>,
         retries: bool,
@@ -289,7 +495,7 @@ impl<H: Host> Acceptor<'_, '_, H> {
         for _ in 0..u64::MAX {
             let arrived = self.wait(listener, told, descriptor(input), desk);
             desk.go_on(arrived.reader, self.view, listener, rows);
-            if arrived.input && has_ended(input) {
+            if arrived.input && has_ended(input, goes_on) {
                 return Err(Reason::InputOver);
             }
             if !arrived.connection {
@@ -399,24 +605,29 @@ pub(crate) fn is_passing(why: &io::Error) -> bool {
 }
 
 /// Reads a piece of the input, which can be read and is dropped. Returns whether the input is at
-/// its end or cannot be read.
-fn has_ended<I: Input>(input: &mut Option<I>) -> bool
+/// its end or cannot be read. `goes_on` is set if it had a byte.
+fn has_ended<I: Input>(input: &mut Option<I>, goes_on: &mut bool) -> bool
     ensures input { is_some input.new ≡ is_some input.old }
     ensures ended { result ≡ true → (is_some input.old ≡ true) × IsOver I.reads }
 {
     match input {
-        Some(input) => is_over(input),
+        Some(input) => is_over(input, goes_on),
         None => false,
     }
 }
 
-/// Reads a piece of the input. Returns whether the input is at its end or cannot be read.
-fn is_over<I: Input>(input: &mut I) -> bool
+/// Reads a piece of the input. Returns whether the input is at its end or cannot be read. `goes_on` is
+/// set if it had a byte.
+fn is_over<I: Input>(input: &mut I, goes_on: &mut bool) -> bool
     ensures { result ≡ true → IsOver I.reads }
 {
     let mut piece = [0; INPUT_BYTES];
     match input.read(&mut piece) {
-        Ok(count) => count == 0,
+        Ok(0) => true,
+        Ok(_) => {
+            *goes_on = true;
+            false
+        }
         Err(why) => why.kind() != ErrorKind::Interrupted,
     }
 }

@@ -1,5 +1,5 @@
 //! Several sockets that connections are accepted from.
-ghost use Rattle.std.specs.Prelude.{◌≡◌, ◌<◌, ◌+◌, ◌⊎◌, ◌||◌, IfErr, IfOk, List, MatchResult, None, Some, drop, false, length, pos, take, true, vec_len};
+ghost use Rattle.std.specs.Prelude.{◌≡◌, ◌<◌, ◌+◌, ◌⊎◌, ◌||◌, ℕ, IfErr, IfOk, List, MatchResult, None, OnErr, OnOk, Some, drop, false, length, min, pos, take, true, vec_len};
 ghost use Rattle.std.specs.IoError.{raw_os_error};
 ghost use Rattle.std.specs.List.{list_any};
 ghost use Rattle.sysv_seats.specs.Untold.{limits_of};
@@ -18,21 +18,41 @@ use sysv_system::{EAGAIN, Several};
 ///
 /// If an accept at a socket fails and is not tried again, only that socket is closed, unless it is the
 /// last one that is open.
+///
+/// The last socket may be one at which sessions are served alone: it is opened before the others, and
+/// again after them.
 #[derive(Drop)]
 pub struct Doors<L, H> {
     sockets: Vec<L>,
+    /// The number of the sockets that are opened together: all of them but the one at which sessions are
+    /// served alone.
+    common: usize,
     /// The number of the socket at which the next accept is tried first.
     next: usize,
     host: H,
 }
 
 impl<L: Listens, H: Host> Doors<L, H> {
-    /// Creates the doors with these sockets, of which there are at most 65. Their numbers are their
+    /// Creates the doors with these sockets, of which there are at most 66. Their numbers are their
     /// places in the vector.
     pub fn new(sockets: Vec<L>, host: H) -> Doors<L, H>
         ensures { result.sockets ≡ sockets }
     {
         Doors {
+            common: sockets.len(),
+            sockets,
+            next: 0,
+            host,
+        }
+    }
+
+    /// Creates the doors with these sockets like `new`, of which the last one is that at which sessions
+    /// are served alone.
+    pub fn with_alone(sockets: Vec<L>, host: H) -> Doors<L, H>
+        ensures { result.sockets ≡ sockets }
+    {
+        Doors {
+            common: sockets.len().saturating_sub(1),
             sockets,
             next: 0,
             host,
@@ -70,7 +90,13 @@ impl<L: Listens, H: Host> Doors<L, H> {
     fn open_at(&mut self, number: usize) -> io::Result<()>
         requires { number < length self.old.sockets.items }
         ensures came { OneCame L.steps self.old.sockets.items None self.new.sockets.items }
+        ensures ok { OnOk result (list_any L.listens self.new.sockets.items ≡ true) }
+        ensures err { OnErr result (list_any L.listens self.new.sockets.items
+            ≡ list_any L.listens self.old.sockets.items) }
         ensures length { vec_len self.new.sockets ≡ vec_len self.old.sockets }
+        ensures common { self.new.common ≡ self.old.common }
+        ensures rest { (from : ℕ) → number < from → drop from self.new.sockets.items
+            ≡ drop from self.old.sockets.items }
     {
         self.sockets[number].open()
     }
@@ -86,6 +112,8 @@ impl<L: Listens, H: Host> Doors<L, H> {
         ensures closed { list_any L.listens (take (number + 1) self.new.sockets.items)
             ≡ list_any L.listens (take number self.old.sockets.items) }
         ensures length { vec_len self.new.sockets ≡ vec_len self.old.sockets }
+        ensures rest { (from : ℕ) → number < from → drop from self.new.sockets.items
+            ≡ drop from self.old.sockets.items }
     {
         self.sockets[number].close();
     }
@@ -140,15 +168,39 @@ impl<L: Listens, H: Host> Doors<L, H> {
         }
     }
 
-    /// Opens all sockets, or returns why one of them could not be opened.
+    /// Returns the number of the sockets that are opened together.
+    fn common(&self) -> usize
+        ensures { result ≡ min self.now.common (vec_len self.now.sockets) }
+    {
+        self.common.min(self.sockets.len())
+    }
+
+    /// Opens all sockets that are opened together, or returns why one of them could not be opened.
     #[tactic(auto, using(crate::proofs::Came::none_came, crate::proofs::Came::one_after))]
     fn open_all(&mut self) -> io::Result<()>
         ensures came { OneCame L.steps self.old.sockets.items None self.new.sockets.items }
+        ensures length { vec_len self.new.sockets ≡ vec_len self.old.sockets }
+        ensures common { self.new.common ≡ self.old.common }
+        ensures rest { drop (min self.old.common (vec_len self.old.sockets)) self.new.sockets.items
+            ≡ drop (min self.old.common (vec_len self.old.sockets)) self.old.sockets.items }
     {
-        for number in 0..self.sockets.len() {
+        for number in 0..self.common() {
             self.open_at(number)?;
         }
         Ok(())
+    }
+
+    /// Closes all sockets that are opened together.
+    #[tactic(auto, using(crate::proofs::Came::none_came, crate::proofs::Came::one_after))]
+    fn close_common(&mut self)
+        ensures came { OneCame L.steps self.old.sockets.items None self.new.sockets.items }
+        ensures open { list_any L.listens self.new.sockets.items
+            ≡ list_any L.listens (drop (min self.old.common (vec_len self.old.sockets))
+            self.old.sockets.items) }
+    {
+        for number in 0..self.common() {
+            self.close_at(number);
+        }
     }
 }
 
@@ -167,12 +219,12 @@ impl<L: Listens, H: Host> Listens for Doors<L, H> {
 
     #[tactic(auto, using(crate::proofs::Came::none_came, crate::proofs::Came::one_after))]
     fn open(&mut self) -> io::Result<()> {
-        if self.is_open() {
+        if any_open(&self.sockets[..self.common()]) {
             return Ok(());
         }
         let opened = self.open_all();
         if opened.is_err() {
-            self.close_all();
+            self.close_common();
             return opened;
         }
         if self.is_open() {
@@ -180,6 +232,15 @@ impl<L: Listens, H: Host> Listens for Doors<L, H> {
         } else {
             Err(io::Error::from(ErrorKind::NotConnected))
         }
+    }
+
+    #[tactic(auto, using(crate::proofs::Came::none_came, crate::proofs::Came::one_after))]
+    fn open_alone(&mut self) -> io::Result<()> {
+        let number = self.common;
+        if number >= self.sockets.len() {
+            return Err(io::Error::from(ErrorKind::NotConnected));
+        }
+        self.open_at(number)
     }
 
     fn watch(&self, room: u64, listeners: &mut Several) -> bool {

@@ -7,7 +7,9 @@ use std::os::unix::net::UnixListener;
 /// The program that a server runs in: it opens the sockets, and learns what happens to the server.
 pub trait Host {
     /// Opens the socket of this number, from which connections are accepted. The server calls it once
-    /// for each of its sockets, in order from 0, when it has its memory and its threads.
+    /// for each of its sockets, in order from 0, when it has its memory and its threads. The socket at
+    /// which sessions are served alone has the number after these. It is opened before the others, and
+    /// again after them, once for each last session.
     fn listen(&self, number: usize) -> io::Result<UnixListener>;
 
     /// Opens the socket on which the state of the server is shown, if there is one. The server
@@ -60,6 +62,9 @@ pub enum Notice {
     NoMemory,
     /// The time for an orderly end is over, and the sessions that are left are cut off.
     Cut,
+    /// There is no further last session: its socket could not be opened, or no client has connected
+    /// in time.
+    NoLast,
 }
 
 /// Why a server accepted no more connections.

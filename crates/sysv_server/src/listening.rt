@@ -1,5 +1,5 @@
 //! Sockets that connections are accepted from, and inputs whose end ends a server.
-ghost use Rattle.std.specs.Prelude.{◌≡◌, ℕ, Bool, true, false, is_some, List, ◌∷◌, [], Option, None, Some, IfErr, IfOk, MatchResult, OnOk, OnErr, Result, length};
+ghost use Rattle.std.specs.Prelude.{◌≡◌, ◌⊎◌, ℕ, Bool, true, false, is_some, List, ◌∷◌, [], Option, None, Some, IfErr, IfOk, MatchResult, OnOk, OnErr, Result, length};
 ghost use Rattle.std.specs.declared.io.Error.{Error};
 ghost use Rattle.sysv_seats.specs.declared.socket_stream.SocketStream.{SocketStream};
 ghost use Rattle.sysv_seats.specs.Untold.{callers_of, limits_of};
@@ -52,6 +52,23 @@ pub trait Listens {
         ensures err { OnErr result (listens self.new ≡ listens self.old) }
         ensures same { accepted self.new ≡ accepted self.old }
         ensures step { steps self.old None self.new };
+
+    /// Opens the part of the socket at which sessions are served alone. If its terms have `alone`, the
+    /// server calls it before the first accept, before it calls `open`, and after the others, each time
+    /// when the socket is not open.
+    ///
+    /// # Errors
+    ///
+    /// - The system's error if that part cannot be opened, and an error if there is none. It stays
+    ///   closed.
+    fn open_alone(&mut self) -> io::Result<()>
+        ensures ok { OnOk result (listens self.new ≡ true) }
+        ensures err { OnErr result (listens self.new ≡ listens self.old) }
+        ensures same { accepted self.new ≡ accepted self.old }
+        ensures step { (self.new ≡ self.old) ⊎ steps self.old None self.new }
+    {
+        Err(io::Error::from(ErrorKind::Unsupported))
+    }
 
     /// Adds what can be read when a client waits to be accepted that is let in while there is `room` for
     /// so many more. Returns whether no client is kept out: one of several sockets takes no more clients

@@ -3,7 +3,7 @@ ghost use Rattle.std.specs.Prelude.{◌≡◌, ◌≤◌, false, IfErr, IfOk, If
 ghost use Rattle.sysv_model.specs.declared.limits.TheConstants.{MIN_BLOCKS, MAX_BLOCKS};
 ghost use Rattle.sysv_workers.specs.declared.workers.TheConstants.{MAX_WORKERS};
 ghost use Rattle.sysv_engine.specs.Added.{IsBalanced};
-ghost use Rattle.sysv_server.specs.Serving.{EndsFrom, EndsOn, FailsFrom, FailsOn, HasCause, HasReason, RanOn, ServesPlainly, limits_in};
+ghost use Rattle.sysv_server.specs.Serving.{EndsFrom, EndsOn, FailsFrom, FailsOn, HasCause, HasReason, RanOn, ServesPlainly, limits_in, looks_in};
 ghost use Rattle.sysv_server.specs.declared.serving.TheConstants.{MAX_CLIENTS};
 
 use crate::accepting::Accepting;
@@ -73,6 +73,7 @@ pub fn serve_on<R: Threads + Wait + Net + Sync>(
         stats: false,
         hold: false,
         sockets: 1,
+        alone: false,
     };
     let mut lent = Lent::new(listener);
     let mut reason = None;
@@ -104,8 +105,14 @@ pub fn serve_on<R: Threads + Wait + Net + Sync>(
 /// sessions were run.
 ///
 /// With `terms.stats` the host also opens a socket for readers, to whom the server shows its state
-/// between two accepts. No session makes it wait, and no reader makes a session wait. Only then the
-/// rows of the queues are read.
+/// between two accepts. No session makes it wait, and no reader makes a session wait.
+///
+/// With `terms.alone`, of which only `serve_from` with `Doors` makes use, the server serves one session
+/// before all others, and opens its other sockets only once it is over and the input, if there is
+/// one, has a byte. After the others it serves one session more, once what sessions held is back, and
+/// a further one as long as a queue has a message then. If the input ends before that byte, or no
+/// client connects for 10 seconds, there is no such last session. These sessions count like others.
+/// The rows of the queues are read only with `terms.stats` or `terms.alone`.
 ///
 /// # Errors
 ///
@@ -127,13 +134,13 @@ pub fn serve_listener<I: Read + AsRawFd + Drop, H: Host + Drop, R: Threads + Wai
     requires blocks { (MIN_BLOCKS ≤ terms.blocks) × (terms.blocks ≤ MAX_BLOCKS) }
     requires workers { (1 ≤ terms.workers) × (terms.workers ≤ MAX_WORKERS) }
     requires at_once { (1 ≤ terms.at_once) × (terms.at_once ≤ MAX_CLIENTS) }
-    ensures ok { IfOk result (λ ended. EndsOn terms.stats terms.blocks terms.at_once terms.sessions
+    ensures ok { IfOk result (λ ended. EndsOn (looks_in terms) terms.blocks terms.at_once terms.sessions
         (limits_in terms) ended) }
     ensures exact { IfOk result (λ ended.
-        HasReason (is_some input) terms.sessions ended.sums.sessions reason.new) }
+        HasReason terms.alone (is_some input) terms.sessions ended.sums.sessions reason.new) }
     ensures balance { IfOk result (λ ended. IsBalanced ended.sums) }
     ensures setting { IfOk result (λ ended. RanOn terms ended.setting) }
-    ensures err { IfErr result (FailsOn terms.stats terms.blocks terms.at_once terms.sessions) }
+    ensures err { IfErr result (FailsOn (looks_in terms) terms.blocks terms.at_once terms.sessions) }
 {
     let mut socket = Hosted::new(&host, 0, Callers::Anyone, None);
     let input = input_of(input);
@@ -168,14 +175,14 @@ pub fn serve_from<L: Listens, I: Input + Drop, H: Host, R: Threads + Wait + Net 
     requires blocks { (MIN_BLOCKS ≤ terms.blocks) × (terms.blocks ≤ MAX_BLOCKS) }
     requires workers { (1 ≤ terms.workers) × (terms.workers ≤ MAX_WORKERS) }
     requires at_once { (1 ≤ terms.at_once) × (terms.at_once ≤ MAX_CLIENTS) }
-    ensures ok { IfOk result (λ ended. EndsFrom L.accepted L.listens L.steps terms.stats
+    ensures ok { IfOk result (λ ended. EndsFrom L.accepted L.listens L.steps (looks_in terms)
         terms.blocks terms.at_once terms.sessions (limits_in terms) listener.old ended
         listener.new) }
-    ensures exact { IfOk result (λ ended. HasCause I.reads L.fails (is_some input)
+    ensures exact { IfOk result (λ ended. HasCause I.reads L.fails terms.alone (is_some input)
         terms.sessions ended.sums.sessions reason.new) }
     ensures balance { IfOk result (λ ended. IsBalanced ended.sums) }
     ensures setting { IfOk result (λ ended. RanOn terms ended.setting) }
-    ensures err { IfErr result (λ why. FailsFrom L.accepted terms.stats terms.blocks terms.at_once
+    ensures err { IfErr result (λ why. FailsFrom L.accepted (looks_in terms) terms.blocks terms.at_once
         terms.sessions listener.old why listener.new) }
 {
     run(rt, alloc, listener, true, host, input, terms, reason)
@@ -196,14 +203,14 @@ fn run<L: Listens, I: Input + Drop, H: Host, R: Threads + Wait + Net + Sync>(
     requires blocks { (MIN_BLOCKS ≤ terms.blocks) × (terms.blocks ≤ MAX_BLOCKS) }
     requires workers { (1 ≤ terms.workers) × (terms.workers ≤ MAX_WORKERS) }
     requires at_once { (1 ≤ terms.at_once) × (terms.at_once ≤ MAX_CLIENTS) }
-    ensures ok { IfOk result (λ ended. EndsFrom L.accepted L.listens L.steps terms.stats
+    ensures ok { IfOk result (λ ended. EndsFrom L.accepted L.listens L.steps (looks_in terms)
         terms.blocks terms.at_once terms.sessions (limits_in terms) listener.old ended
         listener.new) }
-    ensures exact { IfOk result (λ ended. HasCause I.reads L.fails (is_some input)
+    ensures exact { IfOk result (λ ended. HasCause I.reads L.fails terms.alone (is_some input)
         terms.sessions ended.sums.sessions reason.new) }
     ensures balance { IfOk result (λ ended. IsBalanced ended.sums) }
     ensures setting { IfOk result (λ ended. RanOn terms ended.setting) }
-    ensures err { IfErr result (λ why. FailsFrom L.accepted terms.stats terms.blocks terms.at_once
+    ensures err { IfErr result (λ why. FailsFrom L.accepted (looks_in terms) terms.blocks terms.at_once
         terms.sessions listener.old why listener.new) }
 {
     let Terms {
@@ -216,6 +223,7 @@ fn run<L: Listens, I: Input + Drop, H: Host, R: Threads + Wait + Net + Sync>(
         stats,
         hold: _,
         sockets: _,
+        alone,
     } = terms;
     *reason = None;
     let Some((server, rests)) = opened_for(alloc, &terms) else {
@@ -229,7 +237,7 @@ fn run<L: Listens, I: Input + Drop, H: Host, R: Threads + Wait + Net + Sync>(
     };
     let limits = Limits::of_seconds(patience.idle, patience.stall, drain);
     let mut source = Accepting::new(
-        alloc, listener, limits, retries, input, sessions, blocks, stats, &server, host,
+        alloc, listener, limits, retries, input, sessions, blocks, stats, alone, &server, host,
     );
     let outcome = serve_arrivals(
         rt,
@@ -239,7 +247,7 @@ fn run<L: Listens, I: Input + Drop, H: Host, R: Threads + Wait + Net + Sync>(
         blocks,
         watches,
         &server,
-        stats,
+        terms.looks(),
     );
     let (left, why) = source.into_parts();
     given_back(left);

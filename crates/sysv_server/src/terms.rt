@@ -1,4 +1,6 @@
 //! The terms of a server.
+ghost use Rattle.std.specs.Prelude.{◌≡◌};
+ghost use Rattle.sysv_server.specs.Serving.{looks_in};
 
 use sysv_engine::Patience;
 
@@ -22,6 +24,19 @@ pub struct Terms {
     pub stats: bool,
     /// Whether clients may hold messages: then sessions of version 3 are served.
     pub hold: bool,
-    /// The number of sockets at which connections are accepted, 1 to 65.
+    /// The number of sockets at which connections are accepted, 1 to 66.
     pub sockets: u32,
+    /// Whether a session is served alone before the others, and one after them. Then one of the
+    /// sockets is for these.
+    pub alone: bool,
+}
+
+impl Terms {
+    /// Returns whether the rows of the queues are read while a server on these terms runs: to show its
+    /// state, or before it ends without a further session that is served alone.
+    pub(crate) fn looks(&self) -> bool
+        ensures { result ≡ looks_in self.now }
+    {
+        self.stats || self.alone
+    }
 }

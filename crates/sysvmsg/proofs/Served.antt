@@ -10,37 +10,37 @@ use Rattle.sysv_seats.specs.declared.socket_stream.SocketStream.{SocketStream}
 use Rattle.sysv_server.specs.declared.host.Reason.{Reason}
 use Rattle.sysv_server.specs.declared.host.Reason.TheVariants.{Full, InputOver, NoSocket, Accept}
 use Rattle.sysv_server.specs.declared.terms.Terms.{Terms}
-use Rattle.sysv_server.specs.Serving.{EndsFrom, FailsFrom, HasCause, HasReason, limits_in}
+use Rattle.sysv_server.specs.Serving.{EndsFrom, FailsFrom, HasCause, HasReason, limits_in, looks_in}
 use Rattle.sysvmsg.specs.Ends.{EndsWithin, FailsWithin, HasServedAll, HasServedFrom, places_of}
 
 module _ {L I : Type 0} (told : L → Option (List SocketStream)) (listens : L → Bool)
     (reads : I → ℕ → Result ℕ Error → I → Type 0) (fails : L → Error → L → Type 0)
     (steps : L → Option SocketStream → L → Type 0) where
   ends : (limit : Option ℕ) (terms : Terms) (before now : L) (outcome : Result Ended ServeFault) →
-      IfOk outcome (λ ended. EndsFrom told listens steps terms.stats terms.blocks (places_of limit terms) terms.sessions
-      (limits_in terms) before ended now) → IfOk outcome (EndsWithin limit terms)
+      IfOk outcome (λ ended. EndsFrom told listens steps (looks_in terms) terms.blocks (places_of limit terms)
+      terms.sessions (limits_in terms) before ended now) → IfOk outcome (EndsWithin limit terms)
   ends limit terms before now (Ok ended) from = from.ends
   ends limit terms before now (Err why) from = from
 
   failed : (limit : Option ℕ) (terms : Terms) (before now : L) (outcome : Result Ended ServeFault) →
-      IfErr outcome (λ why. FailsFrom told terms.stats terms.blocks (places_of limit terms) terms.sessions before why
-      now) → IfErr outcome (FailsWithin limit terms)
+      IfErr outcome (λ why. FailsFrom told (looks_in terms) terms.blocks (places_of limit terms) terms.sessions
+      before why now) → IfErr outcome (FailsWithin limit terms)
   failed limit terms before now (Ok ended) from = from
   failed limit terms before now (Err why) from = from.0
 
-  has_reason : (has_input : Bool) (most sessions : ℕ) (reason : Option Reason) →
-      HasCause reads fails has_input most sessions reason → HasReason has_input most sessions reason
-  has_reason has_input most sessions None cause = cause
-  has_reason has_input most sessions (Some Full) cause = cause
-  has_reason has_input most sessions (Some InputOver) cause = cause.0
-  has_reason has_input most sessions (Some (NoSocket why)) cause = cause
-  has_reason has_input most sessions (Some (Accept why)) cause = tt
+  has_reason : (alone has_input : Bool) (most sessions : ℕ) (reason : Option Reason) →
+      HasCause reads fails alone has_input most sessions reason → HasReason alone has_input most sessions reason
+  has_reason alone has_input most sessions None cause = cause
+  has_reason alone has_input most sessions (Some Full) cause = cause
+  has_reason alone has_input most sessions (Some InputOver) cause = cause.0
+  has_reason alone has_input most sessions (Some (NoSocket why)) cause = cause
+  has_reason alone has_input most sessions (Some (Accept why)) cause = tt
 
-  meant : (has_input : Bool) (most : ℕ) (reason : Option Reason) (outcome : Result Ended ServeFault) →
-      IfOk outcome (λ ended. HasCause reads fails has_input most ended.sums.sessions reason) →
-      IfOk outcome (λ ended. HasReason has_input most ended.sums.sessions reason)
-  meant has_input most reason (Ok ended) cause = has_reason has_input most ended.sums.sessions reason cause
-  meant has_input most reason (Err why) cause = cause
+  meant : (alone has_input : Bool) (most : ℕ) (reason : Option Reason) (outcome : Result Ended ServeFault) →
+      IfOk outcome (λ ended. HasCause reads fails alone has_input most ended.sums.sessions reason) →
+      IfOk outcome (λ ended. HasReason alone has_input most ended.sums.sessions reason)
+  meant alone has_input most reason (Ok ended) cause = has_reason alone has_input most ended.sums.sessions reason cause
+  meant alone has_input most reason (Err why) cause = cause
 
   pub told_less : (limit : Option ℕ) (has_input : Bool) (terms : Terms) (exit : ExitCode)
       (shown after : Option (List ℕ)) (before now : L) →
@@ -50,7 +50,7 @@ module _ {L I : Type 0} (told : L → Option (List SocketStream)) (listens : L �
     outcome = served.outcome;
     ends = ends limit terms before now served.outcome.ended served.ends;
     setting = served.setting;
-    meant = meant has_input terms.sessions served.outcome.reason served.outcome.ended served.meant;
+    meant = meant terms.alone has_input terms.sessions served.outcome.reason served.outcome.ended served.meant;
     fails = failed limit terms before now served.outcome.ended served.failed;
     reports = served.reports;
   }

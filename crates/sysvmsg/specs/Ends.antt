@@ -7,7 +7,7 @@ use Rattle.std.specs.Fmt.{decimal}
 use Rattle.std.specs.Io.KnownBytes.{Appends}
 use Rattle.sysv_connect.specs.Ends.{Succeeds}
 use Rattle.sysv_seats.specs.declared.socket_stream.SocketStream.{SocketStream}
-use Rattle.sysv_server.specs.Serving.{EndsFrom, EndsOn, FailsFrom, FailsOn, HasCause, HasReason, limits_in}
+use Rattle.sysv_server.specs.Serving.{EndsFrom, EndsOn, FailsFrom, FailsOn, HasCause, HasReason, limits_in, looks_in}
 use Rattle.sysv_engine.specs.declared.fates.Fates.{Fates}
 use Rattle.sysv_engine.specs.declared.fault.ServeFault.{ServeFault}
 use Rattle.sysv_engine.specs.declared.fault.ServeFault.TheVariants as faults
@@ -76,11 +76,11 @@ places_of limit terms = places_within limit terms.stats terms.workers terms.sock
 -- limits that the terms have.
 abbrev pub EndsWithin : Option ℕ → Terms → Ended → Type 0
 EndsWithin limit terms ended =
-    EndsOn terms.stats terms.blocks (places_of limit terms) terms.sessions (limits_in terms) ended
+    EndsOn (looks_in terms) terms.blocks (places_of limit terms) terms.sessions (limits_in terms) ended
 
 -- A server on these terms ended by this fault, under this limit of open files.
 abbrev pub FailsWithin : Option ℕ → Terms → ServeFault → Type 0
-FailsWithin limit terms why = FailsOn terms.stats terms.blocks (places_of limit terms) terms.sessions why
+FailsWithin limit terms why = FailsOn (looks_in terms) terms.blocks (places_of limit terms) terms.sessions why
 
 -- A server on these terms ran with as many workers as they have, or as many as it had places under this
 -- limit of open files, and with the limits of time that they have. Its clients might hold messages if the terms say so.
@@ -105,7 +105,8 @@ pub record HasServedAll (limit : Option ℕ) (has_input : Bool) (terms : Terms) 
   pub outcome : Outcome
   pub ends : IfOk outcome.ended (EndsWithin limit terms)
   pub setting : IfOk outcome.ended (λ ended. RanWithin limit terms ended.setting)
-  pub meant : IfOk outcome.ended (λ ended. HasReason has_input terms.sessions ended.sums.sessions outcome.reason)
+  pub meant : IfOk outcome.ended (λ ended. HasReason terms.alone has_input terms.sessions ended.sums.sessions
+      outcome.reason)
   pub fails : IfErr outcome.ended (FailsWithin limit terms)
   pub reports : Reports exit has_input outcome shown after
 
@@ -118,11 +119,11 @@ module _ {L I : Type 0} (told : L → Option (List SocketStream)) (listens : L �
   pub record HasServedFrom (limit : Option ℕ) (has_input : Bool) (terms : Terms) (exit : ExitCode)
       (shown after : Option (List ℕ)) (before now : L) : Type 0 where
     pub outcome : Outcome
-    pub ends : IfOk outcome.ended (λ ended. EndsFrom told listens steps terms.stats terms.blocks (places_of limit terms)
-        terms.sessions (limits_in terms) before ended now)
+    pub ends : IfOk outcome.ended (λ ended. EndsFrom told listens steps (looks_in terms) terms.blocks
+        (places_of limit terms) terms.sessions (limits_in terms) before ended now)
     pub setting : IfOk outcome.ended (λ ended. RanWithin limit terms ended.setting)
-    pub meant : IfOk outcome.ended (λ ended. HasCause reads fails has_input terms.sessions ended.sums.sessions
-        outcome.reason)
-    pub failed : IfErr outcome.ended (λ why. FailsFrom told terms.stats terms.blocks (places_of limit terms)
+    pub meant : IfOk outcome.ended (λ ended. HasCause reads fails terms.alone has_input terms.sessions
+        ended.sums.sessions outcome.reason)
+    pub failed : IfErr outcome.ended (λ why. FailsFrom told (looks_in terms) terms.blocks (places_of limit terms)
         terms.sessions before why now)
     pub reports : Reports exit has_input outcome shown after

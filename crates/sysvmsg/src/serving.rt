@@ -4,7 +4,7 @@ ghost use Rattle.std.specs.Fmt.{decimal};
 ghost use Rattle.std.specs.Io.KnownBytes.{Appends};
 ghost use Rattle.sysv_connect.specs.Ends.{Fails, SucceedsOnlyIf};
 ghost use Rattle.sysv_options.specs.Asked.{HasLimits};
-ghost use Rattle.sysv_server.specs.Serving.{EndsFrom, FailsFrom, HasCause, limits_in};
+ghost use Rattle.sysv_server.specs.Serving.{EndsFrom, FailsFrom, HasCause, limits_in, looks_in};
 ghost use Rattle.sysvmsg.specs.Ends.{HasServed, HasServedAll, HasServedFrom, RanWithin, places_of};
 ghost use Rattle.sysvmsg.specs.Ends.{fates_of, line_of, sums_line, words_of};
 
@@ -29,6 +29,9 @@ use sysv_server::{
     Reason, ServeFault, Sums, Terms, serve_from,
 };
 use sysv_system::{Event, Watched, await_event};
+
+/// The callers at the socket at which sessions are served alone.
+const ROOT: Callers = Callers::Only { uid: 0, gid: 0 };
 
 /// What can serve on the sockets of the system. Only this module has its runtime, and uses it for one
 /// server.
@@ -77,7 +80,8 @@ pub(crate) fn serve_on_sockets<
     serve_at_doors(rt, &host, sockets, input, serving, limit, screen)
 }
 
-/// Serves on these sockets of a host in turn, like `serve_at`.
+/// Serves on these sockets of a host in turn, like `serve_at`. If sessions are served alone, that is at
+/// the last one.
 fn serve_at_doors<
     H: Host + Copy,
     I: Input + Drop,
@@ -96,25 +100,34 @@ fn serve_at_doors<
     ensures { HasServedAll limit serving.now.until_eof serving.now.terms result
         (S.contents screen.old) (S.contents screen.new) }
 {
-    let mut listener = Doors::new(sockets, host);
+    let mut listener = if serving.alone.is_some() {
+        Doors::with_alone(sockets, host)
+    } else {
+        Doors::new(sockets, host)
+    };
     serve_at(rt, &mut listener, &host, input, serving, limit, screen)
 }
 
-/// Returns the sockets of a server, which its host has not opened yet, in order. Returns `None` if
-/// memory is refused.
+/// Returns the sockets of a server, which its host has not opened yet, in order, and then the one at
+/// which sessions are served alone, if there is one: it lets in user 0. Returns `None` if memory is
+/// refused.
 fn sockets_of<H: Copy>(alloc: Global, host: H, serving: &Serving<'_>) -> Option<Vec<Hosted<H>>> {
-    let mut sockets = Vec::with_capacity(alloc, serving.count()).ok()?;
-    for number in 0..serving.count() {
+    let count = serving.count();
+    let mut sockets = Vec::with_capacity(alloc, count.saturating_add(1)).ok()?;
+    for number in 0..count {
         let Some(socket) = serving.socket(number) else {
             continue;
         };
-        let attendance = if serving.count() > 1 {
+        let attendance = if count > 1 {
             Some(Attendance::try_new(alloc)?)
         } else {
             None
         };
         let socket = Hosted::new(host, number, socket.callers, attendance);
         sockets.push(socket).ok()?;
+    }
+    if serving.alone.is_some() {
+        sockets.push(Hosted::new(host, count, ROOT, None)).ok()?;
     }
     Some(sockets)
 }
@@ -179,10 +192,10 @@ impl<R: Eprint> Reporter<'_, R> {
 
 impl<R: Files + Net + Eprint + AllocGlobal + Clone + Drop> Host for Reporter<'_, R> {
     /// Opens the socket of this number, and reports once all are open that the server listens, or why
-    /// it does not.
+    /// it does not. The number after these is that of the socket at which sessions are served alone.
     fn listen(&self, number: usize) -> io::Result<UnixListener> {
         let Some(socket) = self.serving.socket(number) else {
-            return Err(io::Error::from(ErrorKind::NotFound));
+            return self.listen_alone();
         };
         match listen_at(self.rt, &socket.file) {
             Ok(listener) => {
@@ -226,10 +239,28 @@ impl<R: Files + Net + Eprint + AllocGlobal + Clone + Drop> Host for Reporter<'_,
             Notice::NoMemory => {
                 let _ = eprintln!(*rt; "sysvmsg: no memory for a session");
             }
+            Notice::NoLast => {
+                let _ = eprintln!(*rt; "sysvmsg: no further session is served alone");
+            }
             Notice::Cut => {
                 let _ = eprintln!(*rt; "sysvmsg: the sessions that are left are cut off");
             }
         }
+    }
+}
+
+impl<R: Files + Net + Eprint + AllocGlobal + Clone + Drop> Reporter<'_, R> {
+    /// Opens the socket at which sessions are served alone, and reports that.
+    fn listen_alone(&self) -> io::Result<UnixListener> {
+        let Some(file) = self.serving.alone else {
+            return Err(io::Error::from(ErrorKind::NotFound));
+        };
+        let listener = listen_at(self.rt, &file)?;
+        if takes_line() {
+            let path = file.path;
+            let _ = eprintln!(*self.rt; "sysvmsg: serving {path} alone");
+        }
+        Ok(listener)
     }
 }
 
@@ -299,13 +330,13 @@ fn run_server<L: Listens, H: Host, I: Input + Drop, R: Net + Threads + Wait + Sy
     reason: &mut Option<Reason>,
 ) -> Result<Ended, ServeFault>
     requires { HasLimits serving.now }
-    ensures ends { IfOk result (λ ended. EndsFrom L.accepted L.listens L.steps serving.now.terms.stats
-        serving.now.terms.blocks (places_of limit serving.now.terms) serving.now.terms.sessions
-        (limits_in serving.now.terms) listener.old ended listener.new) }
+    ensures ends { IfOk result (λ ended. EndsFrom L.accepted L.listens L.steps
+        (looks_in serving.now.terms) serving.now.terms.blocks (places_of limit serving.now.terms)
+        serving.now.terms.sessions (limits_in serving.now.terms) listener.old ended listener.new) }
     ensures setting { IfOk result (λ ended. RanWithin limit serving.now.terms ended.setting) }
-    ensures meant { IfOk result (λ ended. HasCause I.reads L.fails serving.now.until_eof
-        serving.now.terms.sessions ended.sums.sessions reason.new) }
-    ensures fails { IfErr result (λ why. FailsFrom L.accepted serving.now.terms.stats
+    ensures meant { IfOk result (λ ended. HasCause I.reads L.fails serving.now.terms.alone
+        serving.now.until_eof serving.now.terms.sessions ended.sums.sessions reason.new) }
+    ensures fails { IfErr result (λ why. FailsFrom L.accepted (looks_in serving.now.terms)
         serving.now.terms.blocks (places_of limit serving.now.terms) serving.now.terms.sessions
         listener.old why listener.new) }
 {

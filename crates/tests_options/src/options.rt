@@ -216,6 +216,7 @@ fn terms_with(sockets: u32) -> Terms {
         stats: true,
         hold: true,
         sockets,
+        alone: false,
     }
 }
 
@@ -230,9 +231,44 @@ fn a_server_is_requested(rt: HostRuntime) {
         others: Entrances::none(),
         no_main: false,
         stats: Some(file_at("./s")),
+        alone: None,
         terms: terms_with(1),
         until_eof: false,
     };
+    assert_asks(&rt, &words, Asked::Serve(serving));
+}
+
+#[test]
+fn sessions_that_are_served_alone_are_requested(rt: HostRuntime) {
+    let words = [
+        "sysvmsg",
+        "serve",
+        "./q",
+        "--mode",
+        "660",
+        "--blocks=128",
+        "--stats=./s",
+        "--drain=9",
+        "--hold",
+        "--until-eof",
+        "--alone",
+        "./a",
+        "--sessions=0",
+    ];
+    let mut serving = Serving {
+        file: file_at("./q"),
+        others: Entrances::none(),
+        no_main: false,
+        stats: Some(file_at("./s")),
+        alone: Some(SocketFile {
+            path: "./a",
+            mode: Some(0o600),
+            replace: true,
+        }),
+        terms: terms_with(2),
+        until_eof: true,
+    };
+    serving.terms.alone = true;
     assert_asks(&rt, &words, Asked::Serve(serving));
 }
 
@@ -274,6 +310,7 @@ fn sockets_for_users_are_requested(rt: HostRuntime) {
         others,
         no_main: true,
         stats: Some(file_at("./s")),
+        alone: None,
         terms: terms_with(2),
         until_eof: false,
     };
@@ -310,7 +347,7 @@ const LONG: &str =
     "012345678901234567890123456789012345678901234567890/0123456789012345678901234567890123456789012345678901";
 
 /// What each kind of error of a value says, with words that have it.
-const REFUSED: [(&[&str], &str); 21] = [
+const REFUSED: [(&[&str], &str); 26] = [
     (
         &["sysvmsg", "serve", "./q", "--as", "./a=1"],
         "--as takes SOCKET=UID:GID",
@@ -330,6 +367,33 @@ const REFUSED: [(&[&str], &str); 21] = [
     (
         &["sysvmsg", "serve", "./q", "--no-main"],
         "--no-main needs --as",
+    ),
+    (
+        &["sysvmsg", "serve", "./q", "--alone", "./a"],
+        "--alone needs --until-eof",
+    ),
+    (
+        &[
+            "sysvmsg",
+            "serve",
+            "./q",
+            "--alone=a",
+            "--until-eof",
+            "--sessions=1",
+        ],
+        "--alone needs --until-eof, and takes no --sessions",
+    ),
+    (
+        &["sysvmsg", "serve", "./q", "--until-eof", "--alone", "./q"],
+        "the SOCKET of --alone has 1 to 103 bytes, and is not PATH",
+    ),
+    (
+        &["sysvmsg", "serve", "./q", "--until-eof", "--alone", LONG],
+        "the SOCKET of --alone has 1 to 103 bytes",
+    ),
+    (
+        &["sysvmsg", "serve", "./q", "--until-eof", "--alone="],
+        "the SOCKET of --alone has 1 to 103 bytes",
     ),
     (&["sysvmsg", "ipcs", ""], "a PATH has 1 to 107 bytes"),
     (

@@ -487,6 +487,7 @@ fn ends_with<R: Threads + Wait + Net + Files + Abort + Clock + Sync>(
         stats: matches!(clients, Clients::Looking),
         hold: false,
         sockets: 1,
+        alone: false,
     };
     let first = ended(rt, alloc, terms, clients);
     if matches!(&first.0.0, Err(ServeFault::NoMemory | ServeFault::Thread)) {
@@ -606,6 +607,7 @@ fn a_server_without_a_listener_serves_nobody(rt: HostRuntime) {
         stats: false,
         hold: false,
         sockets: 1,
+        alone: false,
     };
     let mut reason = None;
     let end = serve_listener(

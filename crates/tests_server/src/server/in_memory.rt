@@ -128,6 +128,7 @@ fn terms(sessions: u64) -> Terms
         stats: false,
         hold: false,
         sockets: 1,
+        alone: false,
     }
 }
 

@@ -3,7 +3,7 @@
 use Rattle.std.proofs.Common.{◌≡◌, ◌∙◌, length, ap, sym, arith}
 use Rattle.std.specs.Prelude.{is_some}
 use Rattle.sysv_server.proofs.Accepted.{all_end, all_fail, all_for, still_holds}
-use Rattle.sysv_server.specs.Serving.{limits_in}
+use Rattle.sysv_server.specs.Serving.{limits_in, looks_in}
 use Rattle.sysv_server.proofs.serving.run.Goals as goal
 
 pub returns-clause-ok : goal.returns-clause-ok
@@ -12,7 +12,7 @@ returns-clause-ok g c =
     let many = c.in-Some-empty_books.ensures in
     let counted : length c.in-Some-empty_books.books.items ≡ c.args.terms.at_once = omega arith in
     let same = still_holds g.L.Listens.accepted g.L.Listens.listens g.I.Input.reads g.L.Listens.fails g.L.Listens.steps
-    c.args.terms.stats _
+    c.looks.result _
     c.args.terms.at_once c.args.terms.sessions c.new-source.result c.serve_arrivals-outcome.new.source
     c.in-Some-empty_books.books.items c.serve_arrivals-outcome.new.books.items c.serve_arrivals-outcome.result
     c.new-source.ensures.begun.1 c.new-source.ensures.begun.0
@@ -21,24 +21,25 @@ returns-clause-ok g c =
     let name_is = c.into_parts-left.ensures.same_reference ∙ (same ∙ c.new-source.ensures.same_reference) in
     let back = c.given_back.ensures ∙ c.into_parts-left.ensures.listener in
     all_end g.L.Listens.accepted g.L.Listens.listens g.I.Input.reads g.L.Listens.fails g.L.Listens.steps
-    c.args.terms.stats _
+    c.looks.result _
     c.args.terms.at_once c.args.terms.sessions c.new-source.result c.serve_arrivals-outcome.new.source
     c.in-Some-empty_books.books.items c.serve_arrivals-outcome.new.books.items c.serve_arrivals-outcome.result
     c.new-source.ensures.begun.1 c.new-source.ensures.begun.0
     (let same = c.new-source.ensures.begun.0 in let fits = c.new-source.ensures.range in omega arith)
     c.serve_arrivals-outcome.ensures.ok c.serve_arrivals-outcome.ensures.err _ _ counted c.new-source.ensures.listener
-    (grind arith) (limits_in c.args.terms) (c.new-source.ensures.limits ∙ c.of_seconds-limits.ensures)
+    (grind arith) (looks_in c.args.terms) (limits_in c.args.terms) c.looks.ensures
+    (c.new-source.ensures.limits ∙ c.of_seconds-limits.ensures)
 
 pub returns-clause-exact : goal.returns-clause-exact
 returns-clause-exact g c =
     all_for g.L.Listens.accepted g.L.Listens.listens g.I.Input.reads g.L.Listens.fails g.L.Listens.steps
-    c.args.terms.stats _
+    c.looks.result _
     c.args.terms.at_once c.args.terms.sessions c.new-source.result c.serve_arrivals-outcome.new.source
     c.in-Some-empty_books.books.items c.serve_arrivals-outcome.new.books.items c.serve_arrivals-outcome.result
     c.new-source.ensures.begun.1 c.new-source.ensures.begun.0
     (let same = c.new-source.ensures.begun.0 in let fits = c.new-source.ensures.range in omega arith)
-    c.serve_arrivals-outcome.ensures.ok c.serve_arrivals-outcome.ensures.err _ _ c.new-source.ensures.begun.2
-    (ap is_some c.new-source.ensures.input) (sym c.into_parts-left.ensures.reason)
+    c.serve_arrivals-outcome.ensures.ok c.serve_arrivals-outcome.ensures.err _ _ _ c.new-source.ensures.begun.2
+    c.new-source.ensures.alone (ap is_some c.new-source.ensures.input) (sym c.into_parts-left.ensures.reason)
 
 pub returns-clause-err : goal.returns-clause-err
 returns-clause-err g c =
@@ -46,7 +47,7 @@ returns-clause-err g c =
     let many = c.in-Some-empty_books.ensures in
     let counted : length c.in-Some-empty_books.books.items ≡ c.args.terms.at_once = omega arith in
     let same = still_holds g.L.Listens.accepted g.L.Listens.listens g.I.Input.reads g.L.Listens.fails g.L.Listens.steps
-    c.args.terms.stats _
+    c.looks.result _
     c.args.terms.at_once c.args.terms.sessions c.new-source.result c.serve_arrivals-outcome.new.source
     c.in-Some-empty_books.books.items c.serve_arrivals-outcome.new.books.items c.serve_arrivals-outcome.result
     c.new-source.ensures.begun.1 c.new-source.ensures.begun.0
@@ -55,10 +56,10 @@ returns-clause-err g c =
     let name_is = c.into_parts-left.ensures.same_reference ∙ (same ∙ c.new-source.ensures.same_reference) in
     let back = c.given_back.ensures ∙ c.into_parts-left.ensures.listener in
     all_fail g.L.Listens.accepted g.L.Listens.listens g.I.Input.reads g.L.Listens.fails g.L.Listens.steps
-    c.args.terms.stats _
+    c.looks.result _
     c.args.terms.at_once c.args.terms.sessions c.new-source.result c.serve_arrivals-outcome.new.source
     c.in-Some-empty_books.books.items c.serve_arrivals-outcome.new.books.items c.serve_arrivals-outcome.result
     c.new-source.ensures.begun.1 c.new-source.ensures.begun.0
     (let same = c.new-source.ensures.begun.0 in let fits = c.new-source.ensures.range in omega arith)
     c.serve_arrivals-outcome.ensures.ok c.serve_arrivals-outcome.ensures.err _ _ counted c.new-source.ensures.listener
-    (grind arith)
+    (grind arith) (looks_in c.args.terms) c.looks.ensures

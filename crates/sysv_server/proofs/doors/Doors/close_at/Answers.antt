@@ -1,5 +1,6 @@
 -- One socket made a step.
 use Rattle.std.proofs.Common.{None, subst}
+use Rattle.std.proofs.lemmas.List.{drop-set-lt}
 use Rattle.sysv_server.proofs.AnyOpen.{any_others, none_before}
 use Rattle.sysv_server.proofs.Came.{one_at}
 use Rattle.sysv_server.proofs.doors.Doors.close_at.Goals as goal
@@ -19,3 +20,7 @@ pub returns-clause-closed : goal.returns-clause-closed
 returns-clause-closed g c =
     none_before g.L.Listens.listens c.args.self.now.sockets.items c.args.number c.close.new.self c.requires
     c.close.ensures.closed
+
+pub returns-clause-rest : goal.returns-clause-rest
+returns-clause-rest g c =
+    λ from after. drop-set-lt from c.args.self.now.sockets.items c.args.number c.close.new.self after
