@@ -219,10 +219,7 @@ impl<R: Files + Net + Eprint + AllocGlobal + Clone + Drop> Host for Reporter<'_,
     }
 
     fn path(&self, number: usize) -> Option<&str> {
-        match self.serving.socket(number) {
-            Some(socket) => Some(socket.file.path),
-            None => Some(self.serving.alone?.path),
-        }
+        Some(self.serving.socket(number)?.file.path)
     }
 
     fn note(&self, notice: Notice) {

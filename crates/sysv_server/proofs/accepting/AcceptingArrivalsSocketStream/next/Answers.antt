@@ -28,6 +28,7 @@ returns-in-Err-clause-gives g c =
       unended = none_is old.reason (sym c.is_some.ensures ∙ c.if-is_some.false);
       why =
           subst (λ r. IsSomeAnd r (HasEnded g.L.Listens.listens g.I.Input.reads g.L.Listens.fails old))
-          (sym ends.reason) told.ended;
+          (sym ends.reason)
+          told.ended;
     }
     c.accept_last-in-Err.ensures.gives
