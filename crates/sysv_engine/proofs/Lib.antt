@@ -1,3 +1,4 @@
+pub mod Marking
 pub mod SessionMakesCalls
 pub mod CallsLetIn
 pub mod PrivateQueues

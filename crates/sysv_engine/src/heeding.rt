@@ -177,7 +177,7 @@ impl<'a, 'c, R: Wait, T: NonBlocking, W: Watch<T>> Calls<Serving<'a, 'c, R>>
     }
 
     fn unmark(&self, by: &Serving<'a, 'c, R>, word: usize) {
-        by.server.unmark(word, self.agenda.number());
+        by.server.unmark(word, &self.agenda);
     }
 
     fn read_envelope(&mut self, by: &Serving<'a, 'c, R>) -> bool {
@@ -213,7 +213,7 @@ impl<'a, 'c, R: Wait> Serving<'a, 'c, R> {
             Change::Queue { .. } | Change::Anything => return,
         };
         if worker.agenda.lines().count(word) == 0 {
-            self.server.unmark(word, worker.agenda.number());
+            self.server.unmark(word, &worker.agenda);
         }
     }
 }

@@ -2,13 +2,14 @@
 ghost use Rattle.std.specs.Prelude.{◌≡◌, ◌⊎◌, None, Some, true};
 ghost use Rattle.sysv_parking.specs.Agenda.{IsAtRest, KeepsWork};
 ghost use Rattle.sysv_parking.specs.Parking.{AreInLines, MovesOnly, key_at};
+ghost use Rattle.sysv_engine.specs.Marking.{IsMarked, IsParked};
 ghost use Rattle.sysv_engine.specs.Places.{IsVacantAt, KeepsAll};
 
 use crate::moment::{Moment, sooner};
-use crate::server_state::ServerState;
+use crate::server_state::{Marked, ServerState};
 use crate::spinning::look;
 use crate::watch::{Ready, Watch};
-use crate::worker::Worker;
+use crate::worker::{Rechecked, Worker};
 use std::alloc::Global;
 use std::sync::Wait;
 use sysv_parking::{Found, Key, collect, heed_all, read_envelopes};
@@ -341,7 +342,7 @@ impl<'a, 'c, R: Wait> Serving<'a, 'c, R> {
     {
         let mut looked = false;
         for _ in self.rt.forever() {
-            if !self.enter_line(worker, place) {
+            if self.enter_line(worker, place).is_none() {
                 break;
             }
             looked = true;
@@ -352,13 +353,15 @@ impl<'a, 'c, R: Wait> Serving<'a, 'c, R> {
     }
 
     /// Puts a client into the line of what its parked call waits for, unless it is there, and has
-    /// the call go on if it may. Returns whether it entered a line: then its call may wait for
-    /// something else. If memory for the line is refused, the call is due.
+    /// the call go on if it may. If it entered a line, its call may wait for something else. If memory
+    /// for the line is refused, the call is due.
+    #[tactic(auto, using(crate::proofs::Marking::marked_there))]
     fn enter_line<T: NonBlocking, W: Watch<T>>(
         &self,
         worker: &mut Worker<'a, R, T, W>,
         place: usize,
-    ) -> bool
+    ) -> Option<Rechecked>
+        ensures parked { IsParked place worker.old.agenda worker.new.agenda result }
         ensures keeps { KeepsAll T.incoming T.outgoing T.closes worker.old.places.items
             worker.new.places.items }
         ensures moves { MovesOnly place worker.old.agenda.parking worker.new.agenda.parking }
@@ -367,19 +370,38 @@ impl<'a, 'c, R: Wait> Serving<'a, 'c, R> {
     {
         let key = worker.key(place);
         if key == worker.agenda.lines().key(place) {
-            return false;
+            return None;
         }
         self.leave_line(worker, place);
         let Some(key) = key else {
-            return false;
+            return None;
         };
         if !worker.agenda.enter(place, key) {
-            return false;
+            return None;
         }
         self.count_parked(worker, key.word());
-        self.server.mark(key.word(), worker.agenda.number());
-        self.go_on(worker, place);
-        true
+        let mark = self.server.mark(key.word(), worker.agenda.number());
+        Some(self.go_on_marked(worker, place, mark))
+    }
+
+    /// Continues the parked call of a place that has just entered its line, as
+    /// `Worker::go_on_marked` does.
+    fn go_on_marked<T: NonBlocking, W: Watch<T>>(
+        &self,
+        worker: &mut Worker<'a, R, T, W>,
+        place: usize,
+        mark: Marked,
+    ) -> Rechecked
+        requires { IsMarked mark worker.old.agenda place }
+        ensures looked { (result.place ≡ place) × (result.mark ≡ mark) }
+        ensures keeps { KeepsAll T.incoming T.outgoing T.closes worker.old.places.items
+            worker.new.places.items }
+        ensures agenda { worker.new.agenda ≡ worker.old.agenda }
+    {
+        let before = worker.blocks_in_use(place);
+        let looked = worker.go_on_marked(place, mark);
+        self.count_blocks(worker, place, before);
+        looked
     }
 
     /// Takes a place out of its line, if it is in one.
@@ -388,6 +410,7 @@ impl<'a, 'c, R: Wait> Serving<'a, 'c, R> {
         worker: &mut Worker<'a, R, T, W>,
         place: usize,
     )
+        ensures left { key_at worker.new.agenda.parking place ≡ None }
         ensures keeps { KeepsAll T.incoming T.outgoing T.closes worker.old.places.items
             worker.new.places.items }
         ensures moves { MovesOnly place worker.old.agenda.parking worker.new.agenda.parking }

@@ -2,6 +2,7 @@
 //! connections.
 ghost use Rattle.std.specs.Prelude.{◌≡◌, ◌≤◌, IfSome, vec_len};
 ghost use Rattle.sysv_keys.specs.declared.identifier.TheConstants.{SLOTS as slot_count};
+ghost use Rattle.sysv_parking.specs.Parking.{parked_at};
 ghost use Rattle.sysv_engine.specs.Counting.{IsCounted, IsNothing};
 ghost use Rattle.sysv_engine.specs.Handled.{newest_of};
 ghost use Rattle.sysv_engine.specs.Serving.{RunsWith};
@@ -17,7 +18,7 @@ use std::alloc::Global;
 use std::sync::Wait;
 use std::sync::atomic::{AtomicBool, AtomicU64, Ordering};
 use sysv_keys::SLOTS;
-use sysv_parking::{Change, Envelope, WORDS};
+use sysv_parking::{Agenda, Change, Envelope, WORDS};
 use sysv_queue::Tally;
 use sysv_seats::Returned;
 use sysv_system::{Doorbell, Watched};
@@ -47,6 +48,14 @@ struct Post {
     /// The number of clients of the worker that were closed.
     closed: AtomicU64,
     counts: Counts,
+}
+
+/// The worker of this number has said that it has calls parked under this word. Only
+/// `ServerState::mark` makes a value of this type.
+#[derive(Clone, Copy)]
+pub(crate) struct Marked {
+    word: usize,
+    worker: usize,
 }
 
 /// What the workers share.
@@ -250,19 +259,27 @@ impl ServerState {
     }
 
     /// Says that the worker has calls parked under this word.
-    pub(crate) fn mark(&self, word: usize, worker: usize) {
-        let Some(workers) = self.words.get(word) else {
-            return;
-        };
-        if workers.load(Ordering::SeqCst) & bit(worker) == 0 {
-            workers.fetch_or(bit(worker), Ordering::SeqCst);
+    pub(crate) fn mark(&self, word: usize, worker: usize) -> Marked
+        ensures { (result.word ≡ word) × (result.worker ≡ worker) }
+    {
+        if let Some(workers) = self.words.get(word) {
+            if workers.load(Ordering::SeqCst) & bit(worker) == 0 {
+                workers.fetch_or(bit(worker), Ordering::SeqCst);
+            }
         }
+        Marked { word, worker }
     }
 
-    /// Says that the worker has no calls parked under this word.
-    pub(crate) fn unmark(&self, word: usize, worker: usize) {
+    /// Says that the worker of this agenda has no calls parked under this word.
+    ///
+    /// # Conditions
+    ///
+    /// - It has none.
+    pub(crate) fn unmark(&self, word: usize, agenda: &Agenda)
+        requires { parked_at agenda.now.parking word ≡ 0 }
+    {
         if let Some(workers) = self.words.get(word) {
-            workers.fetch_and(!bit(worker), Ordering::SeqCst);
+            workers.fetch_and(!bit(agenda.number()), Ordering::SeqCst);
         }
     }
 

@@ -1,6 +1,7 @@
 //! The workers of a server: their places, and what happens at each.
 ghost use Rattle.std.specs.Prelude.{◌≡◌, ◌≤◌, ◌⊎◌, vec_len, vec_capacity, [], false, IfSome, Some};
 ghost use Rattle.sysv_parking.specs.Agenda.{IsAtRest};
+ghost use Rattle.sysv_engine.specs.Marking.{IsMarked};
 ghost use Rattle.sysv_engine.specs.Waking.{WakesUp};
 ghost use Rattle.sysv_engine.specs.Places.{AdoptsOne, IsVacantAt, KeepsAll};
 
@@ -8,6 +9,7 @@ use crate::alarm::Rest;
 use crate::counts::Moved;
 use crate::moment::{Moment, sooner};
 use crate::place::Place;
+use crate::server_state::Marked;
 use crate::spinning::Spinning;
 use crate::terms::Patience;
 use crate::watch::{Ready, Watch};
@@ -61,6 +63,14 @@ pub(crate) struct Worker<'a, R: Wait, T: NonBlocking, W> {
     /// The numbers of its envelopes and of its changes, modulo 2^64.
     messages: usize,
     changed: usize,
+}
+
+/// The call of a place has entered a line, the worker has said that it has calls there, and then the
+/// call was looked at once more. Only `Worker::go_on_marked` makes a value of this type.
+#[derive(Clone, Copy)]
+pub(crate) struct Rechecked {
+    place: usize,
+    mark: Marked,
 }
 
 /// The tools of a worker, and room for its places.
@@ -438,6 +448,23 @@ impl<'a, R: Wait, T: NonBlocking, W: Watch<T>> Worker<'a, R, T, W> {
         if let Some(there) = self.places.get_mut(place) {
             there.go_on(&mut self.tools);
         }
+    }
+
+    /// Continues the parked call of a place that has just entered its line, if it may go on. The worker
+    /// has said before that it has calls in such a line, so it is told of what comes from then on.
+    ///
+    /// # Conditions
+    ///
+    /// - This is what the worker has said, and the call is in a line of that word.
+    pub(crate) fn go_on_marked(&mut self, place: usize, mark: Marked) -> Rechecked
+        requires { IsMarked mark self.old.agenda place }
+        ensures looked { (result.place ≡ place) × (result.mark ≡ mark) }
+        ensures keeps { KeepsAll T.incoming T.outgoing T.closes self.old.places.items
+            self.new.places.items }
+        ensures agenda { self.new.agenda ≡ self.old.agenda }
+    {
+        self.go_on(place);
+        Rechecked { place, mark }
     }
 
     /// Gives the client's connection as many bytes of the replies as it takes now.
