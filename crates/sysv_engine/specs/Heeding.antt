@@ -1,7 +1,10 @@
 -- What the calls of a worker's clients have changed for parked calls (this project's profile).
+use Rattle.std.specs.Prelude.{Bool, true, false}
 use Rattle.sysv_parking.specs.declared.changes.Change.TheVariants as changes
 use Rattle.sysv_parking.specs.declared.envelope.News.{News}
 use Rattle.sysv_parking.specs.declared.envelope.News.TheVariants as news
+use Rattle.sysv_parking.specs.declared.found.Found.{Found}
+use Rattle.sysv_parking.specs.declared.found.Found.TheVariants as found
 use Rattle.sysv_seats.specs.declared.notification.Notification.{Notification}
 use Rattle.sysv_seats.specs.declared.notification.Notification.TheVariants.{Arrived, Freed, Released, Changed, Settled}
 
@@ -12,3 +15,9 @@ news_of (Freed slot mtype) = news.Changed (changes.Room slot)
 news_of Released = news.Changed changes.Blocks
 news_of (Changed slot) = news.Changed (changes.Queue slot)
 news_of Settled = news.Changed changes.Settled
+
+-- What a look found after which the call does not wait, by whether a message of the type was taken for
+-- which it was looked at.
+abbrev pub ended_by : Bool → Found
+ended_by true = found.Message
+ended_by false = found.Over

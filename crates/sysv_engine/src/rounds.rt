@@ -1,7 +1,10 @@
 //! The event loop of a worker.
 ghost use Rattle.std.specs.Prelude.{◌≡◌, ◌⊎◌, None, Some, true};
+ghost use Rattle.std.specs.List.{list_any};
 ghost use Rattle.sysv_parking.specs.Agenda.{IsAtRest, KeepsWork};
 ghost use Rattle.sysv_parking.specs.Parking.{AreInLines, MovesOnly, key_at};
+ghost use Rattle.sysv_seats.specs.Notification.{is_taken, notifications_in};
+ghost use Rattle.sysv_engine.specs.Heeding.{ended_by};
 ghost use Rattle.sysv_engine.specs.Marking.{IsMarked, IsParked};
 ghost use Rattle.sysv_engine.specs.Places.{IsVacantAt, KeepsAll};
 
@@ -523,13 +526,37 @@ impl<'a, 'c, R: Wait> Serving<'a, 'c, R> {
     {
         let before = worker.agenda.lines().key(place);
         self.go_on(worker, place);
-        let has_taken = worker.tools.has_taken(mtype);
         if worker.key(place).is_none() {
             worker.drain(place);
         }
         self.settle(worker, place);
+        self.conclude(worker, place, before, mtype)
+    }
+
+    /// Returns what the look at the call of this place found that waited for `before`, and tells what
+    /// it has changed. It took a message of this type if and only if that is to be told.
+    fn conclude<T: NonBlocking, W: Watch<T>>(
+        &self,
+        worker: &mut Worker<'a, R, T, W>,
+        place: usize,
+        before: Option<Key>,
+        mtype: i64,
+    ) -> Found
+        ensures keeps { KeepsAll T.incoming T.outgoing T.closes worker.old.places.items
+            worker.new.places.items }
+        ensures parking { worker.new.agenda.parking ≡ worker.old.agenda.parking }
+        ensures in_lines { AreInLines worker.new.agenda.parking }
+        ensures waits { result ≡ Found.Nothing → key_at worker.old.agenda.parking place ≡ before }
+        ensures over { (result ≡ Found.Message) ⊎ (result ≡ Found.Over)
+            → key_at worker.old.agenda.parking place ≡ None }
+        ensures ended { key_at worker.old.agenda.parking place ≡ None → result
+            ≡ ended_by (list_any (is_taken mtype) (notifications_in worker.old.tools)) }
+        ensures work { KeepsWork worker.old.agenda worker.new.agenda }
+    {
+        let after = worker.agenda.lines().key(place);
+        let what = found(before, after, worker.tools.has_taken(mtype));
         collect(self.rt, self, worker);
-        found(before, worker.agenda.lines().key(place), has_taken)
+        what
     }
 
     /// Closes each client whose time is over, if it may be over for some, gives back what clients hold
@@ -668,6 +695,7 @@ fn is_over(due: Option<Moment>) -> bool {
 fn found(before: Option<Key>, after: Option<Key>, has_taken: bool) -> Found
     ensures waits { result ≡ Found.Nothing → after ≡ before }
     ensures over { (result ≡ Found.Message) ⊎ (result ≡ Found.Over) → after ≡ None }
+    ensures ended { after ≡ None → result ≡ ended_by has_taken }
 {
     match after {
         None if has_taken => Found::Message,
