@@ -69,6 +69,8 @@ pub struct Counted {
     pub sent_back: u64,
     /// The number of messages that were held and could not go back to their queue.
     pub gone: u64,
+    /// The number of clients that were cut off since the system refused to report their events.
+    pub unwatched: u64,
 }
 
 /// What the workers had counted when it was read. Only `ServerState::counted` makes a value of this

@@ -1,5 +1,5 @@
 //! The places of a server: each serves one client after another.
-ghost use Rattle.std.specs.Prelude.{◌≡◌, ◌+◌, None, Some, IfSome, cond, is_some, not, true};
+ghost use Rattle.std.specs.Prelude.{◌≡◌, ◌+◌, None, Some, IfSome, cond, is_some, not, true, false};
 ghost use Rattle.sysv_service.specs.Seats.{AreOf};
 ghost use Rattle.sysv_seats.specs.Said.{KeepsAsSaid};
 ghost use Rattle.sysv_seats.specs.Sits.{Keeps, is_finished};
@@ -9,7 +9,7 @@ ghost use Rattle.sysv_engine.specs.Fated.{none_fated, with_unsent};
 ghost use Rattle.sysv_engine.specs.Handled.{one_refused};
 ghost use Rattle.sysv_engine.specs.Places.{IsIdle, IsIdleAt, KeepsPlace, MayLapse, TakesIn};
 ghost use Rattle.sysv_engine.specs.Places.{come_so_far, fates_at_end, fates_by, has_ended, is_vacant};
-ghost use Rattle.sysv_engine.specs.Places.{taken_by, wait_in};
+ghost use Rattle.sysv_engine.specs.Places.{IsCutOff, taken_by, wait_in};
 
 use crate::awaited::key_of;
 use crate::fates::Fates;
@@ -406,17 +406,20 @@ impl<'a, R: Wait, T: NonBlocking> Place<'a, R, T> {
         self.refused = self.refused.saturating_add(refusals(served));
     }
 
-    /// Has the client's connection watched. If that is refused, the client ends.
-    pub(crate) fn begin<W: Watch<T>>(&mut self, watch: &mut W, place: usize)
+    /// Has the client's connection watched. If that is refused, the client ends, and the result is
+    /// `false`.
+    pub(crate) fn begin<W: Watch<T>>(&mut self, watch: &mut W, place: usize) -> bool
         ensures keeps { KeepsPlace T.incoming T.outgoing T.closes self.old self.new }
+        ensures refused { result ≡ false → IsCutOff self.new.client }
     {
         let Some(client) = &mut self.client else {
-            return;
+            return true;
         };
         if watch.add(client.connection(), place) {
-            return;
+            return true;
         }
         client.cut_off();
+        false
     }
 
     /// Learns what a watch reports.
@@ -610,16 +613,41 @@ impl<'a, R: Wait, T: NonBlocking> Place<'a, R, T> {
         self.in_turns = in_turns;
     }
 
-    /// Has the watch report when the connection may take bytes, if and only if some wait for it.
-    pub(crate) fn await_room<W: Watch<T>>(&mut self, watch: &mut W, place: usize)
+    /// Has the watch report when the connection may take bytes, if and only if some wait for it. If
+    /// that is refused, the client ends, and the result is `false`.
+    pub(crate) fn await_room<W: Watch<T>>(&mut self, watch: &mut W, place: usize) -> bool
         ensures keeps { KeepsPlace T.incoming T.outgoing T.closes self.old self.new }
+        ensures refused { result ≡ false → IsCutOff self.new.client }
     {
-        let Some(client) = &self.client else {
-            return;
+        let awaits = self.has_unsent();
+        if awaits == self.awaits_room {
+            return true;
+        }
+        self.awaits_room = awaits;
+        self.watch_for_room(watch, place, awaits)
+    }
+
+    /// Has the watch report also when the connection may take bytes, or not any more. If that is
+    /// refused, the client ends, and the result is `false`.
+    fn watch_for_room<W: Watch<T>>(&mut self, watch: &mut W, place: usize, awaits: bool) -> bool
+        ensures keeps { KeepsPlace T.incoming T.outgoing T.closes self.old self.new }
+        ensures refused { result ≡ false → IsCutOff self.new.client }
+    {
+        let Some(client) = &mut self.client else {
+            return true;
         };
-        if client.has_unsent() != self.awaits_room {
-            self.awaits_room = client.has_unsent();
-            watch.await_room(client.connection(), place, self.awaits_room);
+        if watch.await_room(client.connection(), place, awaits) {
+            return true;
+        }
+        client.cut_off();
+        false
+    }
+
+    /// Returns whether replies wait for the connection.
+    fn has_unsent(&self) -> bool {
+        match &self.client {
+            Some(client) => client.has_unsent(),
+            None => false,
         }
     }
 

@@ -54,7 +54,9 @@ impl<'a, 'c, R: Wait, T: NonBlocking + Drop, W: Watch<T>> Job<Worker<'a, R, T, W
     fn run(&self, worker: &mut Worker<'a, R, T, W>, connection: T) {
         self.server.take();
         let place = self.make_room(worker);
-        worker.adopt(place, self.alloc, connection);
+        if !worker.adopt(place, self.alloc, connection) {
+            self.server.miss();
+        }
         self.turn(worker, place);
         self.serve(worker);
     }
@@ -263,6 +265,7 @@ impl<'a, 'c, R: Wait> Serving<'a, 'c, R> {
             ≡ record worker.old.agenda { parking = worker.new.agenda.parking } }
     {
         self.line_up(worker, place);
+        self.await_room(worker, place);
         self.close_if_over(worker, place);
         self.note_given_back(worker, place);
         self.tell_held(worker, place);
@@ -282,6 +285,18 @@ impl<'a, 'c, R: Wait> Serving<'a, 'c, R> {
             let held = worker.tools.held();
             self.server
                 .count_held(worker.agenda.number(), held, returns);
+        }
+    }
+
+    /// Has the watch report when a client's connection may take bytes, if some wait for it. If the
+    /// system refuses that, the client ends.
+    fn await_room<T: NonBlocking, W: Watch<T>>(&self, worker: &mut Worker<'a, R, T, W>, place: usize)
+        ensures keeps { KeepsAll T.incoming T.outgoing T.closes worker.old.places.items
+            worker.new.places.items }
+        ensures agenda { worker.new.agenda ≡ worker.old.agenda }
+    {
+        if !worker.is_over(place) && !worker.await_room(place) {
+            self.server.miss();
         }
     }
 
@@ -328,7 +343,7 @@ impl<'a, 'c, R: Wait> Serving<'a, 'c, R> {
             worker.new.places.items }
         ensures agenda { worker.new.agenda ≡ worker.old.agenda }
     {
-        worker.await_more(place);
+        worker.await_turn(place);
         worker.set_time(place, self.server.patience());
         worker.look_again(place);
     }

@@ -281,16 +281,17 @@ impl<'a, R: Wait, T: NonBlocking, W: Watch<T>> Worker<'a, R, T, W> {
         }
     }
 
-    /// Gives a vacant place to the client of a connection, and has its connection watched.
+    /// Gives a vacant place to the client of a connection, and has its connection watched. Returns
+    /// whether it is: else the client ends.
     #[tactic(auto, using(crate::proofs::PlaceLists::adopts_at))]
-    pub(crate) fn adopt(&mut self, place: usize, alloc: Global, connection: T)
+    pub(crate) fn adopt(&mut self, place: usize, alloc: Global, connection: T) -> bool
         requires { IsVacantAt place self.old.places.items }
         ensures { AdoptsOne T.incoming T.outgoing T.closes connection self.old.places.items
             self.new.places.items }
     {
         let there = &mut self.places[place];
         there.adopt(alloc, connection);
-        there.begin(&mut self.watch, place);
+        there.begin(&mut self.watch, place)
     }
 
     /// Returns whether the place has a client.
@@ -528,32 +529,23 @@ impl<'a, R: Wait, T: NonBlocking, W: Watch<T>> Worker<'a, R, T, W> {
         there.close()
     }
 
-    /// Has the watch report when the client's connection may take bytes, if some wait for it, and
-    /// puts the place into the line of those that have more to do, if the client has.
-    pub(crate) fn await_more(&mut self, place: usize)
-        ensures keeps { KeepsAll T.incoming T.outgoing T.closes self.old.places.items
-            self.new.places.items }
-        ensures agenda { self.new.agenda ≡ self.old.agenda }
-    {
-        self.await_room(place);
-        self.await_turn(place);
-    }
-
-    /// Has the watch report when the client's connection may take bytes, if some wait for it.
+    /// Has the watch report when the client's connection may take bytes, if some wait for it. Returns
+    /// whether it does: else the client ends.
     #[tactic(auto, using(crate::proofs::PlaceLists::keeps_at))]
-    fn await_room(&mut self, place: usize)
+    pub(crate) fn await_room(&mut self, place: usize) -> bool
         ensures keeps { KeepsAll T.incoming T.outgoing T.closes self.old.places.items
             self.new.places.items }
         ensures agenda { self.new.agenda ≡ self.old.agenda }
     {
-        if let Some(there) = self.places.get_mut(place) {
-            there.await_room(&mut self.watch, place);
+        match self.places.get_mut(place) {
+            Some(there) => there.await_room(&mut self.watch, place),
+            None => true,
         }
     }
 
     /// Puts the place into the line of those that have more to do, if the client has.
     #[tactic(auto, using(crate::proofs::PlaceLists::keeps_at))]
-    fn await_turn(&mut self, place: usize)
+    pub(crate) fn await_turn(&mut self, place: usize)
         ensures keeps { KeepsAll T.incoming T.outgoing T.closes self.old.places.items
             self.new.places.items }
         ensures agenda { self.new.agenda ≡ self.old.agenda }

@@ -225,6 +225,9 @@ impl<R: Files + Net + Eprint + AllocGlobal + Clone + Drop> Host for Reporter<'_,
             Notice::NoMemory => {
                 let _ = eprintln!(*rt; "sysvmsg: no memory for a session");
             }
+            Notice::Unwatched => {
+                let _ = eprintln!(*rt; "sysvmsg: cannot watch a client, and cuts it off");
+            }
             Notice::Cut => {
                 let _ = eprintln!(*rt; "sysvmsg: the sessions that are left are cut off");
             }
