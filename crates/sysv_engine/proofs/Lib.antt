@@ -24,3 +24,4 @@ pub mod Behind
 pub mod Looking
 pub mod ReadsRows
 pub mod Crossing
+pub mod Telling

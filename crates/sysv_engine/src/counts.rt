@@ -144,7 +144,10 @@ fn word_of(notification: Notification) -> Option<usize>
     match notification {
         Notification::Arrived { slot, .. } => Some(slot),
         Notification::Freed { slot, .. } => Some(room_word(slot)),
-        Notification::Released | Notification::Changed { .. } | Notification::Settled => None,
+        Notification::Released
+        | Notification::Changed { .. }
+        | Notification::Settled
+        | Notification::Anything => None,
     }
 }
 

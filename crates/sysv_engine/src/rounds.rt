@@ -4,7 +4,7 @@ ghost use Rattle.std.specs.List.{list_any};
 ghost use Rattle.sysv_parking.specs.Agenda.{IsAtRest, KeepsWork};
 ghost use Rattle.sysv_parking.specs.Parking.{AreInLines, MovesOnly, key_at};
 ghost use Rattle.sysv_seats.specs.Notification.{is_taken, notifications_in};
-ghost use Rattle.sysv_engine.specs.Heeding.{ended_by};
+ghost use Rattle.sysv_engine.specs.Heeding.{IsAllTold, StaysTold, ended_by};
 ghost use Rattle.sysv_engine.specs.Marking.{IsMarked, IsParked};
 ghost use Rattle.sysv_engine.specs.Places.{IsVacantAt, KeepsAll};
 
@@ -51,8 +51,11 @@ impl<'a, 'c, R: Wait, T: NonBlocking + Drop, W: Watch<T>> Job<Worker<'a, R, T, W
         self.server.finish();
     }
 
+    #[tactic(auto, using(crate::proofs::Telling::none_told))]
     fn run(&self, worker: &mut Worker<'a, R, T, W>, connection: T) {
         self.server.take();
+        // (nothing is left of the last run)
+        collect(self.rt, self, worker);
         let place = self.make_room(worker);
         if !worker.adopt(place, self.alloc, connection) {
             self.server.miss();
@@ -65,8 +68,10 @@ impl<'a, 'c, R: Wait, T: NonBlocking + Drop, W: Watch<T>> Job<Worker<'a, R, T, W
 impl<'a, 'c, R: Wait> Serving<'a, 'c, R> {
     /// Serves the clients until a place is vacant, and returns it.
     fn make_room<T: NonBlocking, W: Watch<T>>(&self, worker: &mut Worker<'a, R, T, W>) -> usize
+        requires told { IsAllTold worker.old.tools }
         ensures keeps { KeepsAll T.incoming T.outgoing T.closes worker.old.places.items
             worker.new.places.items }
+        ensures told { IsAllTold worker.new.tools }
         ensures vacant { IsVacantAt result worker.new.places.items }
     {
         for _ in self.rt.forever() {
@@ -80,8 +85,10 @@ impl<'a, 'c, R: Wait> Serving<'a, 'c, R> {
 
     /// Serves the clients until the worker is to return.
     fn serve<T: NonBlocking, W: Watch<T>>(&self, worker: &mut Worker<'a, R, T, W>)
-        ensures { KeepsAll T.incoming T.outgoing T.closes worker.old.places.items
+        requires told { IsAllTold worker.old.tools }
+        ensures keeps { KeepsAll T.incoming T.outgoing T.closes worker.old.places.items
             worker.new.places.items }
+        ensures told { IsAllTold worker.new.tools }
     {
         for _ in self.rt.forever() {
             if self.is_called(worker) {
@@ -94,8 +101,9 @@ impl<'a, 'c, R: Wait> Serving<'a, 'c, R> {
     /// Returns whether the worker is to return: to take one more connection, or because there are
     /// no clients and no more connections come.
     fn is_called<T: NonBlocking, W: Watch<T>>(&self, worker: &mut Worker<'a, R, T, W>) -> bool
-        ensures { KeepsAll T.incoming T.outgoing T.closes worker.old.places.items
+        ensures keeps { KeepsAll T.incoming T.outgoing T.closes worker.old.places.items
             worker.new.places.items }
+        ensures tools { worker.new.tools ≡ worker.old.tools }
     {
         if self.server.coming(worker.agenda.number()) > worker.answered {
             worker.answered += 1;
@@ -110,8 +118,10 @@ impl<'a, 'c, R: Wait> Serving<'a, 'c, R> {
     /// Waits for events, and serves each client that has some. Closes idle clients first, if they are
     /// to be closed.
     fn round<T: NonBlocking, W: Watch<T>>(&self, worker: &mut Worker<'a, R, T, W>)
-        ensures { KeepsAll T.incoming T.outgoing T.closes worker.old.places.items
+        requires told { IsAllTold worker.old.tools }
+        ensures keeps { KeepsAll T.incoming T.outgoing T.closes worker.old.places.items
             worker.new.places.items }
+        ensures told { IsAllTold worker.new.tools }
     {
         self.close_idle(worker);
         let has_come = self.rest(worker);
@@ -131,8 +141,13 @@ impl<'a, 'c, R: Wait> Serving<'a, 'c, R> {
 
     /// Waits until a client has an event, or something came for the worker, and takes what the worker
     /// was told into its agenda. Returns whether anyone has rung since it last woke up.
+    ///
+    /// # Conditions
+    ///
+    /// - Nothing is left to tell of what calls have changed.
     fn rest<T: NonBlocking, W: Watch<T>>(&self, worker: &mut Worker<'a, R, T, W>) -> bool
-        ensures { worker.new.places ≡ worker.old.places }
+        requires { IsAllTold worker.old.tools }
+        ensures { (worker.new.places ≡ worker.old.places) × (worker.new.tools ≡ worker.old.tools) }
     {
         if self.spin(worker) {
             worker.wake_up()
@@ -144,8 +159,9 @@ impl<'a, 'c, R: Wait> Serving<'a, 'c, R> {
     /// Has the clients learn what the watch reports of them, before parked calls are looked at: a
     /// client that has left gets no message.
     fn note_ready<T: NonBlocking, W: Watch<T>>(&self, worker: &mut Worker<'a, R, T, W>)
-        ensures { KeepsAll T.incoming T.outgoing T.closes worker.old.places.items
+        ensures keeps { KeepsAll T.incoming T.outgoing T.closes worker.old.places.items
             worker.new.places.items }
+        ensures tools { worker.new.tools ≡ worker.old.tools }
     {
         for at in 0..worker.ready.len() {
             let Some(ready) = worker.ready.get(at).copied() else {
@@ -157,8 +173,9 @@ impl<'a, 'c, R: Wait> Serving<'a, 'c, R> {
 
     /// Serves the clients of which the watch reports events.
     fn serve_ready<T: NonBlocking, W: Watch<T>>(&self, worker: &mut Worker<'a, R, T, W>)
-        ensures { KeepsAll T.incoming T.outgoing T.closes worker.old.places.items
+        ensures keeps { KeepsAll T.incoming T.outgoing T.closes worker.old.places.items
             worker.new.places.items }
+        ensures told { StaysTold worker.old.tools worker.new.tools }
     {
         for at in 0..worker.ready.len() {
             let Some(ready) = worker.ready.get(at).copied() else {
@@ -171,7 +188,7 @@ impl<'a, 'c, R: Wait> Serving<'a, 'c, R> {
     /// Looks for events for some microseconds, if there are few clients and such looks were of use
     /// lately. Returns whether a client has an event, or something came for the worker.
     fn spin<T: NonBlocking, W: Watch<T>>(&self, worker: &mut Worker<'a, R, T, W>) -> bool
-        ensures { worker.new.places ≡ worker.old.places }
+        ensures { (worker.new.places ≡ worker.old.places) × (worker.new.tools ≡ worker.old.tools) }
     {
         let is_idle = !worker.is_empty() && !worker.has_more();
         if !is_idle || !self.server.has_few_clients() || !worker.spinning.is_due() {
@@ -184,8 +201,13 @@ impl<'a, 'c, R: Wait> Serving<'a, 'c, R> {
 
     /// Sleeps until a client has an event, or something came for the worker, and wakes up. It does
     /// not sleep if there is more to do. Returns what `Worker::sleep` does.
+    ///
+    /// # Conditions
+    ///
+    /// - Nothing is left to tell of what calls have changed.
     fn sleep<T: NonBlocking, W: Watch<T>>(&self, worker: &mut Worker<'a, R, T, W>) -> bool
-        ensures { worker.new.places ≡ worker.old.places }
+        requires { IsAllTold worker.old.tools }
+        ensures { (worker.new.places ≡ worker.old.places) × (worker.new.tools ≡ worker.old.tools) }
     {
         let limit = if worker.has_more() {
             Some(0)
@@ -197,8 +219,9 @@ impl<'a, 'c, R: Wait> Serving<'a, 'c, R> {
 
     /// Serves a client of which the watch reports an event.
     fn report<T: NonBlocking, W: Watch<T>>(&self, worker: &mut Worker<'a, R, T, W>, ready: &Ready)
-        ensures { KeepsAll T.incoming T.outgoing T.closes worker.old.places.items
+        ensures keeps { KeepsAll T.incoming T.outgoing T.closes worker.old.places.items
             worker.new.places.items }
+        ensures told { StaysTold worker.old.tools worker.new.tools }
     {
         worker.note(ready);
         self.turn(worker, ready.place);
@@ -206,8 +229,9 @@ impl<'a, 'c, R: Wait> Serving<'a, 'c, R> {
 
     /// Gives each client in the line of those that have more to do one turn.
     fn take_turns<T: NonBlocking, W: Watch<T>>(&self, worker: &mut Worker<'a, R, T, W>)
-        ensures { KeepsAll T.incoming T.outgoing T.closes worker.old.places.items
+        ensures keeps { KeepsAll T.incoming T.outgoing T.closes worker.old.places.items
             worker.new.places.items }
+        ensures told { StaysTold worker.old.tools worker.new.tools }
     {
         for _ in 0..worker.turns.len() {
             let Some(place) = worker.next_turn() else {
@@ -219,8 +243,9 @@ impl<'a, 'c, R: Wait> Serving<'a, 'c, R> {
 
     /// Has a client take up and answer a share of what has arrived.
     fn turn<T: NonBlocking, W: Watch<T>>(&self, worker: &mut Worker<'a, R, T, W>, place: usize)
-        ensures { KeepsAll T.incoming T.outgoing T.closes worker.old.places.items
+        ensures keeps { KeepsAll T.incoming T.outgoing T.closes worker.old.places.items
             worker.new.places.items }
+        ensures told { StaysTold worker.old.tools worker.new.tools }
     {
         if !worker.has_client(place) {
             return;
@@ -511,10 +536,11 @@ impl<'a, 'c, R: Wait> Serving<'a, 'c, R> {
     }
 
     /// Heeds what has changed, here and in other workers, as far as the worker's share of looks
-    /// goes. What is left is heeded in the next round.
+    /// goes. What is left is heeded in the next round. Nothing is left to tell.
     fn spread<T: NonBlocking, W: Watch<T>>(&self, worker: &mut Worker<'a, R, T, W>)
         ensures keeps { KeepsAll T.incoming T.outgoing T.closes worker.old.places.items
             worker.new.places.items }
+        ensures told { IsAllTold worker.new.tools }
         ensures rest { (worker.new.agenda.looks ≡ 0) ⊎ IsAtRest worker.new.agenda }
     {
         collect(self.rt, self, worker);
@@ -531,6 +557,7 @@ impl<'a, 'c, R: Wait> Serving<'a, 'c, R> {
     ) -> Found
         ensures keeps { KeepsAll T.incoming T.outgoing T.closes worker.old.places.items
             worker.new.places.items }
+        ensures told { IsAllTold worker.new.tools }
         ensures moves { MovesOnly place worker.old.agenda.parking worker.new.agenda.parking }
         ensures in_lines { AreInLines worker.new.agenda.parking }
         ensures waits { result ≡ Found.Nothing → key_at worker.new.agenda.parking place
@@ -559,6 +586,7 @@ impl<'a, 'c, R: Wait> Serving<'a, 'c, R> {
     ) -> Found
         ensures keeps { KeepsAll T.incoming T.outgoing T.closes worker.old.places.items
             worker.new.places.items }
+        ensures told { IsAllTold worker.new.tools }
         ensures parking { worker.new.agenda.parking ≡ worker.old.agenda.parking }
         ensures in_lines { AreInLines worker.new.agenda.parking }
         ensures waits { result ≡ Found.Nothing → key_at worker.old.agenda.parking place ≡ before }
@@ -577,8 +605,9 @@ impl<'a, 'c, R: Wait> Serving<'a, 'c, R> {
     /// Closes each client whose time is over, if it may be over for some, gives back what clients hold
     /// whose time is over, and reads again from those that may have more bytes.
     fn look_at_times<T: NonBlocking, W: Watch<T>>(&self, worker: &mut Worker<'a, R, T, W>)
-        ensures { KeepsAll T.incoming T.outgoing T.closes worker.old.places.items
+        ensures keeps { KeepsAll T.incoming T.outgoing T.closes worker.old.places.items
             worker.new.places.items }
+        ensures told { StaysTold worker.old.tools worker.new.tools }
     {
         let Some(check) = worker.check else {
             return;
@@ -644,8 +673,9 @@ impl<'a, 'c, R: Wait> Serving<'a, 'c, R> {
 
     /// Closes each client that is idle, if these are to be closed.
     fn close_idle<T: NonBlocking, W: Watch<T>>(&self, worker: &mut Worker<'a, R, T, W>)
-        ensures { KeepsAll T.incoming T.outgoing T.closes worker.old.places.items
+        ensures keeps { KeepsAll T.incoming T.outgoing T.closes worker.old.places.items
             worker.new.places.items }
+        ensures told { StaysTold worker.old.tools worker.new.tools }
     {
         if !self.server.closes_idle() {
             return;
@@ -653,6 +683,7 @@ impl<'a, 'c, R: Wait> Serving<'a, 'c, R> {
         for place in 0..worker.places.len() {
             self.close_if_idle(worker, place);
         }
+        self.spread(worker);
     }
 
     /// Closes a client that is idle, unless something has come for it that was not read yet.
@@ -674,8 +705,9 @@ impl<'a, 'c, R: Wait> Serving<'a, 'c, R> {
 
     /// Closes all clients, since the time for an orderly end is over.
     fn cut_all<T: NonBlocking, W: Watch<T>>(&self, worker: &mut Worker<'a, R, T, W>)
-        ensures { KeepsAll T.incoming T.outgoing T.closes worker.old.places.items
+        ensures keeps { KeepsAll T.incoming T.outgoing T.closes worker.old.places.items
             worker.new.places.items }
+        ensures told { IsAllTold worker.new.tools }
     {
         for place in 0..worker.places.len() {
             if worker.has_client(place) {

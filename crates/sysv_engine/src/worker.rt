@@ -1,6 +1,7 @@
 //! The workers of a server: their places, and what happens at each.
 ghost use Rattle.std.specs.Prelude.{◌≡◌, ◌≤◌, ◌⊎◌, vec_len, vec_capacity, [], false, IfSome, Some};
 ghost use Rattle.sysv_parking.specs.Agenda.{IsAtRest};
+ghost use Rattle.sysv_engine.specs.Heeding.{IsAllTold};
 ghost use Rattle.sysv_engine.specs.Marking.{IsMarked};
 ghost use Rattle.sysv_engine.specs.Waking.{WakesUp};
 ghost use Rattle.sysv_engine.specs.Places.{AdoptsOne, IsVacantAt, KeepsAll};
@@ -200,7 +201,8 @@ impl<'a, R: Wait, T: NonBlocking, W: Watch<T>> Worker<'a, R, T, W> {
     /// Counts an envelope that this worker writes. Returns whose turn it is to look first, counted
     /// on from turn to turn, or `None` for its own.
     pub(crate) fn next_first(&mut self) -> Option<usize>
-        ensures { (self.new.places ≡ self.old.places) × (self.new.agenda ≡ self.old.agenda) }
+        ensures { (self.new.places ≡ self.old.places) × (self.new.agenda ≡ self.old.agenda)
+            × (self.new.tools ≡ self.old.tools) }
     {
         self.messages = self.messages.wrapping_add(1);
         turn(self.messages, SHARE_OF_MESSAGES)
@@ -217,7 +219,7 @@ impl<'a, R: Wait, T: NonBlocking, W: Watch<T>> Worker<'a, R, T, W> {
 
     /// Begins a round: the worker may make as many looks again.
     pub(crate) fn begin_looks(&mut self)
-        ensures { self.new.places ≡ self.old.places }
+        ensures { (self.new.places ≡ self.old.places) × (self.new.tools ≡ self.old.tools) }
     {
         self.agenda.begin(LOOKS);
     }
@@ -244,9 +246,12 @@ impl<'a, R: Wait, T: NonBlocking, W: Watch<T>> Worker<'a, R, T, W> {
     /// # Conditions
     ///
     /// - There is nothing to do for parked calls, or the limit is 0.
+    /// - Nothing is left to tell of what calls have changed.
     pub(crate) fn sleep(&mut self, limit: Option<u64>) -> bool
-        requires { (limit ≡ Some 0) ⊎ IsAtRest self.old.agenda }
+        requires rest { (limit ≡ Some 0) ⊎ IsAtRest self.old.agenda }
+        requires told { IsAllTold self.old.tools }
         ensures places { self.new.places ≡ self.old.places }
+        ensures tools { self.new.tools ≡ self.old.tools }
         ensures wakes { WakesUp result self.old.rest.seat self.new.rest.seat self.old.agenda
             self.new.agenda }
     {
@@ -258,6 +263,7 @@ impl<'a, R: Wait, T: NonBlocking, W: Watch<T>> Worker<'a, R, T, W> {
     /// woke up.
     pub(crate) fn wake_up(&mut self) -> bool
         ensures places { self.new.places ≡ self.old.places }
+        ensures tools { self.new.tools ≡ self.old.tools }
         ensures wakes { WakesUp result self.old.rest.seat self.new.rest.seat self.old.agenda
             self.new.agenda }
     {
@@ -272,6 +278,7 @@ impl<'a, R: Wait, T: NonBlocking, W: Watch<T>> Worker<'a, R, T, W> {
     /// Takes a place out of the list of those without a client, if there is one in it.
     pub(crate) fn vacant(&mut self) -> Option<usize>
         ensures same { self.new.places ≡ self.old.places }
+        ensures tools { self.new.tools ≡ self.old.tools }
         ensures vacant { IfSome result (λ place. IsVacantAt place self.old.places.items) }
     {
         let place = self.free.pop()?;
@@ -286,8 +293,9 @@ impl<'a, R: Wait, T: NonBlocking, W: Watch<T>> Worker<'a, R, T, W> {
     #[tactic(auto, using(crate::proofs::PlaceLists::adopts_at))]
     pub(crate) fn adopt(&mut self, place: usize, alloc: Global, connection: T) -> bool
         requires { IsVacantAt place self.old.places.items }
-        ensures { AdoptsOne T.incoming T.outgoing T.closes connection self.old.places.items
+        ensures adopts { AdoptsOne T.incoming T.outgoing T.closes connection self.old.places.items
             self.new.places.items }
+        ensures tools { self.new.tools ≡ self.old.tools }
     {
         let there = &mut self.places[place];
         there.adopt(alloc, connection);
@@ -421,6 +429,7 @@ impl<'a, R: Wait, T: NonBlocking, W: Watch<T>> Worker<'a, R, T, W> {
     pub(crate) fn note(&mut self, ready: &Ready)
         ensures keeps { KeepsAll T.incoming T.outgoing T.closes self.old.places.items
             self.new.places.items }
+        ensures tools { self.new.tools ≡ self.old.tools }
         ensures agenda { self.new.agenda ≡ self.old.agenda }
     {
         if let Some(there) = self.places.get_mut(ready.place) {
@@ -561,8 +570,9 @@ impl<'a, R: Wait, T: NonBlocking, W: Watch<T>> Worker<'a, R, T, W> {
     /// Takes the first place out of the line of those that have more to do.
     #[tactic(auto, using(crate::proofs::PlaceLists::keeps_at))]
     pub(crate) fn next_turn(&mut self) -> Option<usize>
-        ensures { KeepsAll T.incoming T.outgoing T.closes self.old.places.items
+        ensures keeps { KeepsAll T.incoming T.outgoing T.closes self.old.places.items
             self.new.places.items }
+        ensures tools { self.new.tools ≡ self.old.tools }
     {
         let place = self.turns.pop_front()?;
         if let Some(there) = self.places.get_mut(place) {
