@@ -25,3 +25,4 @@ pub mod Looking
 pub mod ReadsRows
 pub mod Crossing
 pub mod Telling
+pub mod Lining

@@ -17,3 +17,4 @@ pub mod Places
 pub mod Heeding
 pub mod Waking
 pub mod Marking
+pub mod Lining

@@ -7,6 +7,7 @@ ghost use Rattle.sysv_seats.specs.Untold.{lets_in};
 ghost use Rattle.sysv_engine.specs.Added.{added, capped, nothing, one_session};
 ghost use Rattle.sysv_engine.specs.Fated.{none_fated, with_unsent};
 ghost use Rattle.sysv_engine.specs.Handled.{one_refused};
+ghost use Rattle.sysv_engine.specs.Lining.{frame_length, key_in, parked_key};
 ghost use Rattle.sysv_engine.specs.Places.{IsIdle, IsIdleAt, KeepsPlace, MayLapse, TakesIn};
 ghost use Rattle.sysv_engine.specs.Places.{come_so_far, fates_at_end, fates_by, has_ended, is_vacant};
 ghost use Rattle.sysv_engine.specs.Places.{IsCutOff, taken_by, wait_in};
@@ -507,17 +508,34 @@ impl<'a, R: Wait, T: NonBlocking> Place<'a, R, T> {
     }
 
     /// Returns what the parked call waits for, or the send that gives back a message, if one waits.
-    pub(crate) fn key(&self) -> Option<Key> {
+    pub(crate) fn key(&self) -> Option<Key>
+        ensures { result ≡ key_in self.now }
+    {
         if let Some(wait) = self.returning {
             return Some(key_of(&Waiting::Send(wait), self.handler.return_length()));
         }
-        let client = self.client.as_ref()?;
-        Some(key_of(&client.waiting()?, self.parked_length(client)))
+        match &self.client {
+            Some(client) => self.parked_key(client),
+            None => None,
+        }
+    }
+
+    /// Returns what the parked call of the client waits for, if one is parked.
+    fn parked_key(&self, client: &Client<T>) -> Option<Key>
+        ensures { result ≡ parked_key self.now.message client.now.parked }
+    {
+        let length = self.parked_length(client);
+        match client.waiting() {
+            Some(waiting) => Some(key_of(&waiting, length)),
+            None => None,
+        }
     }
 
     /// Returns the number of bytes in the frame of the client's parked call. That of a back is the
     /// send of the message that is held.
-    fn parked_length(&self, client: &Client<T>) -> usize {
+    fn parked_length(&self, client: &Client<T>) -> usize
+        ensures { result ≡ frame_length self.now.message client.now.parked }
+    {
         if client.awaits_back() {
             self.handler.return_length()
         } else {

@@ -5,6 +5,7 @@ ghost use Rattle.sysv_parking.specs.Agenda.{IsAtRest, KeepsWork};
 ghost use Rattle.sysv_parking.specs.Parking.{AreInLines, MovesOnly, key_at};
 ghost use Rattle.sysv_seats.specs.Notification.{is_taken, notifications_in};
 ghost use Rattle.sysv_engine.specs.Heeding.{IsAllTold, StaysTold, ended_by};
+ghost use Rattle.sysv_engine.specs.Lining.{IsLined};
 ghost use Rattle.sysv_engine.specs.Marking.{IsMarked, IsParked};
 ghost use Rattle.sysv_engine.specs.Places.{IsVacantAt, KeepsAll};
 
@@ -377,34 +378,34 @@ impl<'a, 'c, R: Wait> Serving<'a, 'c, R> {
     /// call that enters a line is looked at once more, since what it waits for may have come before
     /// that was known.
     fn line_up<T: NonBlocking, W: Watch<T>>(&self, worker: &mut Worker<'a, R, T, W>, place: usize)
+        ensures lined { IsLined place worker.new.places.items worker.new.agenda.parking }
         ensures keeps { KeepsAll T.incoming T.outgoing T.closes worker.old.places.items
             worker.new.places.items }
         ensures moves { MovesOnly place worker.old.agenda.parking worker.new.agenda.parking }
         ensures rest { worker.new.agenda
             ≡ record worker.old.agenda { parking = worker.new.agenda.parking } }
     {
-        let mut looked = false;
         for _ in self.rt.forever() {
             if self.enter_line(worker, place).is_none() {
-                break;
+                return;
             }
-            looked = true;
-        }
-        if looked {
             worker.drain(place);
         }
+        unreachable!()
     }
 
     /// Puts a client into the line of what its parked call waits for, unless it is there, and has
     /// the call go on if it may. If it entered a line, its call may wait for something else. If memory
     /// for the line is refused, the call is due.
-    #[tactic(auto, using(crate::proofs::Marking::marked_there))]
+    #[tactic(auto, using(crate::proofs::Lining::lined_later, crate::proofs::Lining::lined_nowhere, crate::proofs::Lining::lined_there, crate::proofs::Marking::marked_there))]
     fn enter_line<T: NonBlocking, W: Watch<T>>(
         &self,
         worker: &mut Worker<'a, R, T, W>,
         place: usize,
     ) -> Option<Rechecked>
         ensures parked { IsParked place worker.old.agenda worker.new.agenda result }
+        ensures lined { result ≡ None
+            → IsLined place worker.new.places.items worker.new.agenda.parking }
         ensures keeps { KeepsAll T.incoming T.outgoing T.closes worker.old.places.items
             worker.new.places.items }
         ensures moves { MovesOnly place worker.old.agenda.parking worker.new.agenda.parking }
@@ -412,7 +413,7 @@ impl<'a, 'c, R: Wait> Serving<'a, 'c, R> {
             ≡ record worker.old.agenda { parking = worker.new.agenda.parking } }
     {
         let key = worker.key(place);
-        if key == worker.agenda.lines().key(place) {
+        if is_at(worker.agenda.lines().key(place), key) {
             return None;
         }
         self.leave_line(worker, place);
@@ -454,6 +455,7 @@ impl<'a, 'c, R: Wait> Serving<'a, 'c, R> {
         place: usize,
     )
         ensures left { key_at worker.new.agenda.parking place ≡ None }
+        ensures places { worker.new.places ≡ worker.old.places }
         ensures keeps { KeepsAll T.incoming T.outgoing T.closes worker.old.places.items
             worker.new.places.items }
         ensures moves { MovesOnly place worker.old.agenda.parking worker.new.agenda.parking }
@@ -749,6 +751,16 @@ fn found(before: Option<Key>, after: Option<Key>, has_taken: bool) -> Found
         None => Found::Over,
         Some(key) if is_for(before, key) => Found::Nothing,
         Some(_) => Found::Else,
+    }
+}
+
+/// Returns whether a call waited for this, or for nothing.
+fn is_at(before: Option<Key>, key: Option<Key>) -> bool
+    ensures { result ≡ true → before ≡ key }
+{
+    match key {
+        Some(key) => is_for(before, key),
+        None => before.is_none(),
     }
 }
 

@@ -2,6 +2,7 @@
 ghost use Rattle.std.specs.Prelude.{◌≡◌, ◌≤◌, ◌⊎◌, vec_len, vec_capacity, [], false, IfSome, Some};
 ghost use Rattle.sysv_parking.specs.Agenda.{IsAtRest};
 ghost use Rattle.sysv_engine.specs.Heeding.{IsAllTold};
+ghost use Rattle.sysv_engine.specs.Lining.{key_of_place};
 ghost use Rattle.sysv_engine.specs.Marking.{IsMarked};
 ghost use Rattle.sysv_engine.specs.Waking.{WakesUp};
 ghost use Rattle.sysv_engine.specs.Places.{AdoptsOne, IsVacantAt, KeepsAll};
@@ -389,7 +390,9 @@ impl<'a, R: Wait, T: NonBlocking, W: Watch<T>> Worker<'a, R, T, W> {
 
     /// Returns what the parked call of the client waits for, or what gives back a message, if either
     /// waits.
-    pub(crate) fn key(&self, place: usize) -> Option<Key> {
+    pub(crate) fn key(&self, place: usize) -> Option<Key>
+        ensures { result ≡ key_of_place self.now.places.items place }
+    {
         self.places.get(place)?.key()
     }
 
