@@ -171,12 +171,6 @@ taken_by client place = record {
   returning = place.returning;
 }
 
--- The wait of a return that has come so far.
-abbrev pub wait_in : Return → Option SendWait
-wait_in (come.Waits wait) = Some wait
-wait_in come.Nothing = None
-wait_in (come.Over what) = None
-
 -- The numbers once a return has come so far.
 abbrev pub fates_by : Fates → Return → Fates
 fates_by fates (come.Waits wait) = fates

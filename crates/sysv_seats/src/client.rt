@@ -10,6 +10,7 @@ ghost use Rattle.sysv_seats.specs.Breaking.{MayBreak, MayEnd};
 ghost use Rattle.sysv_seats.specs.Callers.{includes};
 ghost use Rattle.sysv_seats.specs.Untold.{lets_in};
 ghost use Rattle.sysv_seats.specs.Limits.{has_limit};
+ghost use Rattle.sysv_seats.specs.Hand.{KeepsReturns};
 ghost use Rattle.sysv_seats.specs.HandlesKept.{KeepsHandles};
 ghost use Rattle.sysv_seats.specs.Notification.{Keeps as KeepsNotification, notifications_of, told_of};
 ghost use Rattle.sysv_wire.specs.declared.frame.Version.{Version as Known};
@@ -75,10 +76,10 @@ pub struct Client<T: NonBlocking> {
     has_left: bool,
     /// Whether the connection is of no use any more.
     is_broken: bool,
-    /// The number of requests that were taken up, including the hello, modulo 2^64.
-    requests: u64,
-    /// The number of bytes of replies that the connection has taken, modulo 2^64.
-    sent: u64,
+    /// The number of requests that were taken up, including the hello, modulo 2^32.
+    requests: u32,
+    /// The number of bytes of replies that the connection has taken, modulo 2^32.
+    sent: u32,
 }
 
 impl<T: NonBlocking> Model for Client<T> {
@@ -197,13 +198,13 @@ impl<T: NonBlocking> Client<T> {
         self.conversation.waiting_bytes()
     }
 
-    /// Returns the number of requests that were taken up, including the hello, modulo 2^64.
-    pub fn requests(&self) -> u64 {
+    /// Returns the number of requests that were taken up, including the hello, modulo 2^32.
+    pub fn requests(&self) -> u32 {
         self.requests
     }
 
-    /// Returns the number of bytes of replies that the connection has taken, modulo 2^64.
-    pub fn sent_bytes(&self) -> u64 {
+    /// Returns the number of bytes of replies that the connection has taken, modulo 2^32.
+    pub fn sent_bytes(&self) -> u32 {
         self.sent
     }
 
@@ -320,7 +321,7 @@ impl<T: NonBlocking> Client<T> {
         }
         match self.connection.drain(self.conversation.unsent()) {
             Drained::Took(count) => {
-                self.sent = self.sent.wrapping_add(count as u64);
+                self.sent = self.sent.wrapping_add(count as u32);
                 self.conversation.sent(count);
             }
             Drained::NothingNow => {}
@@ -334,6 +335,7 @@ impl<T: NonBlocking> Client<T> {
         ensures keeps { KeepsWith T.incoming T.outgoing (lets_in T.closes) self.old
             (holder_of handler.old) self.new (holder_of handler.new) }
         ensures handles { KeepsHandles handler.old.handler handler.new.handler }
+        ensures beside { KeepsReturns handler.old.hand handler.new.hand }
         ensures breaks { T.closes.breaks self.new.connection
             ≡ T.closes.breaks self.old.connection }
         ensures said { KeepsAsSaid T.closes self.old self.new }
@@ -351,6 +353,7 @@ impl<T: NonBlocking> Client<T> {
         ensures keeps { KeepsWith T.incoming T.outgoing (lets_in T.closes) self.old
             (holder_of handler.old) self.new (holder_of handler.new) }
         ensures handles { KeepsHandles handler.old.handler handler.new.handler }
+        ensures beside { KeepsReturns handler.old.hand handler.new.hand }
         ensures breaks { T.closes.breaks self.new.connection
             ≡ T.closes.breaks self.old.connection }
         ensures said { KeepsAsSaid T.closes self.old self.new }
@@ -481,6 +484,7 @@ impl<T: NonBlocking> Client<T> {
         ensures keeps { KeepsWith T.incoming T.outgoing (lets_in T.closes) self.old
             (holder_of handler.old) self.new (holder_of handler.new) }
         ensures handles { KeepsHandles handler.old.handler handler.new.handler }
+        ensures beside { KeepsReturns handler.old.hand handler.new.hand }
         ensures breaks { T.closes.breaks self.new.connection
             ≡ T.closes.breaks self.old.connection }
         ensures said { KeepsAsSaid T.closes self.old self.new }
@@ -498,6 +502,7 @@ impl<T: NonBlocking> Client<T> {
         ensures keeps { KeepsWith T.incoming T.outgoing (lets_in T.closes) self.old
             (holder_of handler.old) self.new (holder_of handler.new) }
         ensures handles { KeepsHandles handler.old.handler handler.new.handler }
+        ensures beside { KeepsReturns handler.old.hand handler.new.hand }
         ensures breaks { T.closes.breaks self.new.connection
             ≡ T.closes.breaks self.old.connection }
         ensures said { KeepsAsSaid T.closes self.old self.new }
@@ -538,6 +543,7 @@ impl<T: NonBlocking> Client<T> {
         ensures keeps { KeepsWith T.incoming T.outgoing (lets_in T.closes) self.old
             (holder_of handler.old) self.new (holder_of handler.new) }
         ensures handles { KeepsHandles handler.old.handler handler.new.handler }
+        ensures beside { KeepsReturns handler.old.hand handler.new.hand }
         ensures breaks { T.closes.breaks self.new.connection
             ≡ T.closes.breaks self.old.connection }
         ensures said { KeepsAsSaid T.closes self.old self.new }
@@ -570,12 +576,13 @@ impl<T: NonBlocking> Client<T> {
         ensures keeps { KeepsWith T.incoming T.outgoing (lets_in T.closes) self.old
             (holder_of handler.old) self.new (holder_of handler.new) }
         ensures handles { KeepsHandles handler.old.handler handler.new.handler }
+        ensures beside { KeepsReturns handler.old.hand handler.new.hand }
         ensures breaks { T.closes.breaks self.new.connection
             ≡ T.closes.breaks self.old.connection }
         ensures said { KeepsAsSaid T.closes self.old self.new }
     {
         let (size, taken) = self.read_next(&mut tools.text);
-        self.requests = self.requests.wrapping_add(u64::from(taken.is_ok()));
+        self.requests = self.requests.wrapping_add(u32::from(taken.is_ok()));
         match taken {
             Ok(TakenUp::Hello(version)) => {
                 let is_let_in = self.lets_in();
@@ -676,6 +683,7 @@ impl<T: NonBlocking> Client<T> {
             Sits T.incoming T.outgoing (lets_in T.closes) newest start origin self.new
             (timed (holder_of handler.new) late) }
         ensures handles { KeepsHandles handler.old.handler handler.new.handler }
+        ensures beside { KeepsReturns handler.old.hand handler.new.hand }
         ensures breaks { T.closes.breaks self.new.connection
             ≡ T.closes.breaks self.old.connection }
         ensures said { self.old.stopped ≡ None → KeepsAsSaid T.closes self.old self.new }
