@@ -11,7 +11,7 @@ use Rattle.sysv_wire.specs.declared.reply.Reply.{Reply as Answer}
 use Rattle.sysv_steps.specs.declared.send.SendWait.{SendWait}
 use Rattle.sysv_seats.specs.declared.returning.Return.{Return}
 use Rattle.sysv_seats.specs.declared.returning.Return.TheVariants as come
-use Rattle.sysv_seats.specs.GivingBack.{WaitsBack}
+use Rattle.sysv_seats.specs.GivingBack.{WaitsBack, wait_in}
 use Rattle.sysv_seats.specs.Holding.{Holder, Message, Timed, seconds_of}
 use Rattle.sysv_seats.specs.Said.{IsAsSaid}
 use Rattle.sysv_seats.specs.Sits.{Sits, Sitting}

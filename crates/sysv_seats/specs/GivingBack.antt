@@ -93,10 +93,10 @@ one_fated fate.Discarded fated = record fated { discarded = min (fated.discarded
 one_fated fate.Refused fated = record fated { refused = min (fated.refused + 1) (2 ^ 64 - 1) }
 
 -- The same, and the wait of a return, once the return has come so far.
-abbrev pub fated_by : Fated → Return → Fated
-fated_by fated (come.Waits wait) = fated
-fated_by fated come.Nothing = fated
-fated_by fated (come.Over what) = one_fated what fated
+abbrev pub fated_after : Fated → Return → Fated
+fated_after fated (come.Waits wait) = fated
+fated_after fated come.Nothing = fated
+fated_after fated (come.Over what) = one_fated what fated
 
 abbrev pub wait_in : Return → Option SendWait
 wait_in (come.Waits wait) = Some wait

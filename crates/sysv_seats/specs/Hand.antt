@@ -1,11 +1,12 @@
 -- What the sessions of a place hold, one after another (this project's profile): a message, the wait of the send that
 -- gives it back, if that waits, and what became of the messages before it.
-use Rattle.std.specs.Prelude.{◌≡◌, Bool, true, false, Option, None}
-use Rattle.std.specs.Global.{Global}
+use Rattle.std.specs.Prelude.{◌≡◌, ◌≤◌, Bool, true, false, is_some, not, [], Option, None, Some, vec_capacity}
+use Rattle.sysv_model.specs.declared.limits.TheConstants.{MESSAGE_BYTES}
+use Rattle.std.specs.declared.alloc.Global.{Global}
+use Rattle.std.specs.declared.boxed.Box.{Box}
 use Rattle.sysv_steps.specs.declared.send.SendWait.{SendWait}
 use Rattle.sysv_seats.specs.declared.hand.Kept.{Kept}
-use Rattle.sysv_seats.specs.declared.hand.State.{State}
-use Rattle.sysv_seats.specs.declared.hand.State.TheVariants.{Shut, Open}
+use Rattle.sysv_seats.specs.declared.hand.Room.{Room}
 use Rattle.sysv_seats.specs.declared.returning.Fated.{Fated}
 use Rattle.sysv_seats.specs.declared.returning.Returned.{Returned}
 use Rattle.sysv_seats.specs.Holding.{Message}
@@ -21,6 +22,11 @@ pub record InHand : Type 0 where
   pub memory : Option Global
   pub is_open : Bool
 
+-- The memory has room for a message of any size, and for the rest of what a hand holds that has no memory yet.
+abbrev pub HasRoom : InHand → Room → Type 0
+HasRoom hand room = (room.body.items ≡ []) × (MESSAGE_BYTES ≤ vec_capacity room.body)
+    × (is_some room.kept ≡ not hand.is_open)
+
 -- What was given back other than by a request stays, and so does the wait of the send that gives back the message.
 abbrev pub KeepsReturns : InHand → InHand → Type 0
 KeepsReturns old new = (new.returning ≡ old.returning) × (new.fated ≡ old.fated)
@@ -32,20 +38,20 @@ none_returned = record { sent = 0; gone = 0 }
 abbrev pub nothing_fated : Fated
 nothing_fated = record { sent = 0; discarded = 0; refused = 0 }
 
--- What memory holds in which nothing is held.
-abbrev pub nothing_kept : Kept
-nothing_kept = record {
-  message = None;
+-- What is kept once the first message is held.
+abbrev pub one_kept : Message → Kept
+one_kept message = record {
+  message = Some message;
   returning = None;
   due = None;
-  is_untimed = false;
+  is_untimed = true;
   returns = none_returned;
   fated = nothing_fated;
 }
 
--- A hand by its state.
-abbrev pub seen : State → InHand
-seen (Shut memory) = record {
+-- A hand by its memory.
+abbrev pub seen : Option Global → Option (Box Kept Global) → InHand
+seen memory None = record {
   message = None;
   returning = None;
   returns = none_returned;
@@ -53,7 +59,7 @@ seen (Shut memory) = record {
   memory = memory;
   is_open = false;
 }
-seen (Open memory kept) = record {
+seen memory (Some kept) = record {
   message = kept.value.message;
   returning = kept.value.returning;
   returns = kept.value.returns;

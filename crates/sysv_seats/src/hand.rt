@@ -1,12 +1,13 @@
 //! What the sessions of a place hold.
-ghost use Rattle.std.specs.Prelude.{◌≡◌, None, Some, cond, is_some, option_copied, true};
+ghost use Rattle.std.specs.Prelude.{◌≡◌, IfSome, MatchOption, None, Some, cond, is_some, not, true};
 ghost use Rattle.sysv_seats.specs.GivingBack.{one_fated, one_returned};
-ghost use Rattle.sysv_seats.specs.Hand.{empty_hand, nothing_kept};
+ghost use Rattle.sysv_seats.specs.Hand.{HasRoom, empty_hand, one_kept};
 
 use crate::holding::HeldMessage;
 use crate::returning::{Fate, Fated, Returned};
 use std::alloc::Global;
 use std::marker::Model;
+use sysv_model::MESSAGE_BYTES;
 use sysv_service::SendWait;
 
 /// What one session after another holds: a message, the wait of the send that gives it back, and what
@@ -16,24 +17,21 @@ use sysv_service::SendWait;
 /// a message.
 #[derive(Drop)]
 pub struct Hand {
-    state: State,
+    /// Memory for messages, if the session may hold one more.
+    memory: Option<Global>,
+    kept: Option<Box<Kept>>,
 }
 
-/// The state of a hand. `memory` is memory for messages, if the session may hold one more.
+/// Memory for a message, and for the rest of what a hand holds that has no memory yet.
 #[derive(Drop)]
-enum State {
-    /// No message was held yet.
-    Shut { memory: Option<Global> },
-    /// There is memory for what is held.
-    Open {
-        memory: Option<Global>,
-        kept: Box<Kept>,
-    },
+pub(crate) struct Room {
+    pub(crate) body: Vec<u8>,
+    pub(crate) kept: Option<Box<Kept>>,
 }
 
 /// What is held.
 #[derive(Drop)]
-struct Kept {
+pub(crate) struct Kept {
     message: Option<HeldMessage>,
     /// The wait of the send that gives back the message, if it waits.
     returning: Option<SendWait>,
@@ -51,7 +49,7 @@ impl Model for Hand {
 
     ghost Value = { InHand };
 
-    ghost view = { λ h. seen h.state };
+    ghost view = { λ h. seen h.memory h.kept };
 }
 
 impl Hand {
@@ -60,7 +58,8 @@ impl Hand {
         ensures { result ≡ empty_hand }
     {
         Hand {
-            state: State::Shut { memory: None },
+            memory: None,
+            kept: None,
         }
     }
 
@@ -68,58 +67,60 @@ impl Hand {
     pub(crate) fn memory(&self) -> Option<Global>
         ensures { result ≡ self.now.memory }
     {
-        let (State::Shut { memory } | State::Open { memory, .. }) = &self.state;
-        *memory
+        self.memory
     }
 
     /// Lets the session hold one more message in this memory, or none.
     pub(crate) fn set_memory(&mut self, memory: Option<Global>)
         ensures { self.new ≡ record self.old { memory = memory } }
     {
-        match &mut self.state {
-            State::Shut { memory: there } => *there = memory,
-            State::Open { memory: there, .. } => *there = memory,
-        }
+        self.memory = memory;
     }
 
-    /// Allocates the memory for what is held, if there is none. Returns whether there is some then.
-    pub(crate) fn open(&mut self, alloc: Global) -> bool
-        ensures open { result ≡ true → self.new.is_open ≡ true }
-        ensures same { self.new ≡ record self.old { is_open = self.new.is_open } }
+    /// Allocates memory for a message of any size, and for the rest of what is held if there is none.
+    /// Returns `None` if memory is refused.
+    pub(crate) fn room(&self, alloc: Global) -> Option<Room>
+        ensures { IfSome result (HasRoom self.now) }
     {
-        let State::Shut { memory } = &self.state else {
-            return true;
-        };
-        let memory = *memory;
-        let Ok(kept) = Box::new(alloc, Kept::empty()) else {
-            return false;
-        };
-        self.state = State::Open { memory, kept };
-        true
+        let body = Vec::with_capacity(alloc, MESSAGE_BYTES).ok()?;
+        if self.kept.is_some() {
+            return Some(Room { body, kept: None });
+        }
+        let kept = Box::new(alloc, Kept::empty()).ok()?;
+        Some(Room {
+            body,
+            kept: Some(kept),
+        })
     }
 
     /// Returns the message that is held.
     pub(crate) fn message(&self) -> Option<&HeldMessage>
-        ensures { option_copied result ≡ self.now.message }
+        ensures message { MatchOption result (self.now.message ≡ None)
+            (λ message. self.now.message ≡ Some message.now) }
+        ensures variant { is_some result ≡ is_some self.now.message }
     {
-        match &self.state {
-            State::Shut { .. } => None,
-            State::Open { kept, .. } => kept.message.as_ref(),
+        match &self.kept {
+            None => None,
+            Some(kept) => kept.message.as_ref(),
         }
     }
 
-    /// Takes this message. There is memory for it.
-    pub(crate) fn put(&mut self, message: HeldMessage)
-        requires { self.old.is_open ≡ true }
-        ensures { self.new ≡ record self.old { message = Some message } }
+    /// Takes this message. If nothing was held yet, `kept` is the memory for it.
+    pub(crate) fn put(&mut self, message: HeldMessage, kept: Option<Box<Kept>>)
+        requires { is_some kept ≡ not self.old.is_open }
+        ensures { self.new ≡ record self.old {
+          message = Some message;
+          is_open = true;
+        } }
     {
-        match &mut self.state {
-            State::Shut { .. } => unreachable!(),
-            State::Open { kept, .. } => {
-                kept.message = Some(message);
-                kept.is_untimed = true;
-            }
+        if let Some(there) = &mut self.kept {
+            there.message = Some(message);
+            there.is_untimed = true;
+            return;
         }
+        let Some(mut kept) = kept else { unreachable!() };
+        *kept = Kept::of(message);
+        self.kept = Some(kept);
     }
 
     /// Takes out the message.
@@ -127,9 +128,9 @@ impl Hand {
         ensures message { result ≡ self.old.message }
         ensures none { self.new ≡ record self.old { message = None } }
     {
-        match &mut self.state {
-            State::Shut { .. } => None,
-            State::Open { kept, .. } => kept.message.take(),
+        match &mut self.kept {
+            None => None,
+            Some(kept) => kept.message.take(),
         }
     }
 
@@ -144,9 +145,9 @@ impl Hand {
     pub(crate) fn returning(&self) -> Option<SendWait>
         ensures { result ≡ self.now.returning }
     {
-        match &self.state {
-            State::Shut { .. } => None,
-            State::Open { kept, .. } => kept.returning,
+        match &self.kept {
+            None => None,
+            Some(kept) => kept.returning,
         }
     }
 
@@ -155,9 +156,9 @@ impl Hand {
         requires { is_some self.old.message ≡ true }
         ensures { self.new ≡ record self.old { returning = Some wait } }
     {
-        match &mut self.state {
-            State::Shut { .. } => unreachable!(),
-            State::Open { kept, .. } => kept.returning = Some(wait),
+        match &mut self.kept {
+            None => unreachable!(),
+            Some(kept) => kept.returning = Some(wait),
         }
     }
 
@@ -165,9 +166,9 @@ impl Hand {
     pub(crate) fn leave(&mut self)
         ensures { self.new ≡ record self.old { returning = None } }
     {
-        match &mut self.state {
-            State::Shut { .. } => {}
-            State::Open { kept, .. } => kept.returning = None,
+        match &mut self.kept {
+            None => {}
+            Some(kept) => kept.returning = None,
         }
     }
 
@@ -181,9 +182,9 @@ impl Hand {
           fated = one_fated fate self.old.fated;
         } }
     {
-        match &mut self.state {
-            State::Shut { .. } => unreachable!(),
-            State::Open { kept, .. } => {
+        match &mut self.kept {
+            None => unreachable!(),
+            Some(kept) => {
                 kept.message = None;
                 kept.returning = None;
                 kept.returns.count(fate);
@@ -198,9 +199,9 @@ impl Hand {
           returns = cond self.old.is_open (one_returned fate self.old.returns) self.old.returns;
         } }
     {
-        match &mut self.state {
-            State::Shut { .. } => {}
-            State::Open { kept, .. } => kept.returns.count(fate),
+        match &mut self.kept {
+            None => {}
+            Some(kept) => kept.returns.count(fate),
         }
     }
 
@@ -209,9 +210,9 @@ impl Hand {
         ensures told { result ≡ self.old.returns }
         ensures none { self.new ≡ record self.old { returns = Returned.NONE } }
     {
-        match &mut self.state {
-            State::Shut { .. } => Returned::NONE,
-            State::Open { kept, .. } => {
+        match &mut self.kept {
+            None => Returned::NONE,
+            Some(kept) => {
                 let returns = kept.returns;
                 kept.returns = Returned::NONE;
                 returns
@@ -223,17 +224,17 @@ impl Hand {
     pub(crate) fn fated(&self) -> Fated
         ensures { result ≡ self.now.fated }
     {
-        match &self.state {
-            State::Shut { .. } => Fated::NONE,
-            State::Open { kept, .. } => kept.fated,
+        match &self.kept {
+            None => Fated::NONE,
+            Some(kept) => kept.fated,
         }
     }
 
     /// Returns whether a message is held, and `set_due` was not called since.
     pub(crate) fn is_untimed(&self) -> bool {
-        match &self.state {
-            State::Shut { .. } => false,
-            State::Open { kept, .. } => kept.is_untimed && kept.message.is_some(),
+        match &self.kept {
+            None => false,
+            Some(kept) => kept.is_untimed && kept.message.is_some(),
         }
     }
 
@@ -241,9 +242,9 @@ impl Hand {
     pub(crate) fn set_due(&mut self, due: Option<u64>)
         ensures { self.new ≡ self.old }
     {
-        match &mut self.state {
-            State::Shut { .. } => {}
-            State::Open { kept, .. } => {
+        match &mut self.kept {
+            None => {}
+            Some(kept) => {
                 kept.due = due;
                 kept.is_untimed = false;
             }
@@ -252,23 +253,35 @@ impl Hand {
 
     /// Returns when the time of the message is over, as `set_due` said.
     pub(crate) fn due(&self) -> Option<u64> {
-        match &self.state {
-            State::Shut { .. } => None,
-            State::Open { kept, .. } => kept.due,
+        match &self.kept {
+            None => None,
+            Some(kept) => kept.due,
         }
     }
 }
 
 impl Kept {
-    /// Returns memory in which nothing is held.
-    fn empty() -> Kept
-        ensures { result ≡ nothing_kept }
-    {
+    /// Returns what is kept if nothing is held.
+    fn empty() -> Kept {
         Kept {
             message: None,
             returning: None,
             due: None,
             is_untimed: false,
+            returns: Returned::NONE,
+            fated: Fated::NONE,
+        }
+    }
+
+    /// Returns what is kept once the first message is held.
+    fn of(message: HeldMessage) -> Kept
+        ensures { result ≡ one_kept message }
+    {
+        Kept {
+            message: Some(message),
+            returning: None,
+            due: None,
+            is_untimed: true,
             returns: Returned::NONE,
             fated: Fated::NONE,
         }

@@ -1,5 +1,5 @@
 //! The handler of sessions that may hold a message.
-ghost use Rattle.std.specs.Prelude.{◌≡◌, ◌≢◌, ◌≤◌, ℕ, List, [], None, IfSome, false, is_some, length, true, vec_capacity};
+ghost use Rattle.std.specs.Prelude.{◌≡◌, ◌≢◌, ◌≤◌, ℕ, List, [], None, IfSome, false, is_some, length, true};
 ghost use Rattle.sysv_model.specs.declared.limits.TheConstants.{MESSAGE_BYTES};
 ghost use Rattle.sysv_service.specs.Ran.{Pass as Seen};
 ghost use Rattle.sysv_service.specs.Seats.{AreOf};
@@ -10,21 +10,21 @@ ghost use Rattle.sysv_session.specs.Answers.{is_message};
 ghost use Rattle.sysv_seats.specs.Holding.{Holder, can_hold as may_hold, seconds_of};
 ghost use Rattle.sysv_seats.specs.Holding.{back_content as the_back_content, back_outcome as the_back_outcome};
 ghost use Rattle.sysv_seats.specs.Held.{AnyGoesOn, HoldBegun, HoldParked, HoldProgress, IsHoldWaitOf, Spends};
-ghost use Rattle.sysv_seats.specs.Hand.{KeepsReturns, empty_hand};
+ghost use Rattle.sysv_seats.specs.Hand.{HasRoom, KeepsReturns, empty_hand};
 ghost use Rattle.sysv_seats.specs.Held.{back_progress, held_after, held_at, hold_progress, holder_of};
 ghost use Rattle.sysv_seats.specs.GivingBack.{IsOfSend, made_by as the_made_by, waits_to_send};
 ghost use Rattle.sysv_seats.specs.Parked.{MayProgress};
 ghost use Rattle.sysv_seats.specs.Replies.{reply as the_reply};
 
+use crate::hand::{Hand, Room};
 use crate::handler::{ServiceHandler, reply};
-use crate::hand::Hand;
 use crate::holding::HeldMessage;
 use crate::returning::{fate_after, send_wait};
 use crate::waiting::Waiting;
 use bitflags::Flags as _;
 use std::alloc::Global;
 use std::sync::Wait;
-use sysv_model::{Body, Cred, Errno, Flags, MESSAGE_BYTES};
+use sysv_model::{Body, Cred, Errno, Flags};
 use sysv_queue::{Delivery, Tally};
 use sysv_service::{Clock, Pass, Progress};
 use sysv_session::RequestOutcome;
@@ -104,9 +104,8 @@ impl<'a, C: Clock, R: Wait> Keeper<'a, C, R> {
 
     /// Has the session hold messages in this memory from now on, or no further message.
     pub fn set_memory(&mut self, memory: Option<Global>)
-        ensures { self.new ≡ record self.old {
-          hand = record self.old.hand { memory = memory };
-        } }
+        ensures handler { self.new.handler ≡ self.old.handler }
+        ensures hand { self.new.hand ≡ record self.old.hand { memory = memory } }
     {
         self.hand.set_memory(memory);
     }
@@ -382,13 +381,11 @@ impl<'a, C: Clock, R: Wait> Keeper<'a, C, R> {
         seconds: u32,
         came: Progress<Waiting, RequestOutcome>,
         given: &Body,
-        memory: Vec<u8>,
+        memory: Room,
     ) -> Progress<Waiting, RequestOutcome>
-        requires empty { memory.items ≡ [] }
-        requires room { MESSAGE_BYTES ≤ vec_capacity memory }
+        requires room { HasRoom self.old.hand memory }
         requires short { length given.now ≤ MESSAGE_BYTES }
         requires none { self.old.hand.message ≡ None }
-        requires open { self.old.hand.is_open ≡ true }
         ensures progress { result ≡ hold_progress version came }
         ensures message { self.new.hand.message ≡ held_at cred id seconds came given.now }
         ensures handler { self.new.handler ≡ self.old.handler }
@@ -399,8 +396,9 @@ impl<'a, C: Clock, R: Wait> Keeper<'a, C, R> {
             Progress::Over(RequestOutcome::Got(delivery)) => {
                 let mtype = delivery.mtype();
                 spend(delivery);
-                let message = HeldMessage::new(cred, id, mtype, seconds, given, memory);
-                self.hand.put(message);
+                let Room { body, kept } = memory;
+                let message = HeldMessage::new(cred, id, mtype, seconds, given, body);
+                self.hand.put(message, kept);
                 Progress::Over(reply(version, Op::Hold, ReplyContent::Hold { mtype }))
             }
             Progress::Over(RequestOutcome::Reply(told)) => {
@@ -441,24 +439,16 @@ impl<'a, C: Clock, R: Wait> Keeper<'a, C, R> {
         !flags.contains(Flags::MSG_NOERROR) && self.hand.message().is_none()
     }
 
-    /// Returns memory for the body of a message, or `None` if one is held or memory is refused. There is
-    /// memory for the rest of what the hand holds then.
-    fn room(&mut self) -> Option<Vec<u8>>
-        ensures room { IfSome result (λ memory. (memory.items ≡ [])
-            × (MESSAGE_BYTES ≤ vec_capacity memory)) }
-        ensures free { IfSome result (λ _. self.old.hand.message ≡ None) }
-        ensures open { IfSome result (λ _. self.new.hand.is_open ≡ true) }
-        ensures none { self.old.hand.memory ≡ None → result ≡ None }
-        ensures same { self.new ≡ record self.old {
-          hand = record self.old.hand { is_open = self.new.hand.is_open };
-        } }
+    /// Returns memory for a message, or `None` if one is held or memory is refused.
+    fn room(&self) -> Option<Room>
+        ensures room { IfSome result (HasRoom self.now.hand) }
+        ensures free { IfSome result (λ _. self.now.hand.message ≡ None) }
+        ensures none { self.now.hand.memory ≡ None → result ≡ None }
     {
         if self.hand.message().is_some() {
             return None;
         }
-        let alloc = self.hand.memory()?;
-        let memory = Vec::with_capacity(alloc, MESSAGE_BYTES).ok()?;
-        self.hand.open(alloc).then_some(memory)
+        self.hand.room(self.hand.memory()?)
     }
 }
 

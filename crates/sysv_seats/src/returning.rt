@@ -2,7 +2,7 @@
 ghost use Rattle.std.specs.Prelude.{◌≡◌, None, false, is_some, true};
 ghost use Rattle.sysv_session.specs.Answers.{is_message};
 ghost use Rattle.sysv_seats.specs.GivingBack.{GoesBack, GoesBackOn, IsOfSend, fate_of, held_length, one_returned, return_by, waits_to_send};
-ghost use Rattle.sysv_seats.specs.GivingBack.{fated_by, one_fated, wait_in};
+ghost use Rattle.sysv_seats.specs.GivingBack.{fated_after, one_fated, wait_in};
 ghost use Rattle.sysv_seats.specs.HandlesKept.{KeepsHandles};
 ghost use Rattle.sysv_seats.specs.Held.{held_after, holder_of};
 
@@ -101,7 +101,7 @@ impl<'a, R: Wait> Keeper<'a, Zero, R> {
     pub fn give_back(&mut self, tools: &mut Tools) -> Return
         ensures goes { GoesBack (holder_of self.old) result (holder_of self.new) }
         ensures waits { self.new.hand.returning ≡ wait_in result }
-        ensures fated { self.new.hand.fated ≡ fated_by self.old.hand.fated result }
+        ensures fated { self.new.hand.fated ≡ fated_after self.old.hand.fated result }
         ensures handles { KeepsHandles self.old.handler self.new.handler }
     {
         let Some(message) = self.hand.message() else {
@@ -124,7 +124,7 @@ impl<'a, R: Wait> Keeper<'a, Zero, R> {
     pub fn give_back_on(&mut self, wait: SendWait, tools: &mut Tools) -> Return
         ensures goes { GoesBackOn (holder_of self.old) wait result (holder_of self.new) }
         ensures waits { self.new.hand.returning ≡ wait_in result }
-        ensures fated { self.new.hand.fated ≡ fated_by self.old.hand.fated result }
+        ensures fated { self.new.hand.fated ≡ fated_after self.old.hand.fated result }
         ensures handles { KeepsHandles self.old.handler self.new.handler }
     {
         let Some(message) = self.hand.message() else {
@@ -150,9 +150,8 @@ impl<'a, R: Wait> Keeper<'a, Zero, R> {
 
     /// Leaves that send. The message is still held.
     pub fn leave_return(&mut self)
-        ensures { self.new ≡ record self.old {
-          hand = record self.old.hand { returning = None };
-        } }
+        ensures handler { self.new.handler ≡ self.old.handler }
+        ensures hand { self.new.hand ≡ record self.old.hand { returning = None } }
     {
         self.hand.leave();
     }
@@ -167,9 +166,8 @@ impl<'a, R: Wait> Keeper<'a, Zero, R> {
     /// Returns the numbers of messages that were given back since this was last asked.
     pub fn take_returns(&mut self) -> Returned
         ensures told { result ≡ self.old.hand.returns }
-        ensures none { self.new ≡ record self.old {
-          hand = record self.old.hand { returns = Returned.NONE };
-        } }
+        ensures handler { self.new.handler ≡ self.old.handler }
+        ensures hand { self.new.hand ≡ record self.old.hand { returns = Returned.NONE } }
     {
         self.hand.take_returns()
     }
@@ -196,7 +194,7 @@ impl<'a, R: Wait> Keeper<'a, Zero, R> {
         ensures came { result ≡ return_by progress }
         ensures message { self.new.hand.message ≡ held_after self.old.hand.message progress }
         ensures waits { self.new.hand.returning ≡ wait_in result }
-        ensures fated { self.new.hand.fated ≡ fated_by self.old.hand.fated result }
+        ensures fated { self.new.hand.fated ≡ fated_after self.old.hand.fated result }
         ensures handler { self.new.handler ≡ self.old.handler }
     {
         match progress {
