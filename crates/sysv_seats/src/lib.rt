@@ -32,6 +32,7 @@ pub use attendance::Attendance;
 pub use book::Replies;
 pub use callers::Callers;
 pub use client::Client;
+pub use hand::Hand;
 pub use handler::ServiceHandler;
 pub use hello_frame::hello_cred;
 pub use holding::HeldMessage;
