@@ -1,5 +1,6 @@
 -- The sockets of a server (this project's programs).
-use Rattle.std.specs.Prelude.{List, ◌∷◌, cond, take}
+use Rattle.std.specs.Prelude.{List, ◌∷◌, cond, map, take}
+use Rattle.sysv_seats.specs.declared.callers.Callers.{Callers}
 use Rattle.sysv_seats.specs.declared.callers.Callers.TheVariants.{Anyone}
 use Rattle.sysv_options.specs.declared.asked.Serving.{Serving}
 use Rattle.sysv_options.specs.declared.sockets.Entrance.{Entrance}
@@ -14,3 +15,7 @@ abbrev pub sockets_of : Serving → List Entrance
 sockets_of serving =
     cond serving.no_main (listed serving.others)
     (record { file = serving.file; callers = Anyone } ∷ listed serving.others)
+
+-- The callers that the sockets of a server let in, in order.
+abbrev pub callers_let_in : Serving → List Callers
+callers_let_in serving = map (λ (socket : Entrance). socket.callers) (sockets_of serving)

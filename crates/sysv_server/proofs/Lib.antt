@@ -1,3 +1,4 @@
 pub mod Came
+pub mod LetIn
 pub mod AnyOpen
 pub mod Accepted

@@ -1,12 +1,16 @@
 //! The server.
-ghost use Rattle.std.specs.Prelude.{◌≡◌, ◌∷◌, ◌++◌, [], codes, IfErr, IfOk};
+ghost use Rattle.std.specs.Prelude.{◌≡◌, ◌≤◌, ◌∷◌, ◌++◌, [], codes, IfErr, IfOk, IfSome, length, map};
 ghost use Rattle.std.specs.Fmt.{decimal};
 ghost use Rattle.std.specs.Io.KnownBytes.{Appends};
 ghost use Rattle.sysv_connect.specs.Ends.{Fails, SucceedsOnlyIf};
 ghost use Rattle.sysv_options.specs.Asked.{HasLimits};
+ghost use Rattle.sysv_options.specs.Sockets.{callers_let_in};
+ghost use Rattle.sysv_options.specs.declared.sockets.TheConstants.{MAX_OTHERS};
+ghost use Rattle.sysv_server.specs.LetIn.{callers_at};
 ghost use Rattle.sysv_server.specs.Serving.{EndsFrom, FailsFrom, HasCause, limits_in};
 ghost use Rattle.sysvmsg.specs.Ends.{HasServed, HasServedAll, HasServedFrom, RanWithin, places_of};
 ghost use Rattle.sysvmsg.specs.Ends.{fates_of, line_of, sums_line, words_of};
+ghost use Rattle.sysvmsg.specs.Sockets.{AreFirst};
 
 use crate::room::room;
 use crate::socket::listen_at;
@@ -61,8 +65,8 @@ pub(crate) fn serve_on_sockets<
     screen: &mut S,
 ) -> ExitCode
     requires { HasLimits serving.now }
-    ensures { HasServedAll limit serving.now.until_eof serving.now.terms result
-        (S.contents screen.old) (S.contents screen.new) }
+    ensures { HasServedAll limit serving.now.until_eof serving.now.terms
+        (callers_let_in serving.now) result (S.contents screen.old) (S.contents screen.new) }
 {
     let rt = server.rt;
     let host = Reporter {
@@ -93,8 +97,8 @@ fn serve_at_doors<
     screen: &mut S,
 ) -> ExitCode
     requires { HasLimits serving.now }
-    ensures { HasServedAll limit serving.now.until_eof serving.now.terms result
-        (S.contents screen.old) (S.contents screen.new) }
+    ensures { HasServedAll limit serving.now.until_eof serving.now.terms
+        (map callers_at sockets.items) result (S.contents screen.old) (S.contents screen.new) }
 {
     let mut listener = Doors::new(sockets, host);
     serve_at(rt, &mut listener, &host, input, serving, limit, screen)
@@ -102,7 +106,11 @@ fn serve_at_doors<
 
 /// Returns the sockets of a server, which its host has not opened yet, in order. Returns `None` if
 /// memory is refused.
-fn sockets_of<H: Copy>(alloc: Global, host: H, serving: &Serving<'_>) -> Option<Vec<Hosted<H>>> {
+fn sockets_of<H: Copy>(alloc: Global, host: H, serving: &Serving<'_>) -> Option<Vec<Hosted<H>>>
+    ensures first { IfSome result (λ sockets. AreFirst serving.now sockets.items) }
+    ensures all { serving.now.others.count ≤ MAX_OTHERS → IfSome result (λ sockets.
+        length sockets.items ≡ length (callers_let_in serving.now)) }
+{
     let mut sockets = Vec::with_capacity(alloc, serving.count()).ok()?;
     for number in 0..serving.count() {
         let Some(socket) = serving.socket(number) else {
