@@ -13,10 +13,13 @@ use running::exit_of;
 use serving::OnSockets;
 use std::fs::File;
 use std::io;
+use std::io::IsTerminal;
 use std::process::ExitCode;
 use sysv_connect::{Screen, Socket};
 use sysv_system::Watched;
 
+/// Only this function has all of the runtime. Of the others, each has what it needs: none can print on
+/// standard output but by the screen.
 fn main(rt: HostRuntime) -> ExitCode {
     let _stand_ins = [stand_in(&rt), stand_in(&rt), stand_in(&rt)];
     let (mut stream, mut screen) = (None, Screen::new(io::writer(&rt)));
@@ -25,8 +28,12 @@ fn main(rt: HostRuntime) -> ExitCode {
         stream: &mut stream,
     };
     let server = OnSockets::new(&rt);
+    let system = System {
+        rt: &rt,
+        is_terminal: rt.stdout().is_terminal(),
+    };
     exit_of(
-        &System { rt: &rt },
+        &system,
         &rt,
         rt.stdin(),
         place,
