@@ -68,7 +68,8 @@ new_writer contents buffered writer is empty =
 
 -- What follows of a place without a connection and what follows of a connection, follows of a visit.
 pub visited_so : {P C : Type 0} (Refuses : Error → Type 0) (place : P) (Unmade Failed : Bool → Type 0)
-    (Did Done : C → Type 0) (contact : Contact P C) → ((refused : Bool) → Unmade refused → Failed refused) → ((connection : C) → Did connection → Done connection)
+    (Did Done : C → Type 0) (contact : Contact P C) → ((refused : Bool) → Unmade refused → Failed refused)
+    → ((connection : C) → Did connection → Done connection)
     → Visited Refuses place Unmade Did contact → Visited Refuses place Failed Done contact
 visited_so Refuses place Unmade Failed Did Done (Unused same) f g h = (h.0, f false h.1)
 visited_so Refuses place Unmade Failed Did Done (Refused why) f g h = (h.0, f true h.1)

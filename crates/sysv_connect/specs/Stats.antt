@@ -25,7 +25,8 @@ pub record PrintsState (json : Bool) (left rest taken more shown after : Option 
 
 -- It asked the server no more than that. It told a fault, or printed a prefix of all bytes that the
 -- server wrote.
-pub record PrintsPart (telling : Telling) (json : Bool) (left rest taken more shown after : Option (List ℕ)) : Type 0 where
+pub record PrintsPart (telling : Telling) (json : Bool)
+    (left rest taken more shown after : Option (List ℕ)) : Type 0 where
   pub bytes : List ℕ
   pub asks : AppendsPrefix taken more (asked_with json)
   pub read : ((why : ClientFault) × Tells telling (fault_line why) shown after)

@@ -33,7 +33,7 @@ pub(crate) fn hold_at<P: Place, S: Write>(
     screen: &mut Screen<S>,
 ) -> Visit<P, Link<P::Input, P::Output>>
     ensures { Visited (P.refuses place teller.now.path.now) place
-        (λ refused. Fails result.exit
+        (λ _. Fails result.exit
         × (S.contents screen.new.writer ≡ S.contents screen.old.writer))
         (λ link. Holds receiving.now result.exit
         (P.incoming place teller.now.path.now) (left_by P.Input.remaining link)

@@ -76,7 +76,7 @@ pub fn load_at<I: Read, P: Place>(
     loading: &Loading<'_>,
 ) -> Visit<P, Link<P::Input, P::Output>>
     ensures { Visited (P.refuses place loading.now.path.now) place
-        (λ refused. Fails result.exit × (I.remaining input.new ≡ I.remaining input.old))
+        (λ _. Fails result.exit × (I.remaining input.new ≡ I.remaining input.old))
         (λ link. Loads (loading_of cred loading.now) result.exit
         (P.incoming place loading.now.path.now) (left_by P.Input.remaining link)
         (P.outgoing place loading.now.path.now) (taken_by P.Output.contents link)

@@ -42,7 +42,7 @@ pub fn save_at<P: Place, S: Write>(
     screen: &mut Screen<S>,
 ) -> Visit<P, Link<P::Input, P::Output>>
     ensures { Visited (P.refuses place saving.now.path.now) place
-        (λ refused. Fails result.exit
+        (λ _. Fails result.exit
         × (S.contents screen.new.writer ≡ S.contents screen.old.writer))
         (λ link. Saves cred result.exit
         (P.incoming place saving.now.path.now) (left_by P.Input.remaining link)

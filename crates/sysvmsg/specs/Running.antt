@@ -1,6 +1,7 @@
 -- What the program does by its words and where it runs (this project's programs). Its input had `fed`;
 -- standard output had `shown` before and has `after` now.
-use Rattle.std.specs.Prelude.{◌≡◌, ◌⊎◌, ℕ, Bool, List, [], ◌∷◌, ◌++◌, codes, Option, Some, IfSome, bytes_eq, if◌then◌else◌}
+use Rattle.std.specs.Prelude.{◌≡◌, ◌⊎◌, ℕ, Bool, List, [], ◌∷◌, ◌++◌, codes, Option, Some, IfSome, bytes_eq}
+use Rattle.std.specs.Prelude.{if◌then◌else◌}
 use Rattle.std.specs.declared.io.Error.{Error}
 use Rattle.std.specs.declared.process.ExitCode.{ExitCode}
 use Rattle.clap.specs.Values.{kind_of}
@@ -106,7 +107,7 @@ module _ {P R W : Type 0} (remaining : R → Option (List ℕ)) (contents : W �
   abbrev pub SavesQueues : (path : List ℕ) → Cred → ExitCode → (shown after : Option (List ℕ)) →
       Contact P (Link R W) → Type 0
   SavesQueues path cred exit shown after contact =
-      Visited (Refuses place path) place (λ refused. Fails exit × (after ≡ shown))
+      Visited (Refuses place path) place (λ _. Fails exit × (after ≡ shown))
       (λ link. Saves cred exit (incoming place path) (left_by remaining link) (outgoing place path)
       (taken_by contents link) shown after) contact
 
@@ -115,7 +116,7 @@ module _ {P R W : Type 0} (remaining : R → Option (List ℕ)) (contents : W �
       Contact P (Link R W) → Type 0
   LoadsQueues path loading exit fed shown after contact =
       (unfed : Option (List ℕ)) × (after ≡ shown)
-      × Visited (Refuses place path) place (λ refused. Fails exit × (unfed ≡ fed))
+      × Visited (Refuses place path) place (λ _. Fails exit × (unfed ≡ fed))
       (λ link. Loads loading exit (incoming place path) (left_by remaining link) (outgoing place path)
       (taken_by contents link) fed unfed) contact
 

@@ -18,8 +18,8 @@ use std::process::ExitCode;
 use sysv_connect::{Screen, Socket};
 use sysv_system::Watched;
 
-/// Only this function has all of the runtime. Of the others, each has what it needs: none can print on
-/// standard output but by the screen.
+/// Runs the program. Only this function has the whole runtime: no other can print on standard output
+/// but by the screen.
 fn main(rt: HostRuntime) -> ExitCode {
     let _stand_ins = [stand_in(&rt), stand_in(&rt), stand_in(&rt)];
     let (mut stream, mut screen) = (None, Screen::new(io::writer(&rt)));
@@ -32,14 +32,7 @@ fn main(rt: HostRuntime) -> ExitCode {
         rt: &rt,
         is_terminal: rt.stdout().is_terminal(),
     };
-    exit_of(
-        &system,
-        &rt,
-        rt.stdin(),
-        place,
-        server,
-        &mut screen,
-    )
+    exit_of(&system, &rt, rt.stdin(), place, server, &mut screen)
 }
 
 /// Opens a stand-in for a closed standard stream, so that no socket gets its descriptor. A read

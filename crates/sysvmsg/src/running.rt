@@ -21,8 +21,8 @@ use std::sync::Wait;
 use std::thread::Threads;
 use sysv_clients::Command;
 use sysv_connect::{
-    Contact, How, Link, Looking, Place, Progress, Screen, Telling, Visit, load_at, look_at, put, run_as,
-    save_at, say,
+    Contact, How, Link, Looking, Place, Progress, Screen, Telling, Visit, load_at, look_at, put,
+    run_as, save_at, say,
 };
 use sysv_options::{
     Asked, NoWords, Process, Serving, Surroundings, credentials, no_text, read_words, surroundings,
@@ -240,7 +240,12 @@ fn tell<S: Write>(
 
 /// Shows a text on the screen and returns this status. If memory for the text is refused, that is
 /// told in its place.
-fn show<D: Display, S: Write>(alloc: Global, text: &D, exit: ExitCode, screen: &mut Screen<S>) -> ExitCode
+fn show<D: Display, S: Write>(
+    alloc: Global,
+    text: &D,
+    exit: ExitCode,
+    screen: &mut Screen<S>,
+) -> ExitCode
     ensures status { (result ≡ exit) ⊎ Fails result }
     ensures shown { ShowsText (D.output text.now) (S.contents screen.old.writer)
         (S.contents screen.new.writer) }

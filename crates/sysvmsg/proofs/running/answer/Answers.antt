@@ -96,7 +96,7 @@ returns-in-Save g c =
     let after = g.S.Write.contents c.save_at.new.screen.writer in
     rw c.in-Save.is
     (subst (λ (cred : Cred).
-    Visited (g.P.Place.refuses c.args.place path) c.args.place (λ refused. Fails exit × (after ≡ shown))
+    Visited (g.P.Place.refuses c.args.place path) c.args.place (λ _. Fails exit × (after ≡ shown))
     (λ link.
     Saves cred exit (g.P.Place.incoming c.args.place path) (left_by g.P.Input.Read.remaining link)
     (g.P.Place.outgoing c.args.place path) (taken_by g.P.Output.Write.contents link) shown after)
@@ -113,7 +113,7 @@ returns-in-Load g c =
       unfed,
       refl,
       subst (λ (cred : Cred).
-          Visited (g.P.Place.refuses c.args.place path) c.args.place (λ refused. Fails exit × (unfed ≡ fed))
+          Visited (g.P.Place.refuses c.args.place path) c.args.place (λ _. Fails exit × (unfed ≡ fed))
           (λ link.
           Loads (loading_of cred c.in-Load.loading) exit (g.P.Place.incoming c.args.place path)
           (left_by g.P.Input.Read.remaining link) (g.P.Place.outgoing c.args.place path)
