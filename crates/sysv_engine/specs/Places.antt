@@ -152,6 +152,10 @@ fates_at_end place = cond (is_some place.message) (with_unsent place.fates) plac
 abbrev pub IsIdle : {T : Type 0} → Sitting T → Type 0
 IsIdle client = (client.parked ≡ None) × (length client.input ≡ 0) × (length client.dialogue.unsent.bytes ≡ 0)
 
+-- There is a client, and its connection takes no more replies.
+abbrev pub IsCutOff : {T : Type 0} → Option (Sitting T) → Type 0
+IsCutOff {T} client = IsSomeAnd client (λ (there : Sitting T). there.broken ≡ true)
+
 -- There is a client, which is idle and holds no message.
 abbrev pub IsIdleAt : {B T : Type 0} → Seated B T → Type 0
 IsIdleAt place = IsSomeAnd place.client IsIdle × (place.message ≡ None)

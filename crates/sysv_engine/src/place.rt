@@ -1,5 +1,5 @@
 //! The places of a server: each serves one client after another.
-ghost use Rattle.std.specs.Prelude.{◌≡◌, ◌+◌, None, Some, IfSome, cond, is_some, not, true};
+ghost use Rattle.std.specs.Prelude.{◌≡◌, ◌+◌, None, Some, IfSome, cond, is_some, not, true, false};
 ghost use Rattle.sysv_service.specs.Seats.{AreOf};
 ghost use Rattle.sysv_seats.specs.Said.{KeepsAsSaid};
 ghost use Rattle.sysv_seats.specs.Sits.{Keeps, is_finished};
@@ -7,9 +7,10 @@ ghost use Rattle.sysv_seats.specs.Untold.{lets_in};
 ghost use Rattle.sysv_engine.specs.Added.{added, capped, nothing, one_session};
 ghost use Rattle.sysv_engine.specs.Fated.{none_fated, with_unsent};
 ghost use Rattle.sysv_engine.specs.Handled.{one_refused};
+ghost use Rattle.sysv_engine.specs.Lining.{frame_length, key_in, parked_key};
 ghost use Rattle.sysv_engine.specs.Places.{IsIdle, IsIdleAt, KeepsPlace, MayLapse, TakesIn};
 ghost use Rattle.sysv_engine.specs.Places.{come_so_far, fates_at_end, fates_by, has_ended, is_vacant};
-ghost use Rattle.sysv_engine.specs.Places.{taken_by, wait_in};
+ghost use Rattle.sysv_engine.specs.Places.{IsCutOff, taken_by, wait_in};
 
 use crate::awaited::key_of;
 use crate::fates::Fates;
@@ -406,17 +407,20 @@ impl<'a, R: Wait, T: NonBlocking> Place<'a, R, T> {
         self.refused = self.refused.saturating_add(refusals(served));
     }
 
-    /// Has the client's connection watched. If that is refused, the client ends.
-    pub(crate) fn begin<W: Watch<T>>(&mut self, watch: &mut W, place: usize)
+    /// Has the client's connection watched. If that is refused, the client ends, and the result is
+    /// `false`.
+    pub(crate) fn begin<W: Watch<T>>(&mut self, watch: &mut W, place: usize) -> bool
         ensures keeps { KeepsPlace T.incoming T.outgoing T.closes self.old self.new }
+        ensures refused { result ≡ false → IsCutOff self.new.client }
     {
         let Some(client) = &mut self.client else {
-            return;
+            return true;
         };
         if watch.add(client.connection(), place) {
-            return;
+            return true;
         }
         client.cut_off();
+        false
     }
 
     /// Learns what a watch reports.
@@ -504,17 +508,34 @@ impl<'a, R: Wait, T: NonBlocking> Place<'a, R, T> {
     }
 
     /// Returns what the parked call waits for, or the send that gives back a message, if one waits.
-    pub(crate) fn key(&self) -> Option<Key> {
+    pub(crate) fn key(&self) -> Option<Key>
+        ensures { result ≡ key_in self.now }
+    {
         if let Some(wait) = self.returning {
             return Some(key_of(&Waiting::Send(wait), self.handler.return_length()));
         }
-        let client = self.client.as_ref()?;
-        Some(key_of(&client.waiting()?, self.parked_length(client)))
+        match &self.client {
+            Some(client) => self.parked_key(client),
+            None => None,
+        }
+    }
+
+    /// Returns what the parked call of the client waits for, if one is parked.
+    fn parked_key(&self, client: &Client<T>) -> Option<Key>
+        ensures { result ≡ parked_key self.now.message client.now.parked }
+    {
+        let length = self.parked_length(client);
+        match client.waiting() {
+            Some(waiting) => Some(key_of(&waiting, length)),
+            None => None,
+        }
     }
 
     /// Returns the number of bytes in the frame of the client's parked call. That of a back is the
     /// send of the message that is held.
-    fn parked_length(&self, client: &Client<T>) -> usize {
+    fn parked_length(&self, client: &Client<T>) -> usize
+        ensures { result ≡ frame_length self.now.message client.now.parked }
+    {
         if client.awaits_back() {
             self.handler.return_length()
         } else {
@@ -610,16 +631,41 @@ impl<'a, R: Wait, T: NonBlocking> Place<'a, R, T> {
         self.in_turns = in_turns;
     }
 
-    /// Has the watch report when the connection may take bytes, if and only if some wait for it.
-    pub(crate) fn await_room<W: Watch<T>>(&mut self, watch: &mut W, place: usize)
+    /// Has the watch report when the connection may take bytes, if and only if some wait for it. If
+    /// that is refused, the client ends, and the result is `false`.
+    pub(crate) fn await_room<W: Watch<T>>(&mut self, watch: &mut W, place: usize) -> bool
         ensures keeps { KeepsPlace T.incoming T.outgoing T.closes self.old self.new }
+        ensures refused { result ≡ false → IsCutOff self.new.client }
     {
-        let Some(client) = &self.client else {
-            return;
+        let awaits = self.has_unsent();
+        if awaits == self.awaits_room {
+            return true;
+        }
+        self.awaits_room = awaits;
+        self.watch_for_room(watch, place, awaits)
+    }
+
+    /// Has the watch report also when the connection may take bytes, or not any more. If that is
+    /// refused, the client ends, and the result is `false`.
+    fn watch_for_room<W: Watch<T>>(&mut self, watch: &mut W, place: usize, awaits: bool) -> bool
+        ensures keeps { KeepsPlace T.incoming T.outgoing T.closes self.old self.new }
+        ensures refused { result ≡ false → IsCutOff self.new.client }
+    {
+        let Some(client) = &mut self.client else {
+            return true;
         };
-        if client.has_unsent() != self.awaits_room {
-            self.awaits_room = client.has_unsent();
-            watch.await_room(client.connection(), place, self.awaits_room);
+        if watch.await_room(client.connection(), place, awaits) {
+            return true;
+        }
+        client.cut_off();
+        false
+    }
+
+    /// Returns whether replies wait for the connection.
+    fn has_unsent(&self) -> bool {
+        match &self.client {
+            Some(client) => client.has_unsent(),
+            None => false,
         }
     }
 

@@ -11,3 +11,4 @@ pub mod Said
 pub mod Returns
 pub mod Fated
 pub mod Known
+pub mod Keeping

@@ -242,6 +242,9 @@ impl<R: Files + Net + Eprint + AllocGlobal + Clone + Drop> Host for Reporter<'_,
             Notice::NoLast => {
                 let _ = eprintln!(*rt; "sysvmsg: no further session is served alone");
             }
+            Notice::Unwatched => {
+                let _ = eprintln!(*rt; "sysvmsg: cannot watch a client, and cuts it off");
+            }
             Notice::Cut => {
                 let _ = eprintln!(*rt; "sysvmsg: the sessions that are left are cut off");
             }

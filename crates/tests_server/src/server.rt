@@ -247,7 +247,7 @@ const STATE_BEGINS: &[u8] = b"{\"version\":\"";
 const STATE_ENDS: &[u8] = b",\"sessions\":1,\"sessions_max\":2,\"sessions_total\":1,\
     \"has_waiting_clients\":0,\"waiting_receives\":0,\"waiting_sends\":0,\"waiting_for_blocks\":0,\
     \"sent_total\":1,\"taken_total\":0,\"written_total\":0,\"lost_total\":0,\"blocks\":128,\
-    \"free_blocks\":127,\"held\":0,\"back_total\":0,\"gone_total\":0,\
+    \"free_blocks\":127,\"held\":0,\"back_total\":0,\"gone_total\":0,\"unwatched_total\":0,\
     \"queues\":[{\"key\":\"0x00000007\",\"msqid\":0,\"slot\":0,\"bytes\":3,\"messages\":1,\
     \"waiting_receives\":0,\"waiting_sends\":0}],\
     \"slots\":[{\"slot\":0,\"sent_total\":1,\"taken_total\":0}]}\n";

@@ -14,7 +14,8 @@ use Rattle.sysv_seats.specs.Untold.{lets_in}
 use Rattle.sysv_seats.proofs.client.Client.settle.Goals as goal
 
 -- The body that was given is the same.
-given_still : (old new : Tools) → new ≡ record old { notifications = new.notifications } → new.given ≡ old.given
+given_still : (old new : Tools) → new ≡ record old { notifications = new.notifications; missed = new.missed } →
+    new.given ≡ old.given
 given_still old new is = ap (λ (t : Tools). t.given) is
 
 pub put-requires-clause-text : goal.put-requires-clause-text
