@@ -37,12 +37,22 @@ abbrev pub rest_of : (holds : Bool) → Fates → List ℕ
 rest_of false fates = 10 ∷ []
 rest_of true fates = fates_of fates
 
+-- The same, after the number of messages that were still queued at the end.
+abbrev pub queued_of : ℕ → List ℕ → List ℕ
+queued_of queued rest = codes " queued " ++ decimal queued ++ rest
+
+-- What follows the sums of a server without an input. If sessions might not hold messages, the line ends there.
+abbrev pub plain_of : (holds : Bool) → ℕ → Fates → List ℕ
+plain_of false queued fates = 10 ∷ []
+plain_of true queued fates = queued_of queued (fates_of fates)
+
 -- The line with the sums of a server. That of a server that may have an input also has the number of
 -- calls that its end cut off.
 abbrev pub sums_line : (has_input : Bool) → Ended → List ℕ
-sums_line false ended = line_of ended.sums (rest_of ended.setting.holds ended.fates)
+sums_line false ended = line_of ended.sums (plain_of ended.setting.holds ended.queued ended.fates)
 sums_line true ended =
-    line_of ended.sums (codes " cut " ++ decimal ended.cut ++ rest_of ended.setting.holds ended.fates)
+    line_of ended.sums
+    (codes " cut " ++ decimal ended.cut ++ queued_of ended.queued (rest_of ended.setting.holds ended.fates))
 
 -- What is printed of a server that did not serve to its end. A thread that cannot be started lacks memory
 -- or is one too many.

@@ -6,7 +6,7 @@ ghost use Rattle.sysv_connect.specs.Ends.{Fails, SucceedsOnlyIf};
 ghost use Rattle.sysv_options.specs.Asked.{HasLimits};
 ghost use Rattle.sysv_server.specs.Serving.{EndsFrom, FailsFrom, HasCause, limits_in, looks_in};
 ghost use Rattle.sysvmsg.specs.Ends.{HasServed, HasServedAll, HasServedFrom, RanWithin, places_of};
-ghost use Rattle.sysvmsg.specs.Ends.{fates_of, line_of, sums_line, words_of};
+ghost use Rattle.sysvmsg.specs.Ends.{fates_of, line_of, queued_of, sums_line, words_of};
 
 use crate::room::room;
 use crate::socket::listen_at;
@@ -423,17 +423,18 @@ fn fail<S: Write>(screen: &mut S, fault: &str) -> ExitCode
     ExitCode::from(FAULT)
 }
 
-/// Prints the sums, for a server that may have had an input the number of calls that its end cut off,
-/// and what became of the messages that sessions held, if they might hold any.
+/// Prints the sums. For a server that may have had an input it also prints the number of calls that
+/// its end cut off and that of the messages that were still queued; and if sessions might hold
+/// messages, the latter and what became of those that they held.
 fn tell<S: Write>(screen: &mut S, ended: &Ended, has_input: bool) -> ExitCode
     ensures { SucceedsOnlyIf (Appends (S.contents screen.old) (S.contents screen.new)
         (sums_line has_input ended.now)) result }
 {
     match (has_input, ended.setting.holds()) {
         (false, false) => tell_sums(screen, &ended.sums),
-        (true, false) => tell_cut(screen, &ended.sums, ended.cut),
-        (false, true) => tell_held(screen, &ended.sums, &ended.fates),
-        (true, true) => tell_all(screen, &ended.sums, ended.cut, &ended.fates),
+        (true, false) => tell_cut(screen, &ended.sums, ended.cut, ended.queued),
+        (false, true) => tell_held(screen, &ended.sums, ended.queued, &ended.fates),
+        (true, true) => tell_all(screen, &ended.sums, ended.cut, ended.queued, &ended.fates),
     }
 }
 
@@ -457,10 +458,11 @@ fn tell_sums<S: Write>(screen: &mut S, sums: &Sums) -> ExitCode
     }
 }
 
-/// Prints the sums, and the number of calls that the end cut off.
-fn tell_cut<S: Write>(screen: &mut S, sums: &Sums, cut: u64) -> ExitCode
+/// Prints the sums, the number of calls that the end cut off, and that of the messages that were
+/// still queued.
+fn tell_cut<S: Write>(screen: &mut S, sums: &Sums, cut: u64, queued: u64) -> ExitCode
     ensures { SucceedsOnlyIf (Appends (S.contents screen.old) (S.contents screen.new)
-        (line_of sums.now (codes " cut " ++ decimal cut ++ 10 ∷ []))) result }
+        (line_of sums.now (codes " cut " ++ decimal cut ++ queued_of queued (10 ∷ [])))) result }
 {
     let Sums {
         sessions,
@@ -470,42 +472,44 @@ fn tell_cut<S: Write>(screen: &mut S, sums: &Sums, cut: u64) -> ExitCode
     } = *sums;
     match writeln!(
         screen,
-        "sessions {sessions} taken {taken} written {written} lost {lost} cut {cut}"
+        "sessions {sessions} taken {taken} written {written} lost {lost} cut {cut} queued {queued}"
     ) {
         Ok(()) => ExitCode::SUCCESS,
         Err(_) => ExitCode::from(FAULT),
     }
 }
 
-/// Prints the sums, and what became of the messages that sessions held.
-#[tactic(auto, using(crate::proofs::Lines::held_line))]
-fn tell_held<S: Write>(screen: &mut S, sums: &Sums, fates: &Fates) -> ExitCode
-    ensures { SucceedsOnlyIf (Appends (S.contents screen.old) (S.contents screen.new)
-        (line_of sums.now (fates_of fates.now))) result }
-{
-    match begin_sums(screen, sums) {
-        Ok(()) => tell_fates(screen, fates),
-        Err(_) => ExitCode::from(FAULT),
-    }
-}
-
-/// Prints the sums, the number of calls that the end cut off, and what became of the messages that
+/// Prints the sums, the number of messages that were still queued, and what became of those that
 /// sessions held.
-#[tactic(auto, using(crate::proofs::Lines::whole_line))]
-fn tell_all<S: Write>(screen: &mut S, sums: &Sums, cut: u64, fates: &Fates) -> ExitCode
+#[tactic(auto, using(crate::proofs::Lines::held_line))]
+fn tell_held<S: Write>(screen: &mut S, sums: &Sums, queued: u64, fates: &Fates) -> ExitCode
     ensures { SucceedsOnlyIf (Appends (S.contents screen.old) (S.contents screen.new)
-        (line_of sums.now (codes " cut " ++ decimal cut ++ fates_of fates.now))) result }
+        (line_of sums.now (queued_of queued (fates_of fates.now)))) result }
 {
-    match begin_cut(screen, sums, cut) {
+    match begin_sums(screen, sums, queued) {
         Ok(()) => tell_fates(screen, fates),
         Err(_) => ExitCode::from(FAULT),
     }
 }
 
-/// Prints the sums, and does not end the line.
-fn begin_sums<S: Write>(screen: &mut S, sums: &Sums) -> io::Result<()>
+/// Prints the sums, the number of calls that the end cut off, that of the messages that were still
+/// queued, and what became of those that sessions held.
+#[tactic(auto, using(crate::proofs::Lines::whole_line))]
+fn tell_all<S: Write>(screen: &mut S, sums: &Sums, cut: u64, queued: u64, fates: &Fates) -> ExitCode
+    ensures { SucceedsOnlyIf (Appends (S.contents screen.old) (S.contents screen.new)
+        (line_of sums.now (codes " cut " ++ decimal cut ++ queued_of queued (fates_of fates.now))))
+        result }
+{
+    match begin_cut(screen, sums, cut, queued) {
+        Ok(()) => tell_fates(screen, fates),
+        Err(_) => ExitCode::from(FAULT),
+    }
+}
+
+/// Prints the sums and the number of messages that were still queued, and does not end the line.
+fn begin_sums<S: Write>(screen: &mut S, sums: &Sums, queued: u64) -> io::Result<()>
     ensures { IfOk result (λ _. Appends (S.contents screen.old) (S.contents screen.new)
-        (line_of sums.now [])) }
+        (line_of sums.now (queued_of queued []))) }
 {
     let Sums {
         sessions,
@@ -515,14 +519,15 @@ fn begin_sums<S: Write>(screen: &mut S, sums: &Sums) -> io::Result<()>
     } = *sums;
     write!(
         screen,
-        "sessions {sessions} taken {taken} written {written} lost {lost}"
+        "sessions {sessions} taken {taken} written {written} lost {lost} queued {queued}"
     )
 }
 
-/// Prints the sums and the number of calls that the end cut off, and does not end the line.
-fn begin_cut<S: Write>(screen: &mut S, sums: &Sums, cut: u64) -> io::Result<()>
+/// Prints the sums, the number of calls that the end cut off, and that of the messages that were
+/// still queued, and does not end the line.
+fn begin_cut<S: Write>(screen: &mut S, sums: &Sums, cut: u64, queued: u64) -> io::Result<()>
     ensures { IfOk result (λ _. Appends (S.contents screen.old) (S.contents screen.new)
-        (line_of sums.now (codes " cut " ++ decimal cut))) }
+        (line_of sums.now (codes " cut " ++ decimal cut ++ queued_of queued []))) }
 {
     let Sums {
         sessions,
@@ -532,7 +537,7 @@ fn begin_cut<S: Write>(screen: &mut S, sums: &Sums, cut: u64) -> io::Result<()>
     } = *sums;
     write!(
         screen,
-        "sessions {sessions} taken {taken} written {written} lost {lost} cut {cut}"
+        "sessions {sessions} taken {taken} written {written} lost {lost} cut {cut} queued {queued}"
     )
 }
 
