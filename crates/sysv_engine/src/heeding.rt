@@ -98,8 +98,11 @@ impl<'a, 'c, R: Wait, T: NonBlocking, W: Watch<T>> Tells<Serving<'a, 'c, R>>
 
     ghost keeps_itself = { λ worker. (λ gates standings each. each, λ told. told) };
 
-    ghost keeps_on = { λ x y z first then. (λ gates standings each.
-        then.0 gates standings (first.0 gates standings each), λ told. then.1 (first.1 told)) };
+    ghost keeps_on = { λ x y z first then. (
+      λ gates standings each.
+          then.0 gates standings (first.0 gates standings each),
+      λ told. then.1 (first.1 told),
+    ) };
 }
 
 impl<'a, 'c, R: Wait, T: NonBlocking, W: Watch<T>> Calls<Serving<'a, 'c, R>>

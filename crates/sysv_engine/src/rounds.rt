@@ -316,7 +316,11 @@ impl<'a, 'c, R: Wait> Serving<'a, 'c, R> {
 
     /// Has the watch report when a client's connection may take bytes, if some wait for it. If the
     /// system refuses that, the client ends.
-    fn await_room<T: NonBlocking, W: Watch<T>>(&self, worker: &mut Worker<'a, R, T, W>, place: usize)
+    fn await_room<T: NonBlocking, W: Watch<T>>(
+        &self,
+        worker: &mut Worker<'a, R, T, W>,
+        place: usize,
+    )
         ensures keeps { KeepsAll T.incoming T.outgoing T.closes worker.old.places.items
             worker.new.places.items }
         ensures agenda { worker.new.agenda ≡ worker.old.agenda }
