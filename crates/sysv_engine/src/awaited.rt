@@ -16,6 +16,13 @@ pub(crate) fn key_of(waiting: &Waiting, length: usize) -> Key
     ensures key { result ≡ key_for waiting.now length }
     ensures word { (text : List ℕ) → word_of result ≡ word_for (awaited (wait_in waiting.now text)) }
 {
+    key_by(waiting, length)
+}
+
+/// Returns what this call waits for, whose frame has this length.
+fn key_by(waiting: &Waiting, length: usize) -> Key
+    ensures { result ≡ key_for waiting.now length }
+{
     match *waiting {
         Waiting::Send(SendWait::Room { send, .. }) => Key::Room {
             caller: caller(send.id, send.cred),

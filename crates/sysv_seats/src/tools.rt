@@ -125,6 +125,13 @@ impl Tools {
     pub fn has_taken(&self, taken: i64) -> bool
         ensures { result ≡ list_any (is_taken taken) (notifications_in self.now) }
     {
+        self.keeps_taken(taken)
+    }
+
+    /// Returns whether it is among the notifications that a message of this type was taken.
+    fn keeps_taken(&self, taken: i64) -> bool
+        ensures { result ≡ list_any (is_taken taken) self.now.notifications.items }
+    {
         self.notifications.iter().any(
             |it| matches!(it, Notification::Freed { mtype, .. } if *mtype == taken),
         )
