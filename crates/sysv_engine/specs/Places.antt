@@ -11,7 +11,7 @@ use Rattle.sysv_wire.specs.declared.reply.Reply.{Reply as Answer}
 use Rattle.sysv_steps.specs.declared.send.SendWait.{SendWait}
 use Rattle.sysv_seats.specs.declared.returning.Return.{Return}
 use Rattle.sysv_seats.specs.declared.returning.Return.TheVariants as come
-use Rattle.sysv_seats.specs.GivingBack.{WaitsBack}
+use Rattle.sysv_seats.specs.GivingBack.{WaitsBack, wait_in}
 use Rattle.sysv_seats.specs.Holding.{Holder, Message, Timed, seconds_of}
 use Rattle.sysv_seats.specs.Said.{IsAsSaid}
 use Rattle.sysv_seats.specs.Sits.{Sits, Sitting}
@@ -174,12 +174,6 @@ taken_by client place = record {
   message = place.message;
   returning = place.returning;
 }
-
--- The wait of a return that has come so far.
-abbrev pub wait_in : Return → Option SendWait
-wait_in (come.Waits wait) = Some wait
-wait_in come.Nothing = None
-wait_in (come.Over what) = None
 
 -- The numbers once a return has come so far.
 abbrev pub fates_by : Fates → Return → Fates

@@ -139,7 +139,7 @@ pub(crate) fn stream<'a>(
 fn assert_counts(
     rt: &impl Abort,
     client: &Client<MemoryStream<'_>>,
-    counts: (u64, u64),
+    counts: (u32, u32),
     is_within: bool,
     has_more: bool,
 ) {
