@@ -398,9 +398,11 @@ fn remove_on<R: Leave, W: Write + Drop, S: Write>(
         teller.refusal(rt, refusal);
     }
     match outcome {
-        Ok(()) if refusals.is_empty() => return ExitCode::SUCCESS,
-        Ok(()) => {}
-        Err(fault) => teller.fault(rt, screen, fault.line(), detail_of(fault, false, link)),
+        Ok(()) if refusals.is_empty() => ExitCode::SUCCESS,
+        Ok(()) => ExitCode::from(FAULT),
+        Err(fault) => {
+            teller.fault(rt, screen, fault.line(), detail_of(fault, false, link));
+            ExitCode::from(FAULT)
+        }
     }
-    ExitCode::from(FAULT)
 }

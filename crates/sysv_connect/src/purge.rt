@@ -1,5 +1,6 @@
 //! A `rcv` that empties a queue.
 ghost use Rattle.std.specs.Prelude.{◌≡◌, [], IfOk, vec_len};
+ghost use Rattle.sysv_clients.specs.Faults.{fault_line};
 ghost use Rattle.sysv_connect.specs.Ends.{Fails};
 ghost use Rattle.sysv_connect.specs.Links.{left_by, taken_by};
 ghost use Rattle.sysv_connect.specs.Purge.{Purges, ShowsCount, count_line, purging_of, stop_line};
@@ -167,12 +168,19 @@ fn tell<R: Leave, W: Write + Drop, S: Write>(
     ensures { Tells teller.now.telling (stop_line stop) (S.contents screen.old.writer)
         (S.contents screen.new.writer) }
 {
-    let fault = match stop {
-        Stop::Fault(fault) => fault,
-        Stop::Screen(_) => ClientFault::NoMemory,
-    };
+    let fault = fault_of(stop);
     teller.fault(rt, screen, fault.line(), detail_of(fault, false, link));
     if taken > 0 {
         report(rt, taken);
+    }
+}
+
+/// Returns the fault that ended a session. A session lacks memory if it cannot keep the LFs.
+fn fault_of(stop: Stop) -> ClientFault
+    ensures { fault_line result ≡ stop_line stop }
+{
+    match stop {
+        Stop::Fault(fault) => fault,
+        Stop::Screen(_) => ClientFault::NoMemory,
     }
 }

@@ -1,10 +1,11 @@
 -- Nothing is left to tell if nothing is left of what is told by it.
-use Rattle.std.proofs.Common.{◌≡◌, ◌∙◌, List, [], ◌∷◌, Option, None, ap, append-nil, map, refl, sym, subst}
+use Rattle.std.proofs.Common.{◌≡◌, ◌∙◌, ◌++◌, List, [], ◌∷◌, Option, None, ap, append-nil, map, option_to_list, refl}
+use Rattle.std.proofs.Common.{sym, subst}
 use Rattle.sysv_parking.specs.Agenda.{TakesNews}
 use Rattle.sysv_seats.specs.declared.notification.Notification.{Notification}
 use Rattle.sysv_seats.specs.declared.tools.Tools.{Tools}
 use Rattle.sysv_seats.specs.Notification.{TakesLast, notifications_in}
-use Rattle.sysv_engine.specs.Heeding.{news_of}
+use Rattle.sysv_engine.specs.Heeding.{StaysTold, news_of}
 
 pub none_told : (told : List Notification) → map news_of told ≡ [] → told ≡ []
 none_told [] is = refl
@@ -19,3 +20,12 @@ pub none_news : (taken : Option Notification) (old new : Tools) → taken ≡ No
 none_news taken old new none takes =
     let left = subst (λ (t : Option Notification). TakesLast old t new) none takes in
     (ap (map news_of) (left.3 refl), ap (map news_of) (none_left old new left))
+
+first_none : (one other : List Notification) → one ++ other ≡ [] → one ≡ []
+first_none [] other is = refl
+first_none (it ∷ one) other is = absurd (cc is)
+
+-- What was taken leaves nothing new to tell.
+pub stays_told : (taken : Option Notification) (old new : Tools) → TakesLast old taken new → StaysTold old new
+stays_told taken old new takes told =
+    first_none (notifications_in new) (option_to_list taken) (sym takes.2 ∙ told)

@@ -1,6 +1,6 @@
 -- The order in which a call is parked (this project's profile): it enters its line, its worker says so in
 -- the word of what it waits for, and then it is looked at once more.
-use Rattle.std.specs.Prelude.{◌≡◌, ℕ, Option, None, Some, IsSomeAnd}
+use Rattle.std.specs.Prelude.{◌≡◌, ◌⊎◌, ℕ, Option, None, Some, IsSomeAnd}
 use Rattle.sysv_parking.specs.Agenda.{Agenda}
 use Rattle.sysv_parking.specs.Keys.{word_of}
 use Rattle.sysv_parking.specs.Parking.{key_at}

@@ -12,7 +12,7 @@ use Rattle.sysv_steps.specs.State.{Ending, Zero, Refused, Over}
 use Rattle.sysv_steps.specs.Stepping.{no_moment}
 use Rattle.sysv_service.specs.Ran.{Pass, Comes}
 use Rattle.sysv_service.specs.Told.{TellsRow, TellsZero}
-use Rattle.sysv_service.specs.Stopped.{superuser, is_overflow, StopsAt, is_vacant, is_worn, tries, Stops}
+use Rattle.sysv_service.specs.Stopped.{superuser, is_overflow, StopsAt, is_vacant, is_worn, tries}
 use Rattle.sysv_service.specs.Stopped.{goes_on, count_of, is_refused, messages_at, messages_of, StopsSlot, StopsSo}
 
 is_other : (why : Errno) → why ≢ EOVERFLOW → is_overflow (Refused why) ≡ false

@@ -76,12 +76,10 @@ impl Service {
                 Err(_) => worn = true,
             }
         }
-        let removed = if worn {
-            Err(Errno::EOVERFLOW)
-        } else {
-            Ok(removed)
-        };
-        Stop { removed, messages }
+        Stop {
+            removed: told(removed, worn),
+            messages,
+        }
     }
 
     /// Removes the queue at this slot, and returns the number of messages that its row states.
@@ -102,4 +100,14 @@ impl Service {
             Err(_) => Ok(None),
         }
     }
+}
+
+/// Returns what a stop returns that removed this number of queues, and found a gate worn out or not.
+fn told(removed: u32, worn: bool) -> Result<u32, Errno>
+    ensures { TellsStop removed worn result }
+{
+    if worn {
+        return Err(Errno::EOVERFLOW);
+    }
+    Ok(removed)
 }

@@ -4,7 +4,7 @@ ghost use Rattle.clap.specs.Values.{kind_of};
 ghost use Rattle.sysv_connect.specs.Ends.{Fails, Succeeds};
 ghost use Rattle.sysv_options.specs.Asked.{IsWithinLimits};
 ghost use Rattle.sysvmsg.specs.Running.{Answers, AnswersWords, EndsIn, IsHelp, ShowsText, TellsNoWords, TellsRefused};
-ghost use Rattle.sysvmsg.specs.Running.{asked_by};
+ghost use Rattle.sysvmsg.specs.Running.{TellsError, asked_by};
 
 use crate::scripts::answer_script;
 use crate::serving::{OnSockets, serve_on_sockets};
@@ -216,7 +216,7 @@ fn tell<S: Write>(
     screen: &mut Screen<S>,
 ) -> ExitCode
     ensures help { Succeeds result → IsHelp (kind_of error.now) }
-    ensures told { TellsError telling (kind_of error.now) (S.contents screen.old.writer)
+    ensures told { TellsRefused telling (kind_of error.now) (S.contents screen.old.writer)
         (S.contents screen.new.writer) }
 {
     match error.kind() {
@@ -225,16 +225,30 @@ fn tell<S: Write>(
             show(rt.alloc(), error, ExitCode::SUCCESS, screen)
         }
         _ => {
-            let exit = ExitCode::from(NOT_UNDERSTOOD);
-            let exit = match telling {
-                Telling::Line | Telling::Both => show(rt.alloc(), error, exit, screen),
-                Telling::Sentence => exit,
-            };
+            let exit = show_error(rt, error, telling, screen);
             if telling.has_sentence() {
                 let _ = eprint!(rt; "{error}");
             }
             exit
         }
+    }
+}
+
+/// Shows why a command line is not valid, if faults are told by lines. Returns the status of that.
+fn show_error<S: Write>(
+    rt: &impl AllocGlobal,
+    error: &Error,
+    telling: Telling,
+    screen: &mut Screen<S>,
+) -> ExitCode
+    ensures fails { Fails result }
+    ensures told { TellsError telling (S.contents screen.old.writer)
+        (S.contents screen.new.writer) }
+{
+    let exit = ExitCode::from(NOT_UNDERSTOOD);
+    match telling {
+        Telling::Line | Telling::Both => show(rt.alloc(), error, exit, screen),
+        Telling::Sentence => exit,
     }
 }
 

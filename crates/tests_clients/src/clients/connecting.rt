@@ -278,7 +278,8 @@ fn a_client_without_a_server_fails(rt: HostRuntime) {
     assert_is(&rt, exit, ExitCode::from(FAULT));
     assert_is(&rt, is_made, false);
     let shown = screen.writer.text();
-    assert!(&rt; shown == b"sysvmsg: no server\n" || shown == b"sysvmsg: no memory\n");
+    let is_told = shown == b"sysvmsg: no server\n".as_slice();
+    assert!(&rt; is_told || shown == b"sysvmsg: no memory\n".as_slice());
 }
 
 /// Runs a client with this command at a place. Returns how it ends, and whether a connection was
@@ -343,7 +344,7 @@ fn a_fault_is_reported(rt: HostRuntime) {
     let mut screen = Tape::new(&rt, rt.alloc());
     let exit = say(&mut screen, "sysvmsg: no server\n");
     assert_is(&rt, exit, ExitCode::from(FAULT));
-    assert_is(&rt, screen.text() == b"sysvmsg: no server\n", true);
+    assert_is(&rt, screen.text() == b"sysvmsg: no server\n".as_slice(), true);
 }
 
 #[test]

@@ -9,7 +9,7 @@ or_true : (b : Bool) → (b || true) ≡ true
 or_true true = refl
 or_true false = refl
 
-for_both : Bool → Bool → Why
+abbrev for_both : Bool → Bool → Why
 for_both changed raised = record { changed = changed; raised = raised }
 
 both_all : (why : Why) → both why by_all ≡ by_all

@@ -1,4 +1,4 @@
-use Rattle.std.proofs.Common.{ℕ, ◌+◌, ◌<◌, ◌^◌, Option, None, Some, Ok, ap, ◌∙◌, arith, rules, refl}
+use Rattle.std.proofs.Common.{ℕ, ◌+◌, ◌<◌, ◌^◌, Option, Ok, ap, ◌∙◌, arith, rules, refl}
 use Rattle.sysv_service.specs.Stopped.{begins}
 use Rattle.sysv_service.proofs.SlotBySlot.{next_slot}
 use Rattle.sysv_service.proofs.service.Service.stop_counting.Goals.{in-Ok-Some, in-Ok-None, in-Err}
