@@ -58,6 +58,14 @@ module _ {A : Type 0} where
 
 -- ---- sockets
 
+-- There are fewer left to make.
+pub fewer_left : (serving : Serving) (n m : ℕ) (entrance : Entrance) →
+    slice_get (sockets_of serving) n ≡ Some entrance → m ≡ n + 1 →
+    length (sockets_of serving) - m < length (sockets_of serving) - n
+fewer_left serving n m entrance there longer =
+    let within = slice_get_within (sockets_of serving) n entrance there in
+    omega (arith, within, longer)
+
 module _ {H : Type 0} where
   counted : (callers : List Callers) (sockets : List (Hosted H)) → AreSocketsFor callers sockets →
       length sockets ≡ length callers
@@ -84,12 +92,6 @@ module _ {H : Type 0} where
   )
 
   module _ (serving : Serving) where
-    pub none_made : (n : ℕ) (sockets : List (Hosted H)) → n ≡ 0 → sockets ≡ [] →
-        AreSocketsFor (take n (common_let_in serving)) sockets
-    none_made n sockets none empty =
-        subst (λ (k : ℕ). AreSocketsFor (take k (common_let_in serving)) sockets) (sym none)
-        (subst (AreSocketsFor []) (sym empty) (tt, refl))
-
     -- The next one of those that are opened together.
     pub next_made : (n m : ℕ) (sockets after : List (Hosted H)) (hosted : Hosted H) (entrance : Entrance) →
         AreSocketsFor (take n (common_let_in serving)) sockets → slice_get (sockets_of serving) n ≡ Some entrance →
@@ -112,12 +114,6 @@ module _ {H : Type 0} where
             let within = slice_get_within (common_let_in serving) n entrance.callers here in
             let taken = length-take n (common_let_in serving) in
             omega (arith, within, taken)
-
-    pub fewer_left : (n m : ℕ) (entrance : Entrance) → slice_get (sockets_of serving) n ≡ Some entrance → m ≡ n + 1 →
-        length (sockets_of serving) - m < length (sockets_of serving) - n
-    fewer_left n m entrance there longer =
-        let within = slice_get_within (sockets_of serving) n entrance there in
-        omega (arith, within, longer)
 
     -- There are no more of these.
     pub common_made : (n : ℕ) (sockets : List (Hosted H)) → AreSocketsFor (take n (common_let_in serving)) sockets →

@@ -2,12 +2,8 @@
 use Rattle.std.proofs.Common.{◌∙◌, ap, sym, vec_len}
 use Rattle.std.specs.Prelude.{slice_get}
 use Rattle.sysv_options.specs.Sockets.{sockets_of}
-use Rattle.sysvmsg.proofs.MadeSockets.{common_made, fewer_left, next_made, none_made}
+use Rattle.sysvmsg.proofs.MadeSockets.{common_made, fewer_left, next_made}
 use Rattle.sysvmsg.proofs.serving.common_of.Goals as goal
-
-pub loop-socket-init : goal.loop-socket-init
-loop-socket-init g c =
-    none_made c.args.serving.now _ _ c.in_ok-sockets.ensures.len c.in_ok-sockets.ensures.items
 
 pub loop-socket-preserved : goal.loop-socket-preserved
 loop-socket-preserved g c =
