@@ -72,7 +72,8 @@ asked_later word more no_end no_wish =
 -- What the words from this one on say.
 pub asked_from : {A : Type 0} (words : List (String A)) (at : ℕ) (word : String A) → at < length words
     → word ≡ get_or words at word
-    → asked_by (map string_bytes (drop at words)) ≡ asked_by (string_bytes word ∷ map string_bytes (drop (at + 1) words))
+    → asked_by (map string_bytes (drop at words))
+    ≡ asked_by (string_bytes word ∷ map string_bytes (drop (at + 1) words))
 asked_from words at word within is =
     ap (λ l. asked_by (map string_bytes l))
     (drop_more words at word within ∙ ap (λ w. w ∷ drop (at + 1) words) (sym is))

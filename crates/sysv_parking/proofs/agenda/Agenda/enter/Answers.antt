@@ -22,7 +22,10 @@ at_set : (whys : List Why) (place : ℕ) (why : Why) → (slice_index_or (slice_
     ⊎ (length (slice_set whys place why) ≤ place)
 at_set [] place why = inr (omega arith)
 at_set (x ∷ whys) zero why = inl refl
-at_set (x ∷ whys) (suc place) why = elim (at_set whys place why) [ inl is ↦ inl is | inr out ↦ inr (omega (arith, out)) ]
+at_set (x ∷ whys) (suc place) why = elim (at_set whys place why) [
+  | inl is ↦ inl is
+  | inr out ↦ inr (omega (arith, out))
+]
 
 pub returns-clause-due : goal.returns-clause-due
 returns-clause-due c = λ refused.
