@@ -1,12 +1,15 @@
 //! The server.
-ghost use Rattle.std.specs.Prelude.{◌≡◌, ◌∷◌, ◌++◌, [], codes, IfErr, IfOk};
+ghost use Rattle.std.specs.Prelude.{◌≡◌, ◌∷◌, ◌++◌, [], codes, IfErr, IfOk, IfSome, map};
 ghost use Rattle.std.specs.Fmt.{decimal};
 ghost use Rattle.std.specs.Io.KnownBytes.{Appends};
 ghost use Rattle.sysv_connect.specs.Ends.{Fails, SucceedsOnlyIf};
 ghost use Rattle.sysv_options.specs.Asked.{HasLimits};
+ghost use Rattle.sysv_options.specs.Sockets.{callers_let_in, common_let_in};
+ghost use Rattle.sysv_server.specs.LetIn.{callers_at, sockets_at};
 ghost use Rattle.sysv_server.specs.Serving.{EndsFrom, FailsFrom, HasCause, limits_in, looks_in};
 ghost use Rattle.sysvmsg.specs.Ends.{HasServed, HasServedAll, HasServedFrom, RanWithin, places_of};
 ghost use Rattle.sysvmsg.specs.Ends.{fates_of, line_of, queued_of, sums_line, words_of};
+ghost use Rattle.sysvmsg.specs.Sockets.{AreSocketsFor};
 
 use crate::room::room;
 use crate::socket::listen_at;
@@ -26,7 +29,7 @@ use sysv_options::Serving;
 use sysv_seats::Attendance;
 use sysv_server::{
     Callers, Doors, Ended, Fates, Host, Hosted, Input, Listens, MAX_CLIENTS, Notice, Reading,
-    Reason, ServeFault, Sums, Terms, serve_from,
+    Reason, ServeFault, Sums, Terms, each_connection_is_let_in, serve_from,
 };
 use sysv_system::{Event, Watched, await_event};
 
@@ -64,8 +67,8 @@ pub(crate) fn serve_on_sockets<
     screen: &mut S,
 ) -> ExitCode
     requires { HasLimits serving.now }
-    ensures { HasServedAll limit serving.now.until_eof serving.now.terms result
-        (S.contents screen.old) (S.contents screen.new) }
+    ensures { HasServedAll limit serving.now.until_eof serving.now.terms
+        (callers_let_in serving.now) result (S.contents screen.old) (S.contents screen.new) }
 {
     let rt = server.rt;
     let host = Reporter {
@@ -97,37 +100,59 @@ fn serve_at_doors<
     screen: &mut S,
 ) -> ExitCode
     requires { HasLimits serving.now }
-    ensures { HasServedAll limit serving.now.until_eof serving.now.terms result
-        (S.contents screen.old) (S.contents screen.new) }
+    ensures { HasServedAll limit serving.now.until_eof serving.now.terms
+        (map callers_at sockets.items) result (S.contents screen.old) (S.contents screen.new) }
 {
-    let mut listener = if serving.alone.is_some() {
-        Doors::with_alone(sockets, host)
-    } else {
-        Doors::new(sockets, host)
-    };
+    each_connection_is_let_in::<H>();
+    let mut listener = doors_of(host, sockets, serving.alone.is_some());
     serve_at(rt, &mut listener, &host, input, serving, limit, screen)
 }
 
-/// Returns the sockets of a server, which its host has not opened yet, in order, and then the one at
-/// which sessions are served alone, if there is one: it lets in user 0. Returns `None` if memory is
-/// refused.
-fn sockets_of<H: Copy>(alloc: Global, host: H, serving: &Serving<'_>) -> Option<Vec<Hosted<H>>> {
+/// Returns the doors with these sockets. If `has_alone` says so, sessions are served alone at the
+/// last one.
+fn doors_of<H: Host>(host: H, sockets: Vec<Hosted<H>>, has_alone: bool) -> Doors<Hosted<H>, H>
+    ensures { sockets_at result ≡ sockets.items }
+{
+    if has_alone {
+        Doors::with_alone(sockets, host)
+    } else {
+        Doors::new(sockets, host)
+    }
+}
+
+/// Returns the sockets of a server, which its host has not opened yet: those that are opened
+/// together, in order, and then the one at which sessions are served alone, if there is one. Returns
+/// `None` if memory is refused.
+fn sockets_of<H: Copy>(alloc: Global, host: H, serving: &Serving<'_>) -> Option<Vec<Hosted<H>>>
+    ensures { IfSome result (λ sockets.
+        AreSocketsFor (callers_let_in serving.now) sockets.items) }
+{
+    let mut sockets = common_of(alloc, host, serving)?;
+    if serving.alone.is_none() {
+        return Some(sockets);
+    }
+    let number = sockets.len();
+    sockets.push(Hosted::new(host, number, ROOT, None)).ok()?;
+    Some(sockets)
+}
+
+/// Returns the sockets of a server that are opened together, in order, with room for one more.
+/// Returns `None` if memory is refused.
+fn common_of<H: Copy>(alloc: Global, host: H, serving: &Serving<'_>) -> Option<Vec<Hosted<H>>>
+    ensures { IfSome result (λ sockets.
+        AreSocketsFor (common_let_in serving.now) sockets.items) }
+{
     let count = serving.count();
     let mut sockets = Vec::with_capacity(alloc, count.saturating_add(1)).ok()?;
-    for number in 0..count {
-        let Some(socket) = serving.socket(number) else {
-            continue;
-        };
+    while let Some(socket) = serving.socket(sockets.len()) {
         let attendance = if count > 1 {
             Some(Attendance::try_new(alloc)?)
         } else {
             None
         };
+        let number = sockets.len();
         let socket = Hosted::new(host, number, socket.callers, attendance);
         sockets.push(socket).ok()?;
-    }
-    if serving.alone.is_some() {
-        sockets.push(Hosted::new(host, count, ROOT, None)).ok()?;
     }
     Some(sockets)
 }
