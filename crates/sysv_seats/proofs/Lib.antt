@@ -12,4 +12,3 @@ pub mod Returns
 pub mod Fates
 pub mod Known
 pub mod Keeping
-pub mod Hands
