@@ -14,7 +14,6 @@ use serving::OnSockets;
 use std::fs::File;
 use std::io;
 use std::io::IsTerminal;
-use std::os::fd::AsRawFd;
 use std::process::ExitCode;
 use std::rt::Files;
 use sysv_connect::{Screen, Socket};
@@ -40,10 +39,7 @@ fn main(rt: HostRuntime) -> ExitCode {
 /// Opens a stand-in for a closed standard stream, so that no socket gets its descriptor. A read
 /// from it is at the end of the input, and a write to it fails. Returns `None` if no standard
 /// stream is closed, or if `/dev/null` cannot be opened.
-fn stand_in<R: Files>(rt: &R) -> Option<R::File>
-where
-    R::File: AsRawFd,
-{
+fn stand_in(rt: &impl Files<File = File>) -> Option<File> {
     let file = File::open(rt, "/dev/null").ok()?;
     Watched::of(&file).is_standard().then_some(file)
 }

@@ -121,8 +121,8 @@ fn doors_of<H: Host>(host: H, sockets: Vec<Hosted<H>>, has_alone: bool) -> Doors
 }
 
 /// Returns the sockets of a server, which its host has not opened yet: those that are opened
-/// together, in order, and then the one at which sessions are served alone, if there is one. Returns
-/// `None` if memory is refused.
+/// together, in order, and then the one at which sessions are served alone, if there is one.
+/// Returns `None` if memory is refused.
 fn sockets_of<H: Copy>(alloc: Global, host: H, serving: &Serving<'_>) -> Option<Vec<Hosted<H>>>
     ensures { IfSome result (λ sockets.
         AreSocketsFor (callers_let_in serving.now) sockets.items) }
