@@ -24,6 +24,20 @@ memory_told Line shown after part = (no_memory_line, part)
 memory_told Both shown after part = (no_memory_line, part)
 memory_told Sentence shown after part = inr part
 
+-- A text is shown of why words are not valid if faults are told by lines.
+pub error_shown : (telling : Telling) (known shown after : Option (List ℕ)) → (telling ≡ Line) ⊎ (telling ≡ Both)
+    → ShowsText known shown after → TellsError telling shown after
+error_shown Line known shown after is shows = has_grown known shown after shows
+error_shown Both known shown after is shows = has_grown known shown after shows
+error_shown Sentence known shown after (inl is) shows = absurd (apart is)
+  where
+    apart : Sentence ≢ Line
+    apart same = cc
+error_shown Sentence known shown after (inr is) shows = absurd (apart is)
+  where
+    apart : Sentence ≢ Both
+    apart same = cc
+
 -- An error that is not the help or the version is told as one.
 pub no_help : (telling : Telling) (kind : ErrorKind) (shown after : Option (List ℕ))
     → (kind ≡ InvalidValue) ⊎ (kind ≡ OutOfMemory) → TellsRefused telling kind shown after
