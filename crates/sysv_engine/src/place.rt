@@ -5,7 +5,7 @@ ghost use Rattle.sysv_seats.specs.Said.{KeepsAsSaid};
 ghost use Rattle.sysv_seats.specs.Sits.{Keeps, is_finished};
 ghost use Rattle.sysv_seats.specs.Untold.{lets_in};
 ghost use Rattle.sysv_engine.specs.Added.{added, capped, nothing, one_session};
-ghost use Rattle.sysv_engine.specs.Fated.{fates_seen, none_fated, with_unsent};
+ghost use Rattle.sysv_engine.specs.Fated.{none_fated, with_unsent};
 ghost use Rattle.sysv_engine.specs.Handled.{one_refused};
 ghost use Rattle.sysv_engine.specs.Lining.{frame_length, key_in, parked_key};
 ghost use Rattle.sysv_engine.specs.Places.{IsIdle, IsIdleAt, KeepsPlace, MayLapse, TakesIn};
@@ -60,6 +60,7 @@ pub(crate) struct Place<'a, R: Wait, T: NonBlocking> {
 }
 
 impl<'a, R: Wait, T: NonBlocking> Model for Place<'a, R, T> {
+    ghost use Rattle.sysv_engine.specs.Fated.{fates_seen};
     ghost use Rattle.sysv_engine.specs.Places.{Seated};
 
     ghost Value = { Seated T.Book T };
