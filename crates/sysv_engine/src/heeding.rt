@@ -54,7 +54,7 @@ impl<'a, 'c, R: Wait, T: NonBlocking, W: Watch<T>> Tells<Serving<'a, 'c, R>>
         by.server.everyone()
     }
 
-    #[tactic(auto, using(crate::proofs::Telling::none_news, crate::proofs::Telling::stays_told))]
+    #[tactic(auto, using(crate::proofs::Telling::none_news, crate::proofs::Telling::one_taken, crate::proofs::Telling::stays_told))]
     fn take_news(&mut self, by: &Serving<'a, 'c, R>) -> Option<News> {
         let Some(notification) = self.tools.take_notification() else {
             by.server.count(self.agenda.number(), self.moved);
