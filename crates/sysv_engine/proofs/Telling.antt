@@ -37,9 +37,9 @@ one_taken taken one news old new some told takes other is =
     let last = subst (λ (t : Option Notification). TakesLast old t new) some takes in
     let left = map news_of (notifications_in new) in
     let all : map news_of (notifications_in old) ≡ left ++ news_of one ∷ [] =
-        ap (map news_of) last.2 ∙ map-append news_of (notifications_in new) (one ∷ []) in
+    ap (map news_of) last.2 ∙ map-append news_of (notifications_in new) (one ∷ []) in
     let cases : Contains left other ⊎ Contains (news_of one ∷ []) other =
-        Contains-append_cases left (news_of one ∷ []) other (subst (λ (l : List News). Contains l other) all is) in
+    Contains-append_cases left (news_of one ∷ []) other (subst (λ (l : List News). Contains l other) all is) in
     elim cases [
       | inl there ↦ inr there
       | inr at ↦ inl (at_one (news_of one) other at.0 at.1 at.2 ∙ sym told)
