@@ -485,20 +485,23 @@ fn tell_sums<S: Write>(screen: &mut S, sums: &Sums) -> ExitCode
 
 /// Prints the sums, the number of calls that the end cut off, and that of the messages that were
 /// still queued.
+#[tactic(auto, using(crate::proofs::Lines::cut_line))]
 fn tell_cut<S: Write>(screen: &mut S, sums: &Sums, cut: u64, queued: u64) -> ExitCode
     ensures { SucceedsOnlyIf (Appends (S.contents screen.old) (S.contents screen.new)
         (line_of sums.now (codes " cut " ++ decimal cut ++ queued_of queued (10 ∷ [])))) result }
 {
-    let Sums {
-        sessions,
-        taken,
-        written,
-        lost,
-    } = *sums;
-    match writeln!(
-        screen,
-        "sessions {sessions} taken {taken} written {written} lost {lost} cut {cut} queued {queued}"
-    ) {
+    match begin_cut(screen, sums, cut, queued) {
+        Ok(()) => end_line(screen),
+        Err(_) => ExitCode::from(FAULT),
+    }
+}
+
+/// Ends a line.
+fn end_line<S: Write>(screen: &mut S) -> ExitCode
+    ensures { SucceedsOnlyIf (Appends (S.contents screen.old) (S.contents screen.new) (10 ∷ []))
+        result }
+{
+    match writeln!(screen) {
         Ok(()) => ExitCode::SUCCESS,
         Err(_) => ExitCode::from(FAULT),
     }
