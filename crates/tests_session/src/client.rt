@@ -120,6 +120,16 @@ fn loose<'a>(
     )
 }
 
+/// Returns a client that writes these bytes, whose connection takes up to 4,000 bytes. Tolerates one
+/// refusal of memory.
+fn roomy<'a>(rt: &impl Abort, alloc: Global, input: &'a [u8]) -> Client<MemoryStream<'a>> {
+    let stream = match MemoryStream::new(alloc, input, 4_000, &[], &[]) {
+        Some(stream) => stream,
+        None => MemoryStream::new(alloc, input, 4_000, &[], &[]).expect(rt, "a second try"),
+    };
+    Client::open(alloc, stream, Version::Two)
+}
+
 /// Returns the connection of a client. Tolerates one refusal of memory.
 pub(crate) fn stream<'a>(
     rt: &impl Abort,
@@ -309,14 +319,12 @@ fn more_notifications_than_there_is_room_for(rt: HostRuntime) {
     for _ in 0..=ROOM {
         append(&rt, &mut input, &SESSION[18..32]);
     }
-    let stream = match MemoryStream::new(alloc, &input, 4_000, &[], &[]) {
-        Some(stream) => stream,
-        None => MemoryStream::new(alloc, &input, 4_000, &[], &[]).expect(&rt, "a second try"),
-    };
-    let mut client = Client::open(alloc, stream, Version::Two);
-    for _ in 0..5 {
-        turn(&mut handler, &mut tools, &mut client);
-    }
+    let mut client = roomy(&rt, alloc, &input);
+    turn(&mut handler, &mut tools, &mut client);
+    turn(&mut handler, &mut tools, &mut client);
+    turn(&mut handler, &mut tools, &mut client);
+    turn(&mut handler, &mut tools, &mut client);
+    turn(&mut handler, &mut tools, &mut client);
     assert_that(&rt, client.is_over());
     let served = closed_early(&rt, alloc, client);
     assert_served(&rt, &served, End::Ended, (206, 0, 0));
