@@ -5,6 +5,7 @@ use denote.Ref.{NamedLft, ShrRef}
 use denote.Struct.Field.{row_field, shr_ref_field}
 use denote.Param.Send.{IsSend, IsSync, shr_send, shr_sync, view_send}
 use denote.Param.SendFields.{declared_send, declared_sync, as_row_send, as_row_sync}
+use Rattle.std.proofs.Crossing.{Box-send}
 use Rattle.std.proofs.alloc.Global.TheSendSync as heaps
 use Rattle.std.proofs.option.Option.TheSendSync as options
 use Rattle.sysv_model.specs.contracts.body.Body as body
@@ -18,6 +19,9 @@ use Rattle.sysv_service.proofs.Crossing.{crossing, pass_send, service_sync}
 use Rattle.sysv_service.specs.contracts.service.Service as service
 use Rattle.sysv_seats.specs.contracts.client.Client as client
 use Rattle.sysv_seats.specs.contracts.client.Client.TheInside as client_inside
+use Rattle.sysv_seats.specs.contracts.hand.Hand as hand
+use Rattle.sysv_seats.specs.contracts.hand.Hand.TheInside as hand_inside
+use Rattle.sysv_seats.specs.contracts.hand.Kept as kept
 use Rattle.sysv_seats.specs.contracts.handler.ServiceHandler as handler
 use Rattle.sysv_seats.specs.contracts.holding.HeldMessage as held
 use Rattle.sysv_seats.specs.contracts.holding.HeldMessage.TheInside as held_inside
@@ -28,6 +32,7 @@ use Rattle.sysv_seats.specs.contracts.zero.ZeroClock.TheImpl as clock
 use Rattle.sysv_seats.specs.declared.non_blocking.NonBlocking.{Ghosts}
 use Rattle.sysv_parking.proofs.Crossing.{agenda_send}
 use Rattle.sysv_seats.proofs.parked.Parked.TheSendSync.{the_send as parked_send}
+use Rattle.sysv_seats.proofs.returning.Fated.TheSendSync.{the_send as fated_send}
 use Rattle.sysv_seats.proofs.returning.Returned.TheSendSync.{the_send as returned_send}
 use Rattle.sysv_steps.proofs.send.SendWait.TheSendSync.{the_send as wait_send}
 use Rattle.sysv_wire.proofs.frame.Version.TheSendSync.{the_send as version_send}
@@ -41,11 +46,9 @@ use Rattle.sysv_engine.specs.contracts.place.Place.TheInside as place_inside
 use Rattle.sysv_engine.specs.contracts.rounds.Serving as serving
 use Rattle.sysv_engine.specs.contracts.spinning.Spinning as spinning
 use Rattle.sysv_engine.specs.contracts.times.Times as times
-use Rattle.sysv_engine.specs.contracts.times.HoldTime as hold_time
 use Rattle.sysv_engine.specs.contracts.watch.Ready as ready
 use Rattle.sysv_engine.specs.contracts.worker.Worker as worker
 use Rattle.sysv_engine.proofs.alarm.Rest.TheSendSync as rests
-use Rattle.sysv_engine.proofs.fates.Fates.TheSendSync as fates
 use Rattle.sysv_engine.proofs.server_state.ServerState.TheSendSync as servers
 use Rattle.sysv_engine.proofs.sums.Sums.TheSendSync as sums
 
@@ -73,14 +76,24 @@ held_send = view_send held_inside.the_row _ _ _ _ (declared_send held_inside.the
   ),
 ))
 
+kept_send : IsSend kept.the_row
+kept_send = declared_send kept.the_type (
+  options.the_send _ held_send,
+  (
+    options.the_send _ wait_send,
+    (search crossing depth 20, (search crossing depth 10, (returned_send, (fated_send, tt)))),
+  ),
+)
+
+hand_send : IsSend hand.the_row
+hand_send = view_send hand_inside.the_row _ _ _ _
+    (declared_send hand_inside.the_type (options.the_send _ (Box-send kept.the_row kept_send), tt))
+
 keeper_send : (l : NamedLft) (R : RattleType) → IsSync R → IsSend (keeper.the_row l zero.the_row R clock.ghosts)
 keeper_send l R sr =
     declared_send (keeper.the_type l zero.the_row R clock.ghosts) (
       handler_send l R sr,
-      (
-        options.the_send _ held_send,
-        (options.the_send _ heaps.the_send, (search crossing depth 10, (returned_send, tt))),
-      ),
+      (hand_send, (options.the_send _ heaps.the_send, tt)),
     )
 
 body_send : IsSend body.the_row
@@ -142,9 +155,6 @@ client_send T B ghosts t = view_send (client_inside.the_row T B ghosts) _ _ _ _
 times_send : IsSend times.the_row
 times_send = search crossing depth 40
 
-hold_time_send : IsSend hold_time.the_row
-hold_time_send = search crossing depth 40
-
 place_send : (l : NamedLft) (R T B : RattleType) (ghosts : Ghosts T.Denot B.Denot) → IsSync R → IsSend T → IsSend B →
     IsSend (place.the_row l R T B ghosts)
 place_send l R T B ghosts r t b = view_send (place_inside.the_row l R T B ghosts) _ _ _ _
@@ -153,34 +163,22 @@ place_send l R T B ghosts r t b = view_send (place_inside.the_row l R T B ghosts
       (
         options.the_send _ (client_send T B ghosts t),
         (
-          options.the_send _ wait_send,
+          sums.the_send,
           (
-            sums.the_send,
+            search crossing depth 10,
             (
-              search crossing depth 10,
+              as_row_send (row_field B) b,
               (
-                fates.the_send,
+                times_send,
                 (
-                  as_row_send (row_field B) b,
+                  search crossing depth 10,
                   (
-                    times_send,
+                    search crossing depth 10,
                     (
-                      search crossing depth 10,
+                      version_send,
                       (
-                        search crossing depth 10,
-                        (
-                          version_send,
-                          (
-                            options.the_send _ heaps.the_send,
-                            (
-                              search crossing depth 10,
-                              (
-                                search crossing depth 10,
-                                (search crossing depth 10, (hold_time_send, tt)),
-                              ),
-                            ),
-                          ),
-                        ),
+                        options.the_send _ heaps.the_send,
+                        (search crossing depth 10, (search crossing depth 10, (search crossing depth 10, tt))),
                       ),
                     ),
                   ),

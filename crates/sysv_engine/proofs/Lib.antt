@@ -1,3 +1,4 @@
+pub mod Marking
 pub mod SessionMakesCalls
 pub mod CallsLetIn
 pub mod PrivateQueues
@@ -23,3 +24,5 @@ pub mod Behind
 pub mod Looking
 pub mod ReadsRows
 pub mod Crossing
+pub mod Telling
+pub mod Lining

@@ -1,7 +1,7 @@
 -- What a place is after a connection was adopted in it, after its client was closed, and while it gives back what the
 -- client held.
 use Rattle.std.proofs.Common.{◌≡◌, ◌∙◌, ℕ, ◌+◌, ◌≤◌, List, [], ◌∷◌, ◌++◌, Option, Some, None, Result, Ok, Err, inl, inr}
-use Rattle.std.proofs.Common.{ap, arith, refl, sym, subst}
+use Rattle.std.proofs.Common.{ap, ap₂, arith, refl, sym, subst}
 use Rattle.std.specs.Prelude.{⊤, Bool, true, false, IfSome, IsSomeAnd, is_some}
 use Rattle.std.specs.List.{FoldsTo}
 use Rattle.sysv_model.specs.declared.errno.Errno.{Errno}
@@ -20,12 +20,14 @@ use Rattle.sysv_wire.specs.declared.reply.ReplyContent.TheVariants as content
 use Rattle.sysv_wire.specs.Frames.{op_number}
 use Rattle.sysv_seats.specs.declared.parked.Parked.{Parked}
 use Rattle.sysv_seats.specs.declared.returning.Fate.{Fate}
+use Rattle.sysv_seats.specs.declared.returning.Fate.TheVariants.{Sent, Discarded, Refused}
+use Rattle.sysv_seats.specs.declared.returning.Fated.{Fated}
 use Rattle.sysv_seats.specs.declared.returning.Return.{Return}
 use Rattle.sysv_seats.specs.declared.returning.Return.TheVariants as come
 use Rattle.sysv_seats.specs.Breaking.{MayEnd, MayTell}
 use Rattle.sysv_seats.specs.Said.{EndsAsSaid, IsAsSaid, KeepsAsSaid, TellsAsSaid}
 use Rattle.sysv_seats.specs.GivingBack.{ComesBack, EachReturnCanBeLeft, GoesBack, GoesBackOn, GivesBack, IsReturn}
-use Rattle.sysv_seats.specs.GivingBack.{WaitsBack, fate_by, fate_of}
+use Rattle.sysv_seats.specs.GivingBack.{WaitsBack, fate_by, fate_of, fated_after, wait_in}
 use Rattle.sysv_seats.specs.Held.{Lapses, LapsesTo}
 use Rattle.sysv_seats.specs.Holding.{Holder, Message, Timed, begun_with, empty_handed, kept_by, late_by, seconds_of}
 use Rattle.sysv_seats.specs.Holding.{timed}
@@ -35,14 +37,32 @@ use Rattle.sysv_seats.specs.Untold.{Closing, lets_in}
 use Rattle.sysv_engine.specs.declared.fates.Fates.{Fates}
 use Rattle.sysv_engine.specs.declared.sums.Sums.{Sums}
 use Rattle.sysv_engine.specs.Added.{added, capped, one_session}
-use Rattle.sysv_engine.specs.Fated.{one_fated}
+use Rattle.sysv_engine.specs.Fated.{fates_seen, one_fated}
 use Rattle.sysv_engine.specs.Handled.{Handles, Leaves, fated_all, fated_by, one_refused}
 use Rattle.sysv_engine.specs.Places.{ComesBackAt, Handled, HasLeft, IsPlace, KeepsPlace, LapsesAt, Seated, SitsOn}
 use Rattle.sysv_engine.specs.Places.{MayLapse, Standing}
-use Rattle.sysv_engine.specs.Places.{Stands, TakesIn, View, come_so_far, fates_by, taken_by, view_of, wait_in}
+use Rattle.sysv_engine.specs.Places.{Stands, TakesIn, View, come_so_far, fates_by, taken_by, view_of}
 use Rattle.sysv_engine.specs.Places.{since, with_one}
 use Rattle.sysv_engine.specs.Converses.{Closes, ConversesAs, tally_of}
 use Rattle.std.proofs.lemmas.Fn.{FoldsTo-push}
+
+-- What became of messages at a place, once a return has come so far.
+fates_come : (fated : Fated) (came : Return) → fates_seen (fated_after fated came) ≡ fates_by (fates_seen fated) came
+fates_come fated (come.Waits wait) = refl
+fates_come fated come.Nothing = refl
+fates_come fated (come.Over Sent) = refl
+fates_come fated (come.Over Discarded) = refl
+fates_come fated (come.Over Refused) = refl
+
+-- The place at which a return has come so far, by what is held there.
+pub came_so_far : {B T : Type 0} (mid : Seated B T) (fated fated' : Fated) (returning : Option SendWait)
+    (came : Return) → mid.fates ≡ fates_seen fated → fated' ≡ fated_after fated came → returning ≡ wait_in came →
+    (record mid { fates = fates_seen fated'; returning = returning }) ≡ come_so_far came mid
+came_so_far {B} {T} mid fated fated' returning came at is waits =
+    let fates : fates_seen fated' ≡ fates_by mid.fates came =
+    ap fates_seen is ∙ (fates_come fated came ∙ ap (λ (f : Fates). fates_by f came) (sym at)) in
+    ap₂ (λ (f : Fates) (r : Option SendWait).
+    let place : Seated B T = record mid { fates = f; returning = r } in place) fates waits
 
 -- The pass of a place, and the message that is held at it.
 abbrev pub holder_at : {B T : Type 0} → Seated B T → Holder Pass

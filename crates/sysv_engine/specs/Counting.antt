@@ -33,6 +33,7 @@ word_by (notifications.Freed slot mtype) = Some (bounded_sum SLOTS slot)
 word_by notifications.Released = None
 word_by (notifications.Changed slot) = None
 word_by notifications.Settled = None
+word_by notifications.Anything = None
 
 -- The messages that moved, with the one that is counted under this word, if there is one. It is left out
 -- exactly if they are counted under another word.

@@ -6,6 +6,7 @@ use Rattle.sysv_engine.specs.Added.{capped}
 use Rattle.sysv_engine.specs.declared.fates.Fates.{Fates}
 use Rattle.sysv_seats.specs.declared.returning.Fate.{Fate}
 use Rattle.sysv_seats.specs.declared.returning.Fate.TheVariants.{Sent, Discarded, Refused}
+use Rattle.sysv_seats.specs.declared.returning.Fated.{Fated}
 
 -- The numbers of no messages.
 abbrev pub none_fated : Fates
@@ -16,6 +17,15 @@ abbrev pub one_fated : Fate → Fates → Fates
 one_fated Sent fates = record fates { sent = capped (fates.sent + 1) }
 one_fated Discarded fates = record fates { discarded = capped (fates.discarded + 1) }
 one_fated Refused fates = record fates { refused = capped (fates.refused + 1) }
+
+-- What became of messages at a place, of which none waits at the end yet.
+abbrev pub fates_seen : Fated → Fates
+fates_seen fated = record {
+  sent = fated.sent;
+  discarded = fated.discarded;
+  refused = fated.refused;
+  unsent = 0;
+}
 
 abbrev pub with_unsent : Fates → Fates
 with_unsent fates = record fates { unsent = capped (fates.unsent + 1) }

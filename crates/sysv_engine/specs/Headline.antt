@@ -16,6 +16,7 @@ use Rattle.std.specs.List.{AllByRecursion}
 use Rattle.std.specs.List.Sorted.{IsPermutation}
 use Rattle.sysv_service.specs.Opened.{AreOpen}
 use Rattle.sysv_service.specs.Seats.{Gates}
+use Rattle.sysv_service.specs.Stopped.{messages_in}
 use Rattle.sysv_workers.specs.Sources.{GivesAll}
 use Rattle.sysv_engine.specs.declared.terms.Ended.{Ended}
 use Rattle.sysv_engine.specs.Desks.{Desk, InTeam, AreServedInOrder, all_connections}
@@ -64,3 +65,5 @@ pub record ServesConnections {S T B : Type 0} (incoming outgoing : T → Option 
   -- gates were closed after it.
   pub lived : Lived reads blocks gates shifts ended.removed
   pub closed : ended.closed ≡ lived.closed
+  -- The messages that were still queued are those in the queues that the stop removed.
+  pub queued : ended.queued ≡ messages_in lived.stopped.stops

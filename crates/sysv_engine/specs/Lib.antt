@@ -16,3 +16,5 @@ pub mod Headline
 pub mod Places
 pub mod Heeding
 pub mod Waking
+pub mod Marking
+pub mod Lining

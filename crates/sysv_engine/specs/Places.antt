@@ -11,7 +11,7 @@ use Rattle.sysv_wire.specs.declared.reply.Reply.{Reply as Answer}
 use Rattle.sysv_steps.specs.declared.send.SendWait.{SendWait}
 use Rattle.sysv_seats.specs.declared.returning.Return.{Return}
 use Rattle.sysv_seats.specs.declared.returning.Return.TheVariants as come
-use Rattle.sysv_seats.specs.GivingBack.{WaitsBack}
+use Rattle.sysv_seats.specs.GivingBack.{WaitsBack, wait_in}
 use Rattle.sysv_seats.specs.Holding.{Holder, Message, Timed, seconds_of}
 use Rattle.sysv_seats.specs.Said.{IsAsSaid}
 use Rattle.sysv_seats.specs.Sits.{Sits, Sitting}
@@ -152,6 +152,10 @@ fates_at_end place = cond (is_some place.message) (with_unsent place.fates) plac
 abbrev pub IsIdle : {T : Type 0} → Sitting T → Type 0
 IsIdle client = (client.parked ≡ None) × (length client.input ≡ 0) × (length client.dialogue.unsent.bytes ≡ 0)
 
+-- There is a client, and its connection takes no more replies.
+abbrev pub IsCutOff : {T : Type 0} → Option (Sitting T) → Type 0
+IsCutOff {T} client = IsSomeAnd client (λ (there : Sitting T). there.broken ≡ true)
+
 -- There is a client, which is idle and holds no message.
 abbrev pub IsIdleAt : {B T : Type 0} → Seated B T → Type 0
 IsIdleAt place = IsSomeAnd place.client IsIdle × (place.message ≡ None)
@@ -170,12 +174,6 @@ taken_by client place = record {
   message = place.message;
   returning = place.returning;
 }
-
--- The wait of a return that has come so far.
-abbrev pub wait_in : Return → Option SendWait
-wait_in (come.Waits wait) = Some wait
-wait_in come.Nothing = None
-wait_in (come.Over what) = None
 
 -- The numbers once a return has come so far.
 abbrev pub fates_by : Fates → Return → Fates

@@ -18,6 +18,8 @@ pub(crate) enum Kind {
     Gone,
     /// Calls that waited when an orderly end cut their sessions off.
     CutOff,
+    /// Clients that were cut off since the system refused to report their events.
+    Unwatched,
 }
 
 /// A number, modulo 2^64, which begins at 0.

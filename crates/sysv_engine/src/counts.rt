@@ -69,6 +69,8 @@ pub struct Counted {
     pub sent_back: u64,
     /// The number of messages that were held and could not go back to their queue.
     pub gone: u64,
+    /// The number of clients that were cut off since the system refused to report their events.
+    pub unwatched: u64,
 }
 
 /// What the workers had counted when it was read. Only `ServerState::counted` makes a value of this
@@ -142,7 +144,10 @@ fn word_of(notification: Notification) -> Option<usize>
     match notification {
         Notification::Arrived { slot, .. } => Some(slot),
         Notification::Freed { slot, .. } => Some(room_word(slot)),
-        Notification::Released | Notification::Changed { .. } | Notification::Settled => None,
+        Notification::Released
+        | Notification::Changed { .. }
+        | Notification::Settled
+        | Notification::Anything => None,
     }
 }
 

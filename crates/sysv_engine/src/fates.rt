@@ -1,8 +1,8 @@
 //! What became of messages that were given back.
 ghost use Rattle.std.specs.Prelude.{◌≡◌};
-ghost use Rattle.sysv_engine.specs.Fated.{both, none_fated, one_fated, with_unsent};
+ghost use Rattle.sysv_engine.specs.Fated.{both, fates_seen, none_fated, with_unsent};
 
-use sysv_seats::Fate;
+use sysv_seats::Fated;
 
 /// The numbers of messages that clients held when their sessions ended, by what became of them.
 /// Each number stays at 2^64 - 1 once it has reached it.
@@ -31,14 +31,15 @@ impl Fates {
         }
     }
 
-    /// Counts one more message that was sent again.
-    pub(crate) fn count(&mut self, fate: Fate)
-        ensures { self.new ≡ one_fated fate self.old }
+    /// Returns the numbers of messages of which none waits at the end.
+    pub(crate) fn of(fated: Fated) -> Fates
+        ensures { result ≡ fates_seen fated }
     {
-        match fate {
-            Fate::Sent => self.sent = self.sent.saturating_add(1),
-            Fate::Discarded => self.discarded = self.discarded.saturating_add(1),
-            Fate::Refused => self.refused = self.refused.saturating_add(1),
+        Fates {
+            sent: fated.sent,
+            discarded: fated.discarded,
+            refused: fated.refused,
+            unsent: 0,
         }
     }
 

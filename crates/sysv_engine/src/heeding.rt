@@ -7,7 +7,7 @@ ghost use Rattle.sysv_parking.specs.Changes.{Holds, IsThere};
 ghost use Rattle.sysv_parking.specs.Lines.{Takes};
 ghost use Rattle.sysv_parking.specs.Parking.{AreInLines, MovesOnly, key_at, parked_at};
 ghost use Rattle.sysv_seats.specs.Notification.{notifications_in};
-ghost use Rattle.sysv_engine.specs.Heeding.{news_of as tells};
+ghost use Rattle.sysv_engine.specs.Heeding.{StaysTold, news_of as tells};
 ghost use Rattle.sysv_engine.specs.Places.{KeepsAll};
 
 use crate::counts::Moved;
@@ -25,7 +25,7 @@ impl<'a, 'c, R: Wait, T: NonBlocking, W: Watch<T>> Tells<Serving<'a, 'c, R>>
     ghost use Rattle.std.specs.Prelude.{⊤};
 
     ghost keeps = { λ old new. KeepsAll T.incoming T.outgoing T.closes old.places.items
-        new.places.items };
+        new.places.items × StaysTold old.tools new.tools };
 
     ghost agenda = { λ worker. worker.agenda };
 
@@ -54,6 +54,7 @@ impl<'a, 'c, R: Wait, T: NonBlocking, W: Watch<T>> Tells<Serving<'a, 'c, R>>
         by.server.everyone()
     }
 
+    #[tactic(auto, using(crate::proofs::Telling::none_news, crate::proofs::Telling::one_taken, crate::proofs::Telling::stays_told))]
     fn take_news(&mut self, by: &Serving<'a, 'c, R>) -> Option<News> {
         let Some(notification) = self.tools.take_notification() else {
             by.server.count(self.agenda.number(), self.moved);
@@ -74,7 +75,7 @@ impl<'a, 'c, R: Wait, T: NonBlocking, W: Watch<T>> Tells<Serving<'a, 'c, R>>
         ensures news { map tells (notifications_in self.new.tools)
             ≡ map tells (notifications_in self.old.tools) }
         ensures keeps { KeepsAll T.incoming T.outgoing T.closes self.old.places.items
-            self.new.places.items }
+            self.new.places.items × StaysTold self.old.tools self.new.tools }
     {
         self.agenda.add_change(change);
     }
@@ -90,15 +91,18 @@ impl<'a, 'c, R: Wait, T: NonBlocking, W: Watch<T>> Tells<Serving<'a, 'c, R>>
         ensures news { map tells (notifications_in self.new.tools)
             ≡ map tells (notifications_in self.old.tools) }
         ensures keeps { KeepsAll T.incoming T.outgoing T.closes self.old.places.items
-            self.new.places.items }
+            self.new.places.items × StaysTold self.old.tools self.new.tools }
     {
         self.is_last_to_heed()
     }
 
-    ghost keeps_itself = { λ worker gates standings each. each };
+    ghost keeps_itself = { λ worker. (λ gates standings each. each, λ told. told) };
 
-    ghost keeps_on = { λ x y z first then gates standings each.
-        then gates standings (first gates standings each) };
+    ghost keeps_on = { λ x y z first then. (
+      λ gates standings each.
+          then.0 gates standings (first.0 gates standings each),
+      λ told. then.1 (first.1 told),
+    ) };
 }
 
 impl<'a, 'c, R: Wait, T: NonBlocking, W: Watch<T>> Calls<Serving<'a, 'c, R>>
@@ -128,7 +132,7 @@ impl<'a, 'c, R: Wait, T: NonBlocking, W: Watch<T>> Calls<Serving<'a, 'c, R>>
         ensures rest { self.new.agenda
             ≡ record self.old.agenda { parking = self.new.agenda.parking } }
         ensures keeps { KeepsAll T.incoming T.outgoing T.closes self.old.places.items
-            self.new.places.items }
+            self.new.places.items × StaysTold self.old.tools self.new.tools }
     {
         self.agenda.take_due()
     }
@@ -157,7 +161,7 @@ impl<'a, 'c, R: Wait, T: NonBlocking, W: Watch<T>> Calls<Serving<'a, 'c, R>>
         ensures rest { self.new.agenda
             ≡ record self.old.agenda { envelopes = self.new.agenda.envelopes } }
         ensures keeps { KeepsAll T.incoming T.outgoing T.closes self.old.places.items
-            self.new.places.items }
+            self.new.places.items × StaysTold self.old.tools self.new.tools }
     {
         self.agenda.take_envelope()
     }
@@ -177,7 +181,7 @@ impl<'a, 'c, R: Wait, T: NonBlocking, W: Watch<T>> Calls<Serving<'a, 'c, R>>
     }
 
     fn unmark(&self, by: &Serving<'a, 'c, R>, word: usize) {
-        by.server.unmark(word, self.agenda.number());
+        by.server.unmark(word, &self.agenda);
     }
 
     fn read_envelope(&mut self, by: &Serving<'a, 'c, R>) -> bool {
@@ -213,7 +217,7 @@ impl<'a, 'c, R: Wait> Serving<'a, 'c, R> {
             Change::Queue { .. } | Change::Anything => return,
         };
         if worker.agenda.lines().count(word) == 0 {
-            self.server.unmark(word, worker.agenda.number());
+            self.server.unmark(word, &worker.agenda);
         }
     }
 }
@@ -235,6 +239,9 @@ fn news_of(notification: Notification) -> News
         },
         Notification::Settled => News::Changed {
             change: Change::Settled,
+        },
+        Notification::Anything => News::Changed {
+            change: Change::Anything,
         },
     }
 }

@@ -14,6 +14,19 @@ const TICK_MILLIS: u64 = 100;
 pub struct Moment(u64);
 
 impl Moment {
+    /// The moment that never comes.
+    pub(crate) const NEVER: Moment = Moment(u64::MAX);
+
+    /// Returns the moment of this number of milliseconds since the start.
+    pub(crate) fn at(millis: u64) -> Moment {
+        Moment(millis)
+    }
+
+    /// Returns the number of milliseconds since the start.
+    pub(crate) fn millis(self) -> u64 {
+        self.0
+    }
+
     /// Returns the present.
     pub fn now() -> Moment {
         Moment(present_millis())

@@ -1,5 +1,5 @@
 //! The places of a server: each serves one client after another.
-ghost use Rattle.std.specs.Prelude.{◌≡◌, ◌+◌, None, Some, IfSome, cond, is_some, not, true};
+ghost use Rattle.std.specs.Prelude.{◌≡◌, ◌+◌, None, Some, IfSome, cond, is_some, not, true, false};
 ghost use Rattle.sysv_service.specs.Seats.{AreOf};
 ghost use Rattle.sysv_seats.specs.Said.{KeepsAsSaid};
 ghost use Rattle.sysv_seats.specs.Sits.{Keeps, is_finished};
@@ -7,26 +7,26 @@ ghost use Rattle.sysv_seats.specs.Untold.{lets_in};
 ghost use Rattle.sysv_engine.specs.Added.{added, capped, nothing, one_session};
 ghost use Rattle.sysv_engine.specs.Fated.{none_fated, with_unsent};
 ghost use Rattle.sysv_engine.specs.Handled.{one_refused};
+ghost use Rattle.sysv_engine.specs.Lining.{frame_length, key_in, parked_key};
 ghost use Rattle.sysv_engine.specs.Places.{IsIdle, IsIdleAt, KeepsPlace, MayLapse, TakesIn};
-ghost use Rattle.sysv_engine.specs.Places.{come_so_far, fates_at_end, fates_by, has_ended, is_vacant};
-ghost use Rattle.sysv_engine.specs.Places.{taken_by, wait_in};
+ghost use Rattle.sysv_engine.specs.Places.{IsCutOff, fates_at_end, has_ended, is_vacant, taken_by};
 
 use crate::awaited::key_of;
 use crate::fates::Fates;
 use crate::moment::{Moment, sooner};
 use crate::sums::Sums;
 use crate::terms::Patience;
-use crate::times::{HoldTime, Times};
+use crate::times::{Times, end_of};
 use crate::watch::{Ready, Watch};
 use std::alloc::Global;
 use std::marker::Model;
 use std::sync::Wait;
 use sysv_parking::Key;
 use sysv_seats::{
-    Client, Keeper, Limit, NonBlocking, Return, Returned, ServiceHandler, Tools, Waiting, ZERO,
-    Zero, each_return_can_be_left,
+    Client, Keeper, Limit, NonBlocking, Returned, ServiceHandler, Tools, Waiting, ZERO, Zero,
+    each_return_can_be_left,
 };
-use sysv_service::{Pass, SendWait, Service};
+use sysv_service::{Pass, Service};
 use sysv_session::{End, Served};
 use sysv_wire::Version;
 
@@ -39,12 +39,8 @@ use sysv_wire::Version;
 pub(crate) struct Place<'a, R: Wait, T: NonBlocking> {
     handler: Keeper<'a, Zero, R>,
     client: Option<Client<T>>,
-    /// The wait of the send that gives back a message, if it waits: that of the last client, or that of
-    /// this one, since its time is over.
-    returning: Option<SendWait>,
     sums: Sums,
     refused: u64,
-    fates: Fates,
     book: T::Book,
     times: Times,
     /// Whether the place is in the line of those that have more to do.
@@ -61,11 +57,10 @@ pub(crate) struct Place<'a, R: Wait, T: NonBlocking> {
     counted: bool,
     /// Whether a message that the last client held is given back.
     returns: bool,
-    /// How long the message that is held may be held.
-    hold_time: HoldTime,
 }
 
 impl<'a, R: Wait, T: NonBlocking> Model for Place<'a, R, T> {
+    ghost use Rattle.sysv_engine.specs.Fated.{fates_seen};
     ghost use Rattle.sysv_engine.specs.Places.{Seated};
 
     ghost Value = { Seated T.Book T };
@@ -76,11 +71,11 @@ impl<'a, R: Wait, T: NonBlocking> Model for Place<'a, R, T> {
       newest = p.newest;
       sums = p.sums;
       refused = p.refused;
-      fates = p.fates;
+      fates = fates_seen p.handler.hand.fated;
       book = p.book;
       client = p.client;
-      message = p.handler.message;
-      returning = p.returning;
+      message = p.handler.hand.message;
+      returning = p.handler.hand.returning;
     } };
 }
 
@@ -119,10 +114,8 @@ impl<'a, R: Wait, T: NonBlocking> Place<'a, R, T> {
         Place {
             handler: Keeper::new(ServiceHandler::new(rt, service, &ZERO, pass)),
             client: None,
-            returning: None,
             sums: Sums::open(),
             refused: 0,
-            fates: Fates::open(),
             book,
             times: Times::new(),
             in_turns: false,
@@ -132,7 +125,6 @@ impl<'a, R: Wait, T: NonBlocking> Place<'a, R, T> {
             holds: false,
             counted: false,
             returns: false,
-            hold_time: HoldTime::new(),
         }
     }
 
@@ -149,10 +141,8 @@ impl<'a, R: Wait, T: NonBlocking> Place<'a, R, T> {
         let Place {
             handler,
             client,
-            returning: _,
             sums,
             refused,
-            fates,
             book,
             times: _,
             in_turns: _,
@@ -162,12 +152,11 @@ impl<'a, R: Wait, T: NonBlocking> Place<'a, R, T> {
             holds: _,
             counted: _,
             returns: _,
-            hold_time: _,
         } = self;
         match client {
             Some(_) => unreachable!(),
             None => {
-                let fates = at_end(fates, handler.has_message());
+                let fates = at_end(Fates::of(handler.fated()), handler.has_message());
                 (handler.into_pass(), sums, refused, fates, book)
             }
         }
@@ -226,7 +215,7 @@ impl<'a, R: Wait, T: NonBlocking> Place<'a, R, T> {
     pub(crate) fn is_ended(&self) -> bool
         ensures { result ≡ has_ended self.now }
     {
-        !self.has_client() && (!self.has_message() || self.returning.is_some())
+        !self.has_client() && (!self.has_message() || self.is_returning())
     }
 
     /// Begins to give back the message that the last client held, if it held one. A hold of it that
@@ -234,7 +223,7 @@ impl<'a, R: Wait, T: NonBlocking> Place<'a, R, T> {
     pub(crate) fn give_back(&mut self, tools: &mut Tools)
         ensures keeps { KeepsPlace T.incoming T.outgoing T.closes self.old self.new }
     {
-        if self.client.is_none() && self.returning.is_none() {
+        if self.client.is_none() && !self.is_returning() {
             self.begin_return(tools);
             self.count_hold(tools);
         }
@@ -246,8 +235,7 @@ impl<'a, R: Wait, T: NonBlocking> Place<'a, R, T> {
         ensures keeps { KeepsPlace T.incoming T.outgoing T.closes self.old self.new }
     {
         self.returns = self.handler.has_message();
-        let came = self.handler.give_back(tools);
-        self.note_return(came);
+        self.handler.give_back(tools);
     }
 
     /// Begins to give back the message that the client holds, if it is held for a limited time, no call
@@ -267,8 +255,7 @@ impl<'a, R: Wait, T: NonBlocking> Place<'a, R, T> {
         requires { MayLapse self.old }
         ensures keeps { KeepsPlace T.incoming T.outgoing T.closes self.old self.new }
     {
-        let came = self.handler.give_back(tools);
-        self.note_return(came);
+        self.handler.give_back(tools);
     }
 
     /// Returns whether the message that the client holds may be given back once its time is over.
@@ -278,7 +265,7 @@ impl<'a, R: Wait, T: NonBlocking> Place<'a, R, T> {
         match &self.client {
             Some(client) => {
                 let parked = client.parked();
-                parked.is_none() && self.returning.is_none() && self.handler.seconds() != 0
+                parked.is_none() && !self.is_returning() && self.handler.seconds() != 0
             }
             None => false,
         }
@@ -292,7 +279,7 @@ impl<'a, R: Wait, T: NonBlocking> Place<'a, R, T> {
     {
         each_return_can_be_left();
         if self.client.is_some() {
-            self.returning = None;
+            self.handler.leave_return();
         }
     }
 
@@ -310,19 +297,10 @@ impl<'a, R: Wait, T: NonBlocking> Place<'a, R, T> {
     fn go_on_returning(&mut self, tools: &mut Tools)
         ensures keeps { KeepsPlace T.incoming T.outgoing T.closes self.old self.new }
     {
-        let Some(wait) = self.returning else {
+        let Some(wait) = self.handler.returning() else {
             return;
         };
-        let came = self.handler.give_back_on(wait, tools);
-        self.note_return(came);
-    }
-
-    /// Takes note of how far the return of the message has come.
-    fn note_return(&mut self, came: Return)
-        ensures { self.new ≡ come_so_far came self.old }
-    {
-        self.returning = wait_of(came);
-        self.fates = counted(self.fates, came);
+        self.handler.give_back_on(wait, tools);
     }
 
     /// Returns whether what the last client held was given back since this was last asked.
@@ -406,17 +384,20 @@ impl<'a, R: Wait, T: NonBlocking> Place<'a, R, T> {
         self.refused = self.refused.saturating_add(refusals(served));
     }
 
-    /// Has the client's connection watched. If that is refused, the client ends.
-    pub(crate) fn begin<W: Watch<T>>(&mut self, watch: &mut W, place: usize)
+    /// Has the client's connection watched. If that is refused, the client ends, and the result is
+    /// `false`.
+    pub(crate) fn begin<W: Watch<T>>(&mut self, watch: &mut W, place: usize) -> bool
         ensures keeps { KeepsPlace T.incoming T.outgoing T.closes self.old self.new }
+        ensures refused { result ≡ false → IsCutOff self.new.client }
     {
         let Some(client) = &mut self.client else {
-            return;
+            return true;
         };
         if watch.add(client.connection(), place) {
-            return;
+            return true;
         }
         client.cut_off();
+        false
     }
 
     /// Learns what a watch reports.
@@ -444,7 +425,7 @@ impl<'a, R: Wait, T: NonBlocking> Place<'a, R, T> {
     fn take_up(&mut self, tools: &mut Tools)
         ensures keeps { KeepsPlace T.incoming T.outgoing T.closes self.old self.new }
     {
-        if self.returning.is_some() {
+        if self.is_returning() {
             return;
         }
         if let Some(client) = &mut self.client {
@@ -466,7 +447,7 @@ impl<'a, R: Wait, T: NonBlocking> Place<'a, R, T> {
     fn resume(&mut self, tools: &mut Tools)
         ensures keeps { KeepsPlace T.incoming T.outgoing T.closes self.old self.new }
     {
-        if self.returning.is_some() {
+        if self.is_returning() {
             return self.go_on_returning(tools);
         }
         if let Some(client) = &mut self.client {
@@ -504,17 +485,34 @@ impl<'a, R: Wait, T: NonBlocking> Place<'a, R, T> {
     }
 
     /// Returns what the parked call waits for, or the send that gives back a message, if one waits.
-    pub(crate) fn key(&self) -> Option<Key> {
-        if let Some(wait) = self.returning {
+    pub(crate) fn key(&self) -> Option<Key>
+        ensures { result ≡ key_in self.now }
+    {
+        if let Some(wait) = self.handler.returning() {
             return Some(key_of(&Waiting::Send(wait), self.handler.return_length()));
         }
-        let client = self.client.as_ref()?;
-        Some(key_of(&client.waiting()?, self.parked_length(client)))
+        match &self.client {
+            Some(client) => self.parked_key(client),
+            None => None,
+        }
+    }
+
+    /// Returns what the parked call of the client waits for, if one is parked.
+    fn parked_key(&self, client: &Client<T>) -> Option<Key>
+        ensures { result ≡ parked_key self.now.message client.now.parked }
+    {
+        let length = self.parked_length(client);
+        match client.waiting() {
+            Some(waiting) => Some(key_of(&waiting, length)),
+            None => None,
+        }
     }
 
     /// Returns the number of bytes in the frame of the client's parked call. That of a back is the
     /// send of the message that is held.
-    fn parked_length(&self, client: &Client<T>) -> usize {
+    fn parked_length(&self, client: &Client<T>) -> usize
+        ensures { result ≡ frame_length self.now.message client.now.parked }
+    {
         if client.awaits_back() {
             self.handler.return_length()
         } else {
@@ -549,6 +547,13 @@ impl<'a, R: Wait, T: NonBlocking> Place<'a, R, T> {
         ensures { result ≡ is_some self.now.message }
     {
         self.handler.has_message()
+    }
+
+    /// Returns whether the send that gives back a message waits.
+    fn is_returning(&self) -> bool
+        ensures { result ≡ is_some self.now.returning }
+    {
+        self.handler.returning().is_some()
     }
 
     /// Returns whether there is a client, or a message is given back.
@@ -610,16 +615,41 @@ impl<'a, R: Wait, T: NonBlocking> Place<'a, R, T> {
         self.in_turns = in_turns;
     }
 
-    /// Has the watch report when the connection may take bytes, if and only if some wait for it.
-    pub(crate) fn await_room<W: Watch<T>>(&mut self, watch: &mut W, place: usize)
+    /// Has the watch report when the connection may take bytes, if and only if some wait for it. If
+    /// that is refused, the client ends, and the result is `false`.
+    pub(crate) fn await_room<W: Watch<T>>(&mut self, watch: &mut W, place: usize) -> bool
         ensures keeps { KeepsPlace T.incoming T.outgoing T.closes self.old self.new }
+        ensures refused { result ≡ false → IsCutOff self.new.client }
     {
-        let Some(client) = &self.client else {
-            return;
+        let awaits = self.has_unsent();
+        if awaits == self.awaits_room {
+            return true;
+        }
+        self.awaits_room = awaits;
+        self.watch_for_room(watch, place, awaits)
+    }
+
+    /// Has the watch report also when the connection may take bytes, or not any more. If that is
+    /// refused, the client ends, and the result is `false`.
+    fn watch_for_room<W: Watch<T>>(&mut self, watch: &mut W, place: usize, awaits: bool) -> bool
+        ensures keeps { KeepsPlace T.incoming T.outgoing T.closes self.old self.new }
+        ensures refused { result ≡ false → IsCutOff self.new.client }
+    {
+        let Some(client) = &mut self.client else {
+            return true;
         };
-        if client.has_unsent() != self.awaits_room {
-            self.awaits_room = client.has_unsent();
-            watch.await_room(client.connection(), place, self.awaits_room);
+        if watch.await_room(client.connection(), place, awaits) {
+            return true;
+        }
+        client.cut_off();
+        false
+    }
+
+    /// Returns whether replies wait for the connection.
+    fn has_unsent(&self) -> bool {
+        match &self.client {
+            Some(client) => client.has_unsent(),
+            None => false,
         }
     }
 
@@ -628,8 +658,10 @@ impl<'a, R: Wait, T: NonBlocking> Place<'a, R, T> {
     pub(crate) fn limit(&mut self, patience: Patience) -> Option<Moment>
         ensures { self.new ≡ self.old }
     {
-        self.hold_time
-            .note(self.handler.taken(), self.handler.seconds());
+        if self.handler.is_untimed() {
+            let due = end_of(self.handler.seconds());
+            self.handler.set_due(due.map(Moment::millis));
+        }
         sooner(self.client_limit(patience), self.hold_due())
     }
 
@@ -647,7 +679,7 @@ impl<'a, R: Wait, T: NonBlocking> Place<'a, R, T> {
     /// Returns when the time of what the client holds is over, if it may be given back then.
     pub(crate) fn hold_due(&self) -> Option<Moment> {
         if self.may_lapse() {
-            self.hold_time.due()
+            self.handler.due().map(Moment::at)
         } else {
             None
         }
@@ -696,30 +728,6 @@ fn refusals(served: &Served) -> u64
     match served.end {
         End::NoMemory => 1,
         _ => 0,
-    }
-}
-
-/// Returns the wait of a return that has come so far.
-fn wait_of(came: Return) -> Option<SendWait>
-    ensures { result ≡ wait_in came }
-{
-    match came {
-        Return::Waits(wait) => Some(wait),
-        Return::Nothing | Return::Over(_) => None,
-    }
-}
-
-/// Returns the numbers once a return has come so far.
-fn counted(fates: Fates, came: Return) -> Fates
-    ensures { result ≡ fates_by fates came }
-{
-    let mut fates = fates;
-    match came {
-        Return::Nothing | Return::Waits(_) => fates,
-        Return::Over(fate) => {
-            fates.count(fate);
-            fates
-        }
     }
 }
 

@@ -1,14 +1,19 @@
 //! The event loop of a worker.
 ghost use Rattle.std.specs.Prelude.{◌≡◌, ◌⊎◌, None, Some, true};
+ghost use Rattle.std.specs.List.{list_any};
 ghost use Rattle.sysv_parking.specs.Agenda.{IsAtRest, KeepsWork};
 ghost use Rattle.sysv_parking.specs.Parking.{AreInLines, MovesOnly, key_at};
+ghost use Rattle.sysv_seats.specs.Notification.{is_taken, notifications_in};
+ghost use Rattle.sysv_engine.specs.Heeding.{IsAllTold, StaysTold, ended_by};
+ghost use Rattle.sysv_engine.specs.Lining.{IsLined};
+ghost use Rattle.sysv_engine.specs.Marking.{IsMarked, IsParked};
 ghost use Rattle.sysv_engine.specs.Places.{IsVacantAt, KeepsAll};
 
 use crate::moment::{Moment, sooner};
-use crate::server_state::ServerState;
+use crate::server_state::{Marked, ServerState};
 use crate::spinning::look;
 use crate::watch::{Ready, Watch};
-use crate::worker::Worker;
+use crate::worker::{Rechecked, Worker};
 use std::alloc::Global;
 use std::sync::Wait;
 use sysv_parking::{Found, Key, collect, heed_all, read_envelopes};
@@ -47,10 +52,15 @@ impl<'a, 'c, R: Wait, T: NonBlocking + Drop, W: Watch<T>> Job<Worker<'a, R, T, W
         self.server.finish();
     }
 
+    #[tactic(auto, using(crate::proofs::Telling::none_told))]
     fn run(&self, worker: &mut Worker<'a, R, T, W>, connection: T) {
         self.server.take();
+        // (nothing is left of the last run)
+        collect(self.rt, self, worker);
         let place = self.make_room(worker);
-        worker.adopt(place, self.alloc, connection);
+        if !worker.adopt(place, self.alloc, connection) {
+            self.server.miss();
+        }
         self.turn(worker, place);
         self.serve(worker);
     }
@@ -59,8 +69,10 @@ impl<'a, 'c, R: Wait, T: NonBlocking + Drop, W: Watch<T>> Job<Worker<'a, R, T, W
 impl<'a, 'c, R: Wait> Serving<'a, 'c, R> {
     /// Serves the clients until a place is vacant, and returns it.
     fn make_room<T: NonBlocking, W: Watch<T>>(&self, worker: &mut Worker<'a, R, T, W>) -> usize
+        requires told { IsAllTold worker.old.tools }
         ensures keeps { KeepsAll T.incoming T.outgoing T.closes worker.old.places.items
             worker.new.places.items }
+        ensures told { IsAllTold worker.new.tools }
         ensures vacant { IsVacantAt result worker.new.places.items }
     {
         for _ in self.rt.forever() {
@@ -74,8 +86,10 @@ impl<'a, 'c, R: Wait> Serving<'a, 'c, R> {
 
     /// Serves the clients until the worker is to return.
     fn serve<T: NonBlocking, W: Watch<T>>(&self, worker: &mut Worker<'a, R, T, W>)
-        ensures { KeepsAll T.incoming T.outgoing T.closes worker.old.places.items
+        requires told { IsAllTold worker.old.tools }
+        ensures keeps { KeepsAll T.incoming T.outgoing T.closes worker.old.places.items
             worker.new.places.items }
+        ensures told { IsAllTold worker.new.tools }
     {
         for _ in self.rt.forever() {
             if self.is_called(worker) {
@@ -88,8 +102,9 @@ impl<'a, 'c, R: Wait> Serving<'a, 'c, R> {
     /// Returns whether the worker is to return: to take one more connection, or because there are
     /// no clients and no more connections come.
     fn is_called<T: NonBlocking, W: Watch<T>>(&self, worker: &mut Worker<'a, R, T, W>) -> bool
-        ensures { KeepsAll T.incoming T.outgoing T.closes worker.old.places.items
+        ensures keeps { KeepsAll T.incoming T.outgoing T.closes worker.old.places.items
             worker.new.places.items }
+        ensures tools { worker.new.tools ≡ worker.old.tools }
     {
         if self.server.coming(worker.agenda.number()) > worker.answered {
             worker.answered += 1;
@@ -104,8 +119,10 @@ impl<'a, 'c, R: Wait> Serving<'a, 'c, R> {
     /// Waits for events, and serves each client that has some. Closes idle clients first, if they are
     /// to be closed.
     fn round<T: NonBlocking, W: Watch<T>>(&self, worker: &mut Worker<'a, R, T, W>)
-        ensures { KeepsAll T.incoming T.outgoing T.closes worker.old.places.items
+        requires told { IsAllTold worker.old.tools }
+        ensures keeps { KeepsAll T.incoming T.outgoing T.closes worker.old.places.items
             worker.new.places.items }
+        ensures told { IsAllTold worker.new.tools }
     {
         self.close_idle(worker);
         let has_come = self.rest(worker);
@@ -125,8 +142,13 @@ impl<'a, 'c, R: Wait> Serving<'a, 'c, R> {
 
     /// Waits until a client has an event, or something came for the worker, and takes what the worker
     /// was told into its agenda. Returns whether anyone has rung since it last woke up.
+    ///
+    /// # Conditions
+    ///
+    /// - Nothing is left to tell of what calls have changed.
     fn rest<T: NonBlocking, W: Watch<T>>(&self, worker: &mut Worker<'a, R, T, W>) -> bool
-        ensures { worker.new.places ≡ worker.old.places }
+        requires { IsAllTold worker.old.tools }
+        ensures { (worker.new.places ≡ worker.old.places) × (worker.new.tools ≡ worker.old.tools) }
     {
         if self.spin(worker) {
             worker.wake_up()
@@ -138,8 +160,9 @@ impl<'a, 'c, R: Wait> Serving<'a, 'c, R> {
     /// Has the clients learn what the watch reports of them, before parked calls are looked at: a
     /// client that has left gets no message.
     fn note_ready<T: NonBlocking, W: Watch<T>>(&self, worker: &mut Worker<'a, R, T, W>)
-        ensures { KeepsAll T.incoming T.outgoing T.closes worker.old.places.items
+        ensures keeps { KeepsAll T.incoming T.outgoing T.closes worker.old.places.items
             worker.new.places.items }
+        ensures tools { worker.new.tools ≡ worker.old.tools }
     {
         for at in 0..worker.ready.len() {
             let Some(ready) = worker.ready.get(at).copied() else {
@@ -151,8 +174,9 @@ impl<'a, 'c, R: Wait> Serving<'a, 'c, R> {
 
     /// Serves the clients of which the watch reports events.
     fn serve_ready<T: NonBlocking, W: Watch<T>>(&self, worker: &mut Worker<'a, R, T, W>)
-        ensures { KeepsAll T.incoming T.outgoing T.closes worker.old.places.items
+        ensures keeps { KeepsAll T.incoming T.outgoing T.closes worker.old.places.items
             worker.new.places.items }
+        ensures told { StaysTold worker.old.tools worker.new.tools }
     {
         for at in 0..worker.ready.len() {
             let Some(ready) = worker.ready.get(at).copied() else {
@@ -165,7 +189,7 @@ impl<'a, 'c, R: Wait> Serving<'a, 'c, R> {
     /// Looks for events for some microseconds, if there are few clients and such looks were of use
     /// lately. Returns whether a client has an event, or something came for the worker.
     fn spin<T: NonBlocking, W: Watch<T>>(&self, worker: &mut Worker<'a, R, T, W>) -> bool
-        ensures { worker.new.places ≡ worker.old.places }
+        ensures { (worker.new.places ≡ worker.old.places) × (worker.new.tools ≡ worker.old.tools) }
     {
         let is_idle = !worker.is_empty() && !worker.has_more();
         if !is_idle || !self.server.has_few_clients() || !worker.spinning.is_due() {
@@ -178,8 +202,13 @@ impl<'a, 'c, R: Wait> Serving<'a, 'c, R> {
 
     /// Sleeps until a client has an event, or something came for the worker, and wakes up. It does
     /// not sleep if there is more to do. Returns what `Worker::sleep` does.
+    ///
+    /// # Conditions
+    ///
+    /// - Nothing is left to tell of what calls have changed.
     fn sleep<T: NonBlocking, W: Watch<T>>(&self, worker: &mut Worker<'a, R, T, W>) -> bool
-        ensures { worker.new.places ≡ worker.old.places }
+        requires { IsAllTold worker.old.tools }
+        ensures { (worker.new.places ≡ worker.old.places) × (worker.new.tools ≡ worker.old.tools) }
     {
         let limit = if worker.has_more() {
             Some(0)
@@ -191,8 +220,9 @@ impl<'a, 'c, R: Wait> Serving<'a, 'c, R> {
 
     /// Serves a client of which the watch reports an event.
     fn report<T: NonBlocking, W: Watch<T>>(&self, worker: &mut Worker<'a, R, T, W>, ready: &Ready)
-        ensures { KeepsAll T.incoming T.outgoing T.closes worker.old.places.items
+        ensures keeps { KeepsAll T.incoming T.outgoing T.closes worker.old.places.items
             worker.new.places.items }
+        ensures told { StaysTold worker.old.tools worker.new.tools }
     {
         worker.note(ready);
         self.turn(worker, ready.place);
@@ -200,8 +230,9 @@ impl<'a, 'c, R: Wait> Serving<'a, 'c, R> {
 
     /// Gives each client in the line of those that have more to do one turn.
     fn take_turns<T: NonBlocking, W: Watch<T>>(&self, worker: &mut Worker<'a, R, T, W>)
-        ensures { KeepsAll T.incoming T.outgoing T.closes worker.old.places.items
+        ensures keeps { KeepsAll T.incoming T.outgoing T.closes worker.old.places.items
             worker.new.places.items }
+        ensures told { StaysTold worker.old.tools worker.new.tools }
     {
         for _ in 0..worker.turns.len() {
             let Some(place) = worker.next_turn() else {
@@ -213,8 +244,9 @@ impl<'a, 'c, R: Wait> Serving<'a, 'c, R> {
 
     /// Has a client take up and answer a share of what has arrived.
     fn turn<T: NonBlocking, W: Watch<T>>(&self, worker: &mut Worker<'a, R, T, W>, place: usize)
-        ensures { KeepsAll T.incoming T.outgoing T.closes worker.old.places.items
+        ensures keeps { KeepsAll T.incoming T.outgoing T.closes worker.old.places.items
             worker.new.places.items }
+        ensures told { StaysTold worker.old.tools worker.new.tools }
     {
         if !worker.has_client(place) {
             return;
@@ -259,6 +291,7 @@ impl<'a, 'c, R: Wait> Serving<'a, 'c, R> {
             ≡ record worker.old.agenda { parking = worker.new.agenda.parking } }
     {
         self.line_up(worker, place);
+        self.await_room(worker, place);
         self.close_if_over(worker, place);
         self.note_given_back(worker, place);
         self.tell_held(worker, place);
@@ -278,6 +311,22 @@ impl<'a, 'c, R: Wait> Serving<'a, 'c, R> {
             let held = worker.tools.held();
             self.server
                 .count_held(worker.agenda.number(), held, returns);
+        }
+    }
+
+    /// Has the watch report when a client's connection may take bytes, if some wait for it. If the
+    /// system refuses that, the client ends.
+    fn await_room<T: NonBlocking, W: Watch<T>>(
+        &self,
+        worker: &mut Worker<'a, R, T, W>,
+        place: usize,
+    )
+        ensures keeps { KeepsAll T.incoming T.outgoing T.closes worker.old.places.items
+            worker.new.places.items }
+        ensures agenda { worker.new.agenda ≡ worker.old.agenda }
+    {
+        if !worker.is_over(place) && !worker.await_room(place) {
+            self.server.miss();
         }
     }
 
@@ -324,7 +373,7 @@ impl<'a, 'c, R: Wait> Serving<'a, 'c, R> {
             worker.new.places.items }
         ensures agenda { worker.new.agenda ≡ worker.old.agenda }
     {
-        worker.await_more(place);
+        worker.await_turn(place);
         worker.set_time(place, self.server.patience());
         worker.look_again(place);
     }
@@ -333,32 +382,34 @@ impl<'a, 'c, R: Wait> Serving<'a, 'c, R> {
     /// call that enters a line is looked at once more, since what it waits for may have come before
     /// that was known.
     fn line_up<T: NonBlocking, W: Watch<T>>(&self, worker: &mut Worker<'a, R, T, W>, place: usize)
+        ensures lined { IsLined place worker.new.places.items worker.new.agenda.parking }
         ensures keeps { KeepsAll T.incoming T.outgoing T.closes worker.old.places.items
             worker.new.places.items }
         ensures moves { MovesOnly place worker.old.agenda.parking worker.new.agenda.parking }
         ensures rest { worker.new.agenda
             ≡ record worker.old.agenda { parking = worker.new.agenda.parking } }
     {
-        let mut looked = false;
         for _ in self.rt.forever() {
-            if !self.enter_line(worker, place) {
-                break;
+            if self.enter_line(worker, place).is_none() {
+                return;
             }
-            looked = true;
-        }
-        if looked {
             worker.drain(place);
         }
+        unreachable!()
     }
 
     /// Puts a client into the line of what its parked call waits for, unless it is there, and has
-    /// the call go on if it may. Returns whether it entered a line: then its call may wait for
-    /// something else. If memory for the line is refused, the call is due.
+    /// the call go on if it may. If it entered a line, its call may wait for something else. If memory
+    /// for the line is refused, the call is due.
+    #[tactic(auto, using(crate::proofs::Lining::lined_later, crate::proofs::Lining::lined_nowhere, crate::proofs::Lining::lined_there, crate::proofs::Marking::marked_there))]
     fn enter_line<T: NonBlocking, W: Watch<T>>(
         &self,
         worker: &mut Worker<'a, R, T, W>,
         place: usize,
-    ) -> bool
+    ) -> Option<Rechecked>
+        ensures parked { IsParked place worker.old.agenda worker.new.agenda result }
+        ensures lined { result ≡ None
+            → IsLined place worker.new.places.items worker.new.agenda.parking }
         ensures keeps { KeepsAll T.incoming T.outgoing T.closes worker.old.places.items
             worker.new.places.items }
         ensures moves { MovesOnly place worker.old.agenda.parking worker.new.agenda.parking }
@@ -366,20 +417,39 @@ impl<'a, 'c, R: Wait> Serving<'a, 'c, R> {
             ≡ record worker.old.agenda { parking = worker.new.agenda.parking } }
     {
         let key = worker.key(place);
-        if key == worker.agenda.lines().key(place) {
-            return false;
+        if is_at(worker.agenda.lines().key(place), key) {
+            return None;
         }
         self.leave_line(worker, place);
         let Some(key) = key else {
-            return false;
+            return None;
         };
         if !worker.agenda.enter(place, key) {
-            return false;
+            return None;
         }
         self.count_parked(worker, key.word());
-        self.server.mark(key.word(), worker.agenda.number());
-        self.go_on(worker, place);
-        true
+        let mark = self.server.mark(key.word(), worker.agenda.number());
+        Some(self.go_on_marked(worker, place, mark))
+    }
+
+    /// Continues the parked call of a place that has just entered its line, as
+    /// `Worker::go_on_marked` does.
+    fn go_on_marked<T: NonBlocking, W: Watch<T>>(
+        &self,
+        worker: &mut Worker<'a, R, T, W>,
+        place: usize,
+        mark: Marked,
+    ) -> Rechecked
+        requires { IsMarked mark worker.old.agenda place }
+        ensures looked { (result.place ≡ place) × (result.mark ≡ mark) }
+        ensures keeps { KeepsAll T.incoming T.outgoing T.closes worker.old.places.items
+            worker.new.places.items }
+        ensures agenda { worker.new.agenda ≡ worker.old.agenda }
+    {
+        let before = worker.blocks_in_use(place);
+        let looked = worker.go_on_marked(place, mark);
+        self.count_blocks(worker, place, before);
+        looked
     }
 
     /// Takes a place out of its line, if it is in one.
@@ -388,6 +458,8 @@ impl<'a, 'c, R: Wait> Serving<'a, 'c, R> {
         worker: &mut Worker<'a, R, T, W>,
         place: usize,
     )
+        ensures left { key_at worker.new.agenda.parking place ≡ None }
+        ensures places { worker.new.places ≡ worker.old.places }
         ensures keeps { KeepsAll T.incoming T.outgoing T.closes worker.old.places.items
             worker.new.places.items }
         ensures moves { MovesOnly place worker.old.agenda.parking worker.new.agenda.parking }
@@ -470,10 +542,11 @@ impl<'a, 'c, R: Wait> Serving<'a, 'c, R> {
     }
 
     /// Heeds what has changed, here and in other workers, as far as the worker's share of looks
-    /// goes. What is left is heeded in the next round.
+    /// goes. What is left is heeded in the next round. Nothing is left to tell.
     fn spread<T: NonBlocking, W: Watch<T>>(&self, worker: &mut Worker<'a, R, T, W>)
         ensures keeps { KeepsAll T.incoming T.outgoing T.closes worker.old.places.items
             worker.new.places.items }
+        ensures told { IsAllTold worker.new.tools }
         ensures rest { (worker.new.agenda.looks ≡ 0) ⊎ IsAtRest worker.new.agenda }
     {
         collect(self.rt, self, worker);
@@ -490,6 +563,7 @@ impl<'a, 'c, R: Wait> Serving<'a, 'c, R> {
     ) -> Found
         ensures keeps { KeepsAll T.incoming T.outgoing T.closes worker.old.places.items
             worker.new.places.items }
+        ensures told { IsAllTold worker.new.tools }
         ensures moves { MovesOnly place worker.old.agenda.parking worker.new.agenda.parking }
         ensures in_lines { AreInLines worker.new.agenda.parking }
         ensures waits { result ≡ Found.Nothing → key_at worker.new.agenda.parking place
@@ -500,20 +574,46 @@ impl<'a, 'c, R: Wait> Serving<'a, 'c, R> {
     {
         let before = worker.agenda.lines().key(place);
         self.go_on(worker, place);
-        let has_taken = worker.tools.has_taken(mtype);
         if worker.key(place).is_none() {
             worker.drain(place);
         }
         self.settle(worker, place);
+        self.conclude(worker, place, before, mtype)
+    }
+
+    /// Returns what the look at the call of this place found that waited for `before`, and tells what
+    /// it has changed. It took a message of this type if and only if that is to be told.
+    fn conclude<T: NonBlocking, W: Watch<T>>(
+        &self,
+        worker: &mut Worker<'a, R, T, W>,
+        place: usize,
+        before: Option<Key>,
+        mtype: i64,
+    ) -> Found
+        ensures keeps { KeepsAll T.incoming T.outgoing T.closes worker.old.places.items
+            worker.new.places.items }
+        ensures told { IsAllTold worker.new.tools }
+        ensures parking { worker.new.agenda.parking ≡ worker.old.agenda.parking }
+        ensures in_lines { AreInLines worker.new.agenda.parking }
+        ensures waits { result ≡ Found.Nothing → key_at worker.old.agenda.parking place ≡ before }
+        ensures over { (result ≡ Found.Message) ⊎ (result ≡ Found.Over)
+            → key_at worker.old.agenda.parking place ≡ None }
+        ensures ended { key_at worker.old.agenda.parking place ≡ None → result
+            ≡ ended_by (list_any (is_taken mtype) (notifications_in worker.old.tools)) }
+        ensures work { KeepsWork worker.old.agenda worker.new.agenda }
+    {
+        let after = worker.agenda.lines().key(place);
+        let what = found(before, after, worker.tools.has_taken(mtype));
         collect(self.rt, self, worker);
-        found(before, worker.agenda.lines().key(place), has_taken)
+        what
     }
 
     /// Closes each client whose time is over, if it may be over for some, gives back what clients hold
     /// whose time is over, and reads again from those that may have more bytes.
     fn look_at_times<T: NonBlocking, W: Watch<T>>(&self, worker: &mut Worker<'a, R, T, W>)
-        ensures { KeepsAll T.incoming T.outgoing T.closes worker.old.places.items
+        ensures keeps { KeepsAll T.incoming T.outgoing T.closes worker.old.places.items
             worker.new.places.items }
+        ensures told { StaysTold worker.old.tools worker.new.tools }
     {
         let Some(check) = worker.check else {
             return;
@@ -579,8 +679,9 @@ impl<'a, 'c, R: Wait> Serving<'a, 'c, R> {
 
     /// Closes each client that is idle, if these are to be closed.
     fn close_idle<T: NonBlocking, W: Watch<T>>(&self, worker: &mut Worker<'a, R, T, W>)
-        ensures { KeepsAll T.incoming T.outgoing T.closes worker.old.places.items
+        ensures keeps { KeepsAll T.incoming T.outgoing T.closes worker.old.places.items
             worker.new.places.items }
+        ensures told { StaysTold worker.old.tools worker.new.tools }
     {
         if !self.server.closes_idle() {
             return;
@@ -588,6 +689,7 @@ impl<'a, 'c, R: Wait> Serving<'a, 'c, R> {
         for place in 0..worker.places.len() {
             self.close_if_idle(worker, place);
         }
+        self.spread(worker);
     }
 
     /// Closes a client that is idle, unless something has come for it that was not read yet.
@@ -609,8 +711,9 @@ impl<'a, 'c, R: Wait> Serving<'a, 'c, R> {
 
     /// Closes all clients, since the time for an orderly end is over.
     fn cut_all<T: NonBlocking, W: Watch<T>>(&self, worker: &mut Worker<'a, R, T, W>)
-        ensures { KeepsAll T.incoming T.outgoing T.closes worker.old.places.items
+        ensures keeps { KeepsAll T.incoming T.outgoing T.closes worker.old.places.items
             worker.new.places.items }
+        ensures told { IsAllTold worker.new.tools }
     {
         for place in 0..worker.places.len() {
             if worker.has_client(place) {
@@ -645,12 +748,23 @@ fn is_over(due: Option<Moment>) -> bool {
 fn found(before: Option<Key>, after: Option<Key>, has_taken: bool) -> Found
     ensures waits { result ≡ Found.Nothing → after ≡ before }
     ensures over { (result ≡ Found.Message) ⊎ (result ≡ Found.Over) → after ≡ None }
+    ensures ended { after ≡ None → result ≡ ended_by has_taken }
 {
     match after {
         None if has_taken => Found::Message,
         None => Found::Over,
         Some(key) if is_for(before, key) => Found::Nothing,
         Some(_) => Found::Else,
+    }
+}
+
+/// Returns whether a call waited for this, or for nothing.
+fn is_at(before: Option<Key>, key: Option<Key>) -> bool
+    ensures { result ≡ true → before ≡ key }
+{
+    match key {
+        Some(key) => is_for(before, key),
+        None => before.is_none(),
     }
 }
 

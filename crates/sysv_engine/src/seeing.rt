@@ -65,7 +65,7 @@ where
     let outcome = serve_seeing(
         rt, alloc, &service, &mut pass, source, books, watches, server, reads,
     );
-    let removed = service.stop(rt, &mut pass);
+    let stop = service.stop_counting(rt, &mut pass);
     let closed = service.close(pass);
     each_lifetime_is_one_run();
     match outcome {
@@ -73,7 +73,8 @@ where
             sums,
             refused,
             fates,
-            removed,
+            removed: stop.removed,
+            queued: stop.messages,
             cut: server.cut_calls(),
             closed,
             setting,

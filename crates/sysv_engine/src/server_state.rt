@@ -2,10 +2,11 @@
 //! connections.
 ghost use Rattle.std.specs.Prelude.{◌≡◌, ◌≤◌, IfSome, vec_len};
 ghost use Rattle.sysv_keys.specs.declared.identifier.TheConstants.{SLOTS as slot_count};
+ghost use Rattle.sysv_parking.specs.Parking.{parked_at};
 ghost use Rattle.sysv_engine.specs.Counting.{IsCounted, IsNothing};
 ghost use Rattle.sysv_engine.specs.Handled.{newest_of};
 ghost use Rattle.sysv_engine.specs.Serving.{RunsWith};
-ghost use Rattle.sysv_engine.specs.declared.counter.Kind.TheVariants.{CutOff};
+ghost use Rattle.sysv_engine.specs.declared.counter.Kind.TheVariants.{CutOff, Unwatched};
 
 use crate::alarm::{Alarm, Rest};
 use crate::counter::{Added, Counter, Kind};
@@ -17,7 +18,7 @@ use std::alloc::Global;
 use std::sync::Wait;
 use std::sync::atomic::{AtomicBool, AtomicU64, Ordering};
 use sysv_keys::SLOTS;
-use sysv_parking::{Change, Envelope, WORDS};
+use sysv_parking::{Agenda, Change, Envelope, WORDS};
 use sysv_queue::Tally;
 use sysv_seats::Returned;
 use sysv_system::{Doorbell, Watched};
@@ -47,6 +48,14 @@ struct Post {
     /// The number of clients of the worker that were closed.
     closed: AtomicU64,
     counts: Counts,
+}
+
+/// The worker of this number has said that it has calls parked under this word. Only
+/// `ServerState::mark` makes a value of this type.
+#[derive(Clone, Copy)]
+pub(crate) struct Marked {
+    word: usize,
+    worker: usize,
 }
 
 /// What the workers share.
@@ -82,10 +91,12 @@ pub struct ServerState {
     holds: bool,
     /// Whether the memory of a session was refused.
     starved: AtomicBool,
+    /// The number of clients that were cut off since the system refused to report their events.
+    unwatched: Counter,
     /// Whether the accepting thread waits for a session to be over.
     is_awaited: AtomicBool,
-    /// Rung at each session that is over while the accepting thread waits for that, and when the
-    /// memory of a session was refused.
+    /// Rung at each session that is over while the accepting thread waits for that, when the memory of
+    /// a session was refused, and when a client was cut off since its events cannot be reported.
     turn: Doorbell,
 }
 
@@ -107,6 +118,7 @@ impl ServerState {
         ensures rests { IfSome result (λ both. vec_len both.1 ≡ workers) }
         ensures at_once { IfSome result (λ both. both.0.at_once ≡ at_once) }
         ensures cut { IfSome result (λ both. both.0.cut_calls.kind ≡ CutOff) }
+        ensures unwatched { IfSome result (λ both. both.0.unwatched.kind ≡ Unwatched) }
         ensures patience { IfSome result (λ both. both.0.patience ≡ patience) }
         ensures drain { IfSome result (λ both. both.0.drain ≡ drain) }
         ensures holds { IfSome result (λ both. both.0.holds ≡ holds) }
@@ -130,6 +142,7 @@ impl ServerState {
             returning: AtomicU64::new(0),
             holds,
             starved: AtomicBool::new(false),
+            unwatched: Counter::new(Kind::Unwatched),
             is_awaited: AtomicBool::new(false),
             turn,
         };
@@ -250,19 +263,27 @@ impl ServerState {
     }
 
     /// Says that the worker has calls parked under this word.
-    pub(crate) fn mark(&self, word: usize, worker: usize) {
-        let Some(workers) = self.words.get(word) else {
-            return;
-        };
-        if workers.load(Ordering::SeqCst) & bit(worker) == 0 {
-            workers.fetch_or(bit(worker), Ordering::SeqCst);
+    pub(crate) fn mark(&self, word: usize, worker: usize) -> Marked
+        ensures { (result.word ≡ word) × (result.worker ≡ worker) }
+    {
+        if let Some(workers) = self.words.get(word) {
+            if workers.load(Ordering::SeqCst) & bit(worker) == 0 {
+                workers.fetch_or(bit(worker), Ordering::SeqCst);
+            }
         }
+        Marked { word, worker }
     }
 
-    /// Says that the worker has no calls parked under this word.
-    pub(crate) fn unmark(&self, word: usize, worker: usize) {
+    /// Says that the worker of this agenda has no calls parked under this word.
+    ///
+    /// # Conditions
+    ///
+    /// - It has none.
+    pub(crate) fn unmark(&self, word: usize, agenda: &Agenda)
+        requires { parked_at agenda.now.parking word ≡ 0 }
+    {
         if let Some(workers) = self.words.get(word) {
-            workers.fetch_and(!bit(worker), Ordering::SeqCst);
+            workers.fetch_and(!bit(agenda.number()), Ordering::SeqCst);
         }
     }
 
@@ -327,6 +348,7 @@ impl ServerState {
             held: 0,
             sent_back: 0,
             gone: 0,
+            unwatched: self.unwatched.read(),
         };
         for post in &self.posts {
             post.counts.add_all(&mut sum);
@@ -473,6 +495,20 @@ impl ServerState {
     /// Returns whether the memory of a session was refused.
     pub fn is_starved(&self) -> bool {
         self.starved.load(Ordering::SeqCst)
+    }
+
+    /// Counts a client that was cut off since the system refused to report its events.
+    pub(crate) fn miss(&self) -> Added
+        ensures { IsCounted self.now.unwatched 1 result }
+    {
+        let added = self.unwatched.add(1);
+        self.turn.ring();
+        added
+    }
+
+    /// Returns whether a client was cut off since the system refused to report its events.
+    pub fn has_missed(&self) -> bool {
+        self.unwatched.read() > 0
     }
 
     /// Returns the descriptor of the doorbell for the accepting thread.

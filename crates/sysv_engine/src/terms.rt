@@ -72,6 +72,8 @@ pub struct Ended {
     /// The number of queues that were left at the end and were removed, or `EOVERFLOW` if the gate
     /// of a slot was found worn out.
     pub removed: Result<u32, Errno>,
+    /// The number of messages that were still in these queues, which were discarded with them.
+    pub queued: u64,
     /// The number of calls that waited when an orderly end cut their sessions off.
     pub cut: u64,
     /// What was left of its service when it was closed, after these queues were removed. No gate is

@@ -53,8 +53,11 @@ pub trait Watch<T: NonBlocking> {
     fn add(&mut self, connection: &T, place: usize) -> bool
         ensures { result ≡ false → MayBreak (T.closes.breaks connection.now) };
 
-    /// Has the place reported also when the connection may take bytes, or not any more.
-    fn await_room(&mut self, connection: &T, place: usize, awaits: bool);
+    /// Has the place reported also when the connection may take bytes, or not any more. Returns
+    /// whether that succeeded. It fails only for a connection on which reading and writing may break
+    /// off.
+    fn await_room(&mut self, connection: &T, place: usize, awaits: bool) -> bool
+        ensures { result ≡ false → MayBreak (T.closes.breaks connection.now) };
 
     /// Waits until a place has an event or the doorbell is rung, for at most `limit` milliseconds,
     /// and puts what is reported into `ready`. It may return early.
@@ -94,15 +97,15 @@ impl Watch<SocketStream> for Polled {
             .register(&self.poll, Token(place), Interest::READABLE)
     }
 
-    fn await_room(&mut self, connection: &SocketStream, place: usize, awaits: bool) {
+    fn await_room(&mut self, connection: &SocketStream, place: usize, awaits: bool) -> bool {
         let interest = if awaits {
             Interest::READABLE | Interest::WRITABLE
         } else {
             Interest::READABLE
         };
-        let _ = connection
+        connection
             .watched()
-            .reregister(&self.poll, Token(place), interest);
+            .reregister(&self.poll, Token(place), interest)
     }
 
     fn look(&mut self, ready: &mut Vec<Ready>) {
@@ -175,7 +178,9 @@ impl<T: NonBlocking> Watch<T> for Rounds {
         true
     }
 
-    fn await_room(&mut self, _connection: &T, _place: usize, _awaits: bool) {}
+    fn await_room(&mut self, _connection: &T, _place: usize, _awaits: bool) -> bool {
+        true
+    }
 
     fn wait(&mut self, limit: Option<u64>, ready: &mut Vec<Ready>) {
         ready.clear();

@@ -1,6 +1,9 @@
 //! The workers of a server: their places, and what happens at each.
 ghost use Rattle.std.specs.Prelude.{◌≡◌, ◌≤◌, ◌⊎◌, vec_len, vec_capacity, [], false, IfSome, Some};
 ghost use Rattle.sysv_parking.specs.Agenda.{IsAtRest};
+ghost use Rattle.sysv_engine.specs.Heeding.{IsAllTold};
+ghost use Rattle.sysv_engine.specs.Lining.{key_of_place};
+ghost use Rattle.sysv_engine.specs.Marking.{IsMarked};
 ghost use Rattle.sysv_engine.specs.Waking.{WakesUp};
 ghost use Rattle.sysv_engine.specs.Places.{AdoptsOne, IsVacantAt, KeepsAll};
 
@@ -8,6 +11,7 @@ use crate::alarm::Rest;
 use crate::counts::Moved;
 use crate::moment::{Moment, sooner};
 use crate::place::Place;
+use crate::server_state::Marked;
 use crate::spinning::Spinning;
 use crate::terms::Patience;
 use crate::watch::{Ready, Watch};
@@ -61,6 +65,14 @@ pub(crate) struct Worker<'a, R: Wait, T: NonBlocking, W> {
     /// The numbers of its envelopes and of its changes, modulo 2^64.
     messages: usize,
     changed: usize,
+}
+
+/// The call of a place has entered a line, the worker has said that it has calls there, and then the
+/// call was looked at once more. Only `Worker::go_on_marked` makes a value of this type.
+#[derive(Clone, Copy)]
+pub(crate) struct Rechecked {
+    place: usize,
+    mark: Marked,
 }
 
 /// The tools of a worker, and room for its places.
@@ -190,7 +202,8 @@ impl<'a, R: Wait, T: NonBlocking, W: Watch<T>> Worker<'a, R, T, W> {
     /// Counts an envelope that this worker writes. Returns whose turn it is to look first, counted
     /// on from turn to turn, or `None` for its own.
     pub(crate) fn next_first(&mut self) -> Option<usize>
-        ensures { (self.new.places ≡ self.old.places) × (self.new.agenda ≡ self.old.agenda) }
+        ensures { (self.new.places ≡ self.old.places) × (self.new.agenda ≡ self.old.agenda)
+            × (self.new.tools ≡ self.old.tools) }
     {
         self.messages = self.messages.wrapping_add(1);
         turn(self.messages, SHARE_OF_MESSAGES)
@@ -207,7 +220,7 @@ impl<'a, R: Wait, T: NonBlocking, W: Watch<T>> Worker<'a, R, T, W> {
 
     /// Begins a round: the worker may make as many looks again.
     pub(crate) fn begin_looks(&mut self)
-        ensures { self.new.places ≡ self.old.places }
+        ensures { (self.new.places ≡ self.old.places) × (self.new.tools ≡ self.old.tools) }
     {
         self.agenda.begin(LOOKS);
     }
@@ -234,9 +247,12 @@ impl<'a, R: Wait, T: NonBlocking, W: Watch<T>> Worker<'a, R, T, W> {
     /// # Conditions
     ///
     /// - There is nothing to do for parked calls, or the limit is 0.
+    /// - Nothing is left to tell of what calls have changed.
     pub(crate) fn sleep(&mut self, limit: Option<u64>) -> bool
-        requires { (limit ≡ Some 0) ⊎ IsAtRest self.old.agenda }
+        requires rest { (limit ≡ Some 0) ⊎ IsAtRest self.old.agenda }
+        requires told { IsAllTold self.old.tools }
         ensures places { self.new.places ≡ self.old.places }
+        ensures tools { self.new.tools ≡ self.old.tools }
         ensures wakes { WakesUp result self.old.rest.seat self.new.rest.seat self.old.agenda
             self.new.agenda }
     {
@@ -248,6 +264,7 @@ impl<'a, R: Wait, T: NonBlocking, W: Watch<T>> Worker<'a, R, T, W> {
     /// woke up.
     pub(crate) fn wake_up(&mut self) -> bool
         ensures places { self.new.places ≡ self.old.places }
+        ensures tools { self.new.tools ≡ self.old.tools }
         ensures wakes { WakesUp result self.old.rest.seat self.new.rest.seat self.old.agenda
             self.new.agenda }
     {
@@ -262,6 +279,7 @@ impl<'a, R: Wait, T: NonBlocking, W: Watch<T>> Worker<'a, R, T, W> {
     /// Takes a place out of the list of those without a client, if there is one in it.
     pub(crate) fn vacant(&mut self) -> Option<usize>
         ensures same { self.new.places ≡ self.old.places }
+        ensures tools { self.new.tools ≡ self.old.tools }
         ensures vacant { IfSome result (λ place. IsVacantAt place self.old.places.items) }
     {
         let place = self.free.pop()?;
@@ -271,16 +289,18 @@ impl<'a, R: Wait, T: NonBlocking, W: Watch<T>> Worker<'a, R, T, W> {
         }
     }
 
-    /// Gives a vacant place to the client of a connection, and has its connection watched.
+    /// Gives a vacant place to the client of a connection, and has its connection watched. Returns
+    /// whether it is: else the client ends.
     #[tactic(auto, using(crate::proofs::PlaceLists::adopts_at))]
-    pub(crate) fn adopt(&mut self, place: usize, alloc: Global, connection: T)
+    pub(crate) fn adopt(&mut self, place: usize, alloc: Global, connection: T) -> bool
         requires { IsVacantAt place self.old.places.items }
-        ensures { AdoptsOne T.incoming T.outgoing T.closes connection self.old.places.items
+        ensures adopts { AdoptsOne T.incoming T.outgoing T.closes connection self.old.places.items
             self.new.places.items }
+        ensures tools { self.new.tools ≡ self.old.tools }
     {
         let there = &mut self.places[place];
         there.adopt(alloc, connection);
-        there.begin(&mut self.watch, place);
+        there.begin(&mut self.watch, place)
     }
 
     /// Returns whether the place has a client.
@@ -370,7 +390,9 @@ impl<'a, R: Wait, T: NonBlocking, W: Watch<T>> Worker<'a, R, T, W> {
 
     /// Returns what the parked call of the client waits for, or what gives back a message, if either
     /// waits.
-    pub(crate) fn key(&self, place: usize) -> Option<Key> {
+    pub(crate) fn key(&self, place: usize) -> Option<Key>
+        ensures { result ≡ key_of_place self.now.places.items place }
+    {
         self.places.get(place)?.key()
     }
 
@@ -410,6 +432,7 @@ impl<'a, R: Wait, T: NonBlocking, W: Watch<T>> Worker<'a, R, T, W> {
     pub(crate) fn note(&mut self, ready: &Ready)
         ensures keeps { KeepsAll T.incoming T.outgoing T.closes self.old.places.items
             self.new.places.items }
+        ensures tools { self.new.tools ≡ self.old.tools }
         ensures agenda { self.new.agenda ≡ self.old.agenda }
     {
         if let Some(there) = self.places.get_mut(ready.place) {
@@ -438,6 +461,23 @@ impl<'a, R: Wait, T: NonBlocking, W: Watch<T>> Worker<'a, R, T, W> {
         if let Some(there) = self.places.get_mut(place) {
             there.go_on(&mut self.tools);
         }
+    }
+
+    /// Continues the parked call of a place that has just entered its line, if it may go on. The worker
+    /// has said before that it has calls in such a line, so it is told of what comes from then on.
+    ///
+    /// # Conditions
+    ///
+    /// - This is what the worker has said, and the call is in a line of that word.
+    pub(crate) fn go_on_marked(&mut self, place: usize, mark: Marked) -> Rechecked
+        requires { IsMarked mark self.old.agenda place }
+        ensures looked { (result.place ≡ place) × (result.mark ≡ mark) }
+        ensures keeps { KeepsAll T.incoming T.outgoing T.closes self.old.places.items
+            self.new.places.items }
+        ensures agenda { self.new.agenda ≡ self.old.agenda }
+    {
+        self.go_on(place);
+        Rechecked { place, mark }
     }
 
     /// Gives the client's connection as many bytes of the replies as it takes now.
@@ -501,32 +541,23 @@ impl<'a, R: Wait, T: NonBlocking, W: Watch<T>> Worker<'a, R, T, W> {
         there.close()
     }
 
-    /// Has the watch report when the client's connection may take bytes, if some wait for it, and
-    /// puts the place into the line of those that have more to do, if the client has.
-    pub(crate) fn await_more(&mut self, place: usize)
-        ensures keeps { KeepsAll T.incoming T.outgoing T.closes self.old.places.items
-            self.new.places.items }
-        ensures agenda { self.new.agenda ≡ self.old.agenda }
-    {
-        self.await_room(place);
-        self.await_turn(place);
-    }
-
-    /// Has the watch report when the client's connection may take bytes, if some wait for it.
+    /// Has the watch report when the client's connection may take bytes, if some wait for it. Returns
+    /// whether it does: else the client ends.
     #[tactic(auto, using(crate::proofs::PlaceLists::keeps_at))]
-    fn await_room(&mut self, place: usize)
+    pub(crate) fn await_room(&mut self, place: usize) -> bool
         ensures keeps { KeepsAll T.incoming T.outgoing T.closes self.old.places.items
             self.new.places.items }
         ensures agenda { self.new.agenda ≡ self.old.agenda }
     {
-        if let Some(there) = self.places.get_mut(place) {
-            there.await_room(&mut self.watch, place);
+        match self.places.get_mut(place) {
+            Some(there) => there.await_room(&mut self.watch, place),
+            None => true,
         }
     }
 
     /// Puts the place into the line of those that have more to do, if the client has.
     #[tactic(auto, using(crate::proofs::PlaceLists::keeps_at))]
-    fn await_turn(&mut self, place: usize)
+    pub(crate) fn await_turn(&mut self, place: usize)
         ensures keeps { KeepsAll T.incoming T.outgoing T.closes self.old.places.items
             self.new.places.items }
         ensures agenda { self.new.agenda ≡ self.old.agenda }
@@ -542,8 +573,9 @@ impl<'a, R: Wait, T: NonBlocking, W: Watch<T>> Worker<'a, R, T, W> {
     /// Takes the first place out of the line of those that have more to do.
     #[tactic(auto, using(crate::proofs::PlaceLists::keeps_at))]
     pub(crate) fn next_turn(&mut self) -> Option<usize>
-        ensures { KeepsAll T.incoming T.outgoing T.closes self.old.places.items
+        ensures keeps { KeepsAll T.incoming T.outgoing T.closes self.old.places.items
             self.new.places.items }
+        ensures tools { self.new.tools ≡ self.old.tools }
     {
         let place = self.turns.pop_front()?;
         if let Some(there) = self.places.get_mut(place) {

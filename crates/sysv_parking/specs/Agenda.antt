@@ -171,5 +171,5 @@ module _ (Told : ℕ → Change → Type 0) (Read : ℕ → ℕ → Type 0) wher
 
 -- One of the news was taken, if there are any.
 abbrev pub TakesNews : Option News → (old new : List News) → Type 0
-TakesNews None old new = old ≡ []
+TakesNews None old new = (old ≡ []) × (new ≡ [])
 TakesNews (Some news) old new = (other : News) → Contains old other → (other ≡ news) ⊎ Contains new other

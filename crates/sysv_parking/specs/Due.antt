@@ -1,6 +1,7 @@
 -- Why parked calls are due (this project's profile). A change makes those calls due whose wait it
 -- may end. A call that is due is looked at, unless a look at another call has shown that it would
--- wait again: one that still waits although what this call waits for, too, would have ended it.
+-- wait again: one that still waits although what this call waits for, too, would have ended it. That this
+-- is so of a slot and of the pool is the law `shown_of_others` of sysv_queue and of sysv_pool.
 use Rattle.std.specs.Prelude.{◌≡◌, ◌≤◌, Bool, true, false, ◌||◌}
 use Rattle.sysv_parking.specs.declared.due.Why.{Why}
 use Rattle.sysv_parking.specs.declared.key.Key.{Key}

@@ -1,5 +1,5 @@
 //! What a worker has still to do for its parked calls.
-ghost use Rattle.std.specs.Prelude.{◌≡◌, true, false, List, IfSome, MatchOption};
+ghost use Rattle.std.specs.Prelude.{◌≡◌, ◌≤◌, ◌⊎◌, length, true, false, List, IfSome, MatchOption, None, Some};
 ghost use Rattle.std.specs.List.{Contains};
 ghost use Rattle.sysv_bells.specs.declared.view.Stage.TheVariants.{Awake};
 ghost use Rattle.sysv_bells.specs.declared.view.Taking.{Taking};
@@ -7,7 +7,8 @@ ghost use Rattle.sysv_bells.specs.Seats.{read_to};
 ghost use Rattle.sysv_parking.specs.Agenda.{HeedsChange, IsAtRest, IsHeedful, KeepsWork, TakesFirst};
 ghost use Rattle.sysv_parking.specs.Changes.{AreHeld, Holds, IsThere};
 ghost use Rattle.sysv_parking.specs.Lines.{AreEmpty, Takes};
-ghost use Rattle.sysv_parking.specs.Parking.{MovesOnly};
+ghost use Rattle.sysv_parking.specs.Due.{by_all};
+ghost use Rattle.sysv_parking.specs.Parking.{MovesOnly, key_at, why_at};
 
 use crate::changes::{Change, Changes};
 use crate::due::Why;
@@ -84,6 +85,12 @@ impl Agenda {
     /// Puts the place at the end of the line of this key, as `Lines::enter` does.
     pub fn enter(&mut self, place: usize, key: Key) -> bool
         ensures moves { MovesOnly place self.old.parking self.new.parking }
+        ensures entered { key_at self.old.parking place ≡ None → result ≡ true
+            → key_at self.new.parking place ≡ Some key }
+        ensures refused { result ≡ false
+            → key_at self.new.parking place ≡ key_at self.old.parking place }
+        ensures due { result ≡ false → (why_at self.new.parking place ≡ by_all)
+            ⊎ (length self.new.parking.why ≤ place) }
         ensures rest { self.new ≡ record self.old { parking = self.new.parking } }
     {
         self.lines.enter(place, key)
@@ -92,6 +99,7 @@ impl Agenda {
     /// Takes the place out of its line, if it is in one.
     pub fn leave(&mut self, place: usize)
         ensures moves { MovesOnly place self.old.parking self.new.parking }
+        ensures left { key_at self.new.parking place ≡ None }
         ensures rest { self.new ≡ record self.old { parking = self.new.parking } }
     {
         self.lines.leave(place);

@@ -1,5 +1,5 @@
 //! How a worker tells what its clients' calls have changed for parked calls.
-ghost use Rattle.std.specs.Prelude.{◌≡◌};
+ghost use Rattle.std.specs.Prelude.{◌≡◌, []};
 ghost use Rattle.std.specs.List.{Contains};
 ghost use Rattle.sysv_parking.specs.declared.envelope.News.{News};
 ghost use Rattle.sysv_parking.specs.declared.changes.Change.{Change};
@@ -14,9 +14,11 @@ use crate::key::{BLOCKS_WORD, SETTLED_WORD, room_word};
 use std::sync::Wait;
 
 /// Tells all whom it may concern what the calls of this worker have changed, or keeps it for them.
+/// Nothing is left to tell then.
 pub fn collect<B, C: Tells<B>>(rt: &impl Wait, by: &B, calls: &mut C)
     ensures announced { (news : News) → Contains (C.news calls.old) news
         → IsAnnounced C.told C.read news (C.agenda calls.new) }
+    ensures news { C.news calls.new ≡ [] }
     ensures work { KeepsWork (C.agenda calls.old) (C.agenda calls.new) }
     ensures parking { (C.agenda calls.new).parking ≡ (C.agenda calls.old).parking }
     ensures keeps { C.keeps calls.old calls.new }
@@ -31,6 +33,7 @@ pub fn collect<B, C: Tells<B>>(rt: &impl Wait, by: &B, calls: &mut C)
 fn take_all<B, C: Tells<B>>(rt: &impl Wait, by: &B, calls: &mut C, changes: &mut Changes)
     ensures taken { (news : News) → Contains (C.news calls.old) news
         → IsTaken C.told C.read news changes.new (C.agenda calls.new) }
+    ensures news { C.news calls.new ≡ [] }
     ensures work { KeepsWork (C.agenda calls.old) (C.agenda calls.new) }
     ensures parking { (C.agenda calls.new).parking ≡ (C.agenda calls.old).parking }
     ensures keeps { C.keeps calls.old calls.new }
@@ -62,6 +65,7 @@ fn post<B, C: Tells<B>>(by: &B, calls: &mut C, slot: usize, mtype: i64)
 fn tell_all<B, C: Tells<B>>(rt: &impl Wait, by: &B, calls: &mut C, changes: &mut Changes)
     ensures spread { (change : Change) → IsThere change → Holds changes.old change
         → IsSpread C.told C.read change (C.agenda calls.new) }
+    ensures news { C.news calls.new ≡ C.news calls.old }
     ensures work { KeepsWork (C.agenda calls.old) (C.agenda calls.new) }
     ensures parking { (C.agenda calls.new).parking ≡ (C.agenda calls.old).parking }
     ensures keeps { C.keeps calls.old calls.new }
@@ -95,6 +99,7 @@ fn parked_for<B, C: Tells<B>>(by: &B, calls: &C, change: Change) -> u64
 fn tell_each<B, C: Tells<B>>(rt: &impl Wait, by: &B, calls: &mut C, workers: u64, change: Change)
     ensures heard { IsThere change
         → HearOf C.told C.read change workers (C.agenda calls.new) }
+    ensures news { C.news calls.new ≡ C.news calls.old }
     ensures work { KeepsWork (C.agenda calls.old) (C.agenda calls.new) }
     ensures parking { (C.agenda calls.new).parking ≡ (C.agenda calls.old).parking }
     ensures keeps { C.keeps calls.old calls.new }

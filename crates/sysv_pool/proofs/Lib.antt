@@ -3,4 +3,5 @@ pub mod Sums
 pub mod Turns
 pub mod OneLegalReply
 pub mod Law
+pub mod Alike
 pub mod Texts

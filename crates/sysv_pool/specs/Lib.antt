@@ -7,3 +7,4 @@ pub mod Represents
 pub mod Replies
 pub mod OneReply
 pub mod PoolLaw
+pub mod Alike

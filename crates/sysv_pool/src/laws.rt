@@ -3,6 +3,7 @@
 ghost use Rattle.std.specs.Prelude.{ℕ, [], ◌∷◌, ◌++◌};
 ghost use Rattle.sysv_model.specs.Pool.{PoolEntry, PoolHistory};
 ghost use Rattle.sysv_pool.specs.LegalReply.{IsLegalReply, IsLegalHistory};
+ghost use Rattle.sysv_pool.specs.Alike.{LongerFindsTooFew};
 ghost use Rattle.sysv_pool.specs.OneReply.{SomeReplyIsLegal, NoTwoRepliesAreLegal};
 ghost use Rattle.sysv_pool.specs.PoolLaw.{PoolLaw};
 
@@ -18,6 +19,12 @@ pub fn legal_history()
     ensures empty { (size : ℕ) → IsLegalHistory size [] }
     ensures more { (size : ℕ) (h : PoolHistory) (e : PoolEntry) → IsLegalHistory size h →
         IsLegalReply size h e.call e.reply → IsLegalHistory size (h ++ e ∷ []) }
+{}
+
+/// States what the reply to one reservation shows of another one at the same moment: if there are too
+/// few blocks for a body, there are too few for a longer one.
+pub fn shown_of_others()
+    ensures { LongerFindsTooFew }
 {}
 
 /// States that each legal history obeys the pool law.

@@ -12,5 +12,5 @@ mod pool;
 mod size_class;
 
 pub use chain::Chain;
-pub use laws::{legal_history, one_legal_reply, pool_law};
+pub use laws::{legal_history, one_legal_reply, pool_law, shown_of_others};
 pub use pool::{Pool, PoolRefused};

@@ -17,6 +17,7 @@ pub mod Final
 pub mod Law
 pub mod OneLegalReply
 pub mod StaysRight
+pub mod Alike
 pub mod ForGood
 pub mod WorkedRemoval
 pub mod Control

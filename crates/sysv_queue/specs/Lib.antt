@@ -27,5 +27,6 @@ pub mod Probes
 pub mod OneReply
 pub mod QueueLaw
 pub mod StaysRight
+pub mod Alike
 pub mod ForGood
 pub mod WorkedRemoval

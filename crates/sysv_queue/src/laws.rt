@@ -7,6 +7,7 @@ ghost use Rattle.sysv_queue.specs.OneReply.{SomeReplyIsLegal, NoTwoRepliesAreLeg
 ghost use Rattle.sysv_queue.specs.BlocksKept.{TurnKeepsBlocks, SlotKeepsBlocks};
 ghost use Rattle.sysv_queue.specs.QueueLaw.{QueueLaw};
 ghost use Rattle.sysv_queue.specs.ForGood.{ToldNotLive, FoundLive, FoundNotLive, LivesTillRemoved, RemovedForGood};
+ghost use Rattle.sysv_queue.specs.Alike.{LongerIsFull, NoneIsLeft, ReadersAreAlike, WritersAreAlike};
 ghost use Rattle.sysv_queue.specs.StaysRight.{NoMatchStays, FullStays, FullStaysForLook, CountsNeverFall};
 ghost use Rattle.sysv_queue.specs.WorkedRemoval.{WorkedRemoval, OtherReplies, NoWrongReply};
 
@@ -42,6 +43,18 @@ pub fn stays_right()
     ensures full { FullStays }
     ensures full_for_look { FullStaysForLook }
     ensures counts { CountsNeverFall }
+{
+    named_or_none();
+}
+
+/// States what the reply to one call shows of another one at the same moment: a longer message finds
+/// no more room, a receive that finds no match requests none of the messages that are there, and
+/// callers of one user and group are kept from the queue alike.
+pub fn shown_of_others()
+    ensures longer { LongerIsFull }
+    ensures none { NoneIsLeft }
+    ensures readers { ReadersAreAlike }
+    ensures writers { WritersAreAlike }
 {
     named_or_none();
 }

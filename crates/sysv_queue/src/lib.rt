@@ -16,8 +16,8 @@ mod tally;
 pub use delivery::Delivery;
 pub use discarded::Discarded;
 pub use laws::{
-    blocks_kept, legal_history, one_legal_reply, queue_law, removed_for_good, stays_right,
-    worked_removal,
+    blocks_kept, legal_history, one_legal_reply, queue_law, removed_for_good, shown_of_others,
+    stays_right, worked_removal,
 };
 pub use slot::{Look, PlaceRefused, Probe, QueueSlot, TakeRefused, Unplaced};
 pub use sysv_messages::Steps;

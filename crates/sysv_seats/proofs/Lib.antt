@@ -9,5 +9,6 @@ pub mod ClientEnds
 pub mod ClientSteps
 pub mod Said
 pub mod Returns
-pub mod Fated
+pub mod Fates
 pub mod Known
+pub mod Keeping

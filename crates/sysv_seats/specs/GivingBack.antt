@@ -9,6 +9,7 @@ use Rattle.sysv_wire.specs.declared.reply.ReplyContent.{ReplyContent}
 use Rattle.sysv_wire.specs.declared.reply.ReplyContent.TheVariants as content
 use Rattle.sysv_seats.specs.declared.returning.Fate.{Fate}
 use Rattle.sysv_seats.specs.declared.returning.Fate.TheVariants as fate
+use Rattle.sysv_seats.specs.declared.returning.Fated.{Fated}
 use Rattle.sysv_seats.specs.declared.returning.Return.{Return}
 use Rattle.sysv_seats.specs.declared.returning.Return.TheVariants as come
 use Rattle.sysv_seats.specs.declared.returning.Returned.{Returned}
@@ -84,6 +85,23 @@ abbrev pub one_returned : Fate → Returned → Returned
 one_returned fate.Sent returns = record returns { sent = min (returns.sent + 1) (2 ^ 64 - 1) }
 one_returned fate.Discarded returns = record returns { gone = min (returns.gone + 1) (2 ^ 64 - 1) }
 one_returned fate.Refused returns = record returns { gone = min (returns.gone + 1) (2 ^ 64 - 1) }
+
+-- The numbers of each fate, with one message more.
+abbrev pub one_fated : Fate → Fated → Fated
+one_fated fate.Sent fated = record fated { sent = min (fated.sent + 1) (2 ^ 64 - 1) }
+one_fated fate.Discarded fated = record fated { discarded = min (fated.discarded + 1) (2 ^ 64 - 1) }
+one_fated fate.Refused fated = record fated { refused = min (fated.refused + 1) (2 ^ 64 - 1) }
+
+-- The same, and the wait of a return, once the return has come so far.
+abbrev pub fated_after : Fated → Return → Fated
+fated_after fated (come.Waits wait) = fated
+fated_after fated come.Nothing = fated
+fated_after fated (come.Over what) = one_fated what fated
+
+abbrev pub wait_in : Return → Option SendWait
+wait_in (come.Waits wait) = Some wait
+wait_in come.Nothing = None
+wait_in (come.Over what) = None
 
 -- The return of what was held with the pass `start` has come so far: it waits, or it is over, and nothing is
 -- held.

@@ -30,7 +30,7 @@ use Rattle.sysv_seats.specs.Parked.{GoesOn, IsParked, IsWaitOf}
 
 -- The pass of the handler, and the message that its session holds.
 abbrev pub holder_of : {C R : Type 0} {clock : ClockGhosts C} → Keeper C R clock → Holder Pass
-holder_of keeper = record { at = keeper.handler.pass; message = keeper.message }
+holder_of keeper = record { at = keeper.handler.pass; message = keeper.hand.message }
 
 -- Request by request, for a pass.
 abbrev pub HoldAsks : (ℕ → Type 0) → Type 0 → Version → Cred → Ask → List ℕ → Holder Pass → RequestOutcome → List ℕ →

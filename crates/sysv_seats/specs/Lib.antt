@@ -17,6 +17,7 @@ pub mod Sockets
 pub mod PacedStreams
 pub mod Holding
 pub mod Held
+pub mod Hand
 pub mod LettingIn
 pub mod Sits
 pub mod Said

@@ -7,9 +7,10 @@
 -- count. A get that makes an identifier settles it, or forgets it and fails: both raise the settled
 -- count. A get that waits has made no identifier. A queue that is removed raises the settled count
 -- too, as its identifier is forgotten.
-use Rattle.std.specs.Prelude.{◌≡◌, ◌++◌, ◌≤◌, ◌||◌, ℤ, Bool, true, false, not, List, [], ◌∷◌, length}
+use Rattle.std.specs.Prelude.{◌≡◌, ◌⊎◌, ◌++◌, ◌≤◌, ◌||◌, ℤ, Bool, true, false, not, List, [], ◌∷◌, length}
 use Rattle.std.specs.Prelude.{Option, None, Some, if◌then◌else◌, vec_capacity}
 use Rattle.std.specs.Ordering.{int_eq}
+use Rattle.std.specs.List.{Contains}
 use Rattle.std.specs.Option.{option_to_list}
 use Rattle.sysv_keys.specs.Identifier.{slot_of_id}
 use Rattle.sysv_model.specs.declared.flags.Flags.{Flags}
@@ -109,25 +110,35 @@ told_of ask (progress.Over outcome) = told_by ask outcome
 
 -- ---- the notifications of many calls
 
+-- The notifications that were kept. If there was no room for one, the last is that anything may have
+-- changed.
+abbrev pub with_missed : (missed : Bool) → List Notification → List Notification
+with_missed true kept = kept ++ notifications.Anything ∷ []
+with_missed false kept = kept
+
 -- The notifications, in the order in which they came.
 abbrev pub notifications_in : Tools → List Notification
-notifications_in tools = tools.notifications.items
+notifications_in tools = with_missed tools.missed tools.notifications.items
 
 -- What one call changed, as notifications.
 abbrev pub notifications_of : Told → List Notification
 notifications_of told = option_to_list told.there ++ ((if told.released then notifications.Released ∷ [] else [])
     ++ (if told.settled then notifications.Settled ∷ [] else []))
 
--- These come after the notifications that there were, if there is room for them. Nothing else changes.
+-- These come after the notifications that were kept, if there is room for them. In any case each of them, and
+-- each that there was, is there, or the last is that anything may have changed. Nothing else changes.
 abbrev pub Keeps : List Notification → Tools → Tools → Type 0
-Keeps more old new = (new ≡ record old { notifications = new.notifications })
+Keeps more old new = (new ≡ record old { notifications = new.notifications; missed = new.missed })
     × (vec_capacity new.notifications ≡ vec_capacity old.notifications)
-    × (length (notifications_in old ++ more) ≤ vec_capacity old.notifications →
-    notifications_in new ≡ notifications_in old ++ more)
+    × (length (old.notifications.items ++ more) ≤ vec_capacity old.notifications →
+    (new.notifications.items ≡ old.notifications.items ++ more) × (new.missed ≡ old.missed))
+    × ((notification : Notification) → Contains (notifications_in old ++ more) notification →
+    Contains (notifications_in new) notification ⊎ (new.missed ≡ true))
+    × (old.missed ≡ true → new.missed ≡ true)
 
 -- The last notification was removed, if there was one. Nothing else changes.
 abbrev pub TakesLast : Tools → Option Notification → Tools → Type 0
-TakesLast old taken new = (new ≡ record old { notifications = new.notifications })
+TakesLast old taken new = (new ≡ record old { notifications = new.notifications; missed = new.missed })
     × (vec_capacity new.notifications ≡ vec_capacity old.notifications)
     × (notifications_in old ≡ notifications_in new ++ option_to_list taken) × (taken ≡ None → notifications_in old ≡ [])
 

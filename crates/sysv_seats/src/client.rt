@@ -10,6 +10,7 @@ ghost use Rattle.sysv_seats.specs.Breaking.{MayBreak, MayEnd};
 ghost use Rattle.sysv_seats.specs.Callers.{includes};
 ghost use Rattle.sysv_seats.specs.Untold.{lets_in};
 ghost use Rattle.sysv_seats.specs.Limits.{has_limit};
+ghost use Rattle.sysv_seats.specs.Hand.{KeepsReturns};
 ghost use Rattle.sysv_seats.specs.HandlesKept.{KeepsHandles};
 ghost use Rattle.sysv_seats.specs.Notification.{Keeps as KeepsNotification, notifications_of, told_of};
 ghost use Rattle.sysv_wire.specs.declared.frame.Version.{Version as Known};
@@ -46,6 +47,9 @@ const MOST_UNSENT: usize = 65_536;
 /// The number of bytes above which the memory of an empty input is freed.
 const MOST_KEPT: usize = 1_024;
 
+/// The bits of a number modulo 2^32.
+const LOW_BITS: usize = 0xffff_ffff;
+
 /// One client on a connection, from the first byte of its session to the last.
 ///
 /// All that happens to it is an event: bytes may be there to be read (`note_readable`,
@@ -75,10 +79,10 @@ pub struct Client<T: NonBlocking> {
     has_left: bool,
     /// Whether the connection is of no use any more.
     is_broken: bool,
-    /// The number of requests that were taken up, including the hello, modulo 2^64.
-    requests: u64,
-    /// The number of bytes of replies that the connection has taken, modulo 2^64.
-    sent: u64,
+    /// The number of requests that were taken up, including the hello, modulo 2^32.
+    requests: u32,
+    /// The number of bytes of replies that the connection has taken, modulo 2^32.
+    sent: u32,
 }
 
 impl<T: NonBlocking> Model for Client<T> {
@@ -197,14 +201,19 @@ impl<T: NonBlocking> Client<T> {
         self.conversation.waiting_bytes()
     }
 
-    /// Returns the number of requests that were taken up, including the hello, modulo 2^64.
-    pub fn requests(&self) -> u64 {
+    /// Returns the number of requests that were taken up, including the hello, modulo 2^32.
+    pub fn requests(&self) -> u32 {
         self.requests
     }
 
-    /// Returns the number of bytes of replies that the connection has taken, modulo 2^64.
-    pub fn sent_bytes(&self) -> u64 {
+    /// Returns the number of bytes of replies that the connection has taken, modulo 2^32.
+    pub fn sent_bytes(&self) -> u32 {
         self.sent
+    }
+
+    /// Returns the number of bytes of replies that were gathered, modulo 2^32.
+    pub fn gathered_bytes(&self) -> u32 {
+        self.sent.wrapping_add(low_half(self.unsent_bytes()))
     }
 
     /// Returns whether bytes have arrived that were not taken up: the beginning of a request, whole
@@ -320,7 +329,7 @@ impl<T: NonBlocking> Client<T> {
         }
         match self.connection.drain(self.conversation.unsent()) {
             Drained::Took(count) => {
-                self.sent = self.sent.wrapping_add(count as u64);
+                self.sent = self.sent.wrapping_add(low_half(count));
                 self.conversation.sent(count);
             }
             Drained::NothingNow => {}
@@ -334,6 +343,7 @@ impl<T: NonBlocking> Client<T> {
         ensures keeps { KeepsWith T.incoming T.outgoing (lets_in T.closes) self.old
             (holder_of handler.old) self.new (holder_of handler.new) }
         ensures handles { KeepsHandles handler.old.handler handler.new.handler }
+        ensures beside { KeepsReturns handler.old.hand handler.new.hand }
         ensures breaks { T.closes.breaks self.new.connection
             ≡ T.closes.breaks self.old.connection }
         ensures said { KeepsAsSaid T.closes self.old self.new }
@@ -351,6 +361,7 @@ impl<T: NonBlocking> Client<T> {
         ensures keeps { KeepsWith T.incoming T.outgoing (lets_in T.closes) self.old
             (holder_of handler.old) self.new (holder_of handler.new) }
         ensures handles { KeepsHandles handler.old.handler handler.new.handler }
+        ensures beside { KeepsReturns handler.old.hand handler.new.hand }
         ensures breaks { T.closes.breaks self.new.connection
             ≡ T.closes.breaks self.old.connection }
         ensures said { KeepsAsSaid T.closes self.old self.new }
@@ -481,6 +492,7 @@ impl<T: NonBlocking> Client<T> {
         ensures keeps { KeepsWith T.incoming T.outgoing (lets_in T.closes) self.old
             (holder_of handler.old) self.new (holder_of handler.new) }
         ensures handles { KeepsHandles handler.old.handler handler.new.handler }
+        ensures beside { KeepsReturns handler.old.hand handler.new.hand }
         ensures breaks { T.closes.breaks self.new.connection
             ≡ T.closes.breaks self.old.connection }
         ensures said { KeepsAsSaid T.closes self.old self.new }
@@ -498,6 +510,7 @@ impl<T: NonBlocking> Client<T> {
         ensures keeps { KeepsWith T.incoming T.outgoing (lets_in T.closes) self.old
             (holder_of handler.old) self.new (holder_of handler.new) }
         ensures handles { KeepsHandles handler.old.handler handler.new.handler }
+        ensures beside { KeepsReturns handler.old.hand handler.new.hand }
         ensures breaks { T.closes.breaks self.new.connection
             ≡ T.closes.breaks self.old.connection }
         ensures said { KeepsAsSaid T.closes self.old self.new }
@@ -538,6 +551,7 @@ impl<T: NonBlocking> Client<T> {
         ensures keeps { KeepsWith T.incoming T.outgoing (lets_in T.closes) self.old
             (holder_of handler.old) self.new (holder_of handler.new) }
         ensures handles { KeepsHandles handler.old.handler handler.new.handler }
+        ensures beside { KeepsReturns handler.old.hand handler.new.hand }
         ensures breaks { T.closes.breaks self.new.connection
             ≡ T.closes.breaks self.old.connection }
         ensures said { KeepsAsSaid T.closes self.old self.new }
@@ -570,12 +584,13 @@ impl<T: NonBlocking> Client<T> {
         ensures keeps { KeepsWith T.incoming T.outgoing (lets_in T.closes) self.old
             (holder_of handler.old) self.new (holder_of handler.new) }
         ensures handles { KeepsHandles handler.old.handler handler.new.handler }
+        ensures beside { KeepsReturns handler.old.hand handler.new.hand }
         ensures breaks { T.closes.breaks self.new.connection
             ≡ T.closes.breaks self.old.connection }
         ensures said { KeepsAsSaid T.closes self.old self.new }
     {
         let (size, taken) = self.read_next(&mut tools.text);
-        self.requests = self.requests.wrapping_add(u64::from(taken.is_ok()));
+        self.requests = self.requests.wrapping_add(u32::from(taken.is_ok()));
         match taken {
             Ok(TakenUp::Hello(version)) => {
                 let is_let_in = self.lets_in();
@@ -676,6 +691,7 @@ impl<T: NonBlocking> Client<T> {
             Sits T.incoming T.outgoing (lets_in T.closes) newest start origin self.new
             (timed (holder_of handler.new) late) }
         ensures handles { KeepsHandles handler.old.handler handler.new.handler }
+        ensures beside { KeepsReturns handler.old.hand handler.new.hand }
         ensures breaks { T.closes.breaks self.new.connection
             ≡ T.closes.breaks self.old.connection }
         ensures said { self.old.stopped ≡ None → KeepsAsSaid T.closes self.old self.new }
@@ -768,6 +784,11 @@ impl<T: NonBlocking> Client<T> {
         }
         self.start = 0;
     }
+}
+
+/// Returns a number modulo 2^32.
+fn low_half(number: usize) -> u32 {
+    (number & LOW_BITS) as u32
 }
 
 /// Takes up what the input holds next, as `Conversation::take_up` does.

@@ -1,5 +1,5 @@
 //! The handler of sessions that may hold a message.
-ghost use Rattle.std.specs.Prelude.{◌≡◌, ◌≢◌, ◌≤◌, ℕ, List, [], None, IfSome, false, is_some, length, true, vec_capacity};
+ghost use Rattle.std.specs.Prelude.{◌≡◌, ◌≢◌, ◌≤◌, ℕ, List, [], None, IfSome, false, is_some, length, true};
 ghost use Rattle.sysv_model.specs.declared.limits.TheConstants.{MESSAGE_BYTES};
 ghost use Rattle.sysv_service.specs.Ran.{Pass as Seen};
 ghost use Rattle.sysv_service.specs.Seats.{AreOf};
@@ -10,19 +10,21 @@ ghost use Rattle.sysv_session.specs.Answers.{is_message};
 ghost use Rattle.sysv_seats.specs.Holding.{Holder, can_hold as may_hold, seconds_of};
 ghost use Rattle.sysv_seats.specs.Holding.{back_content as the_back_content, back_outcome as the_back_outcome};
 ghost use Rattle.sysv_seats.specs.Held.{AnyGoesOn, HoldBegun, HoldParked, HoldProgress, IsHoldWaitOf, Spends};
+ghost use Rattle.sysv_seats.specs.Hand.{HasRoom, KeepsReturns, empty_hand};
 ghost use Rattle.sysv_seats.specs.Held.{back_progress, held_after, held_at, hold_progress, holder_of};
 ghost use Rattle.sysv_seats.specs.GivingBack.{IsOfSend, made_by as the_made_by, waits_to_send};
 ghost use Rattle.sysv_seats.specs.Parked.{MayProgress};
 ghost use Rattle.sysv_seats.specs.Replies.{reply as the_reply};
 
+use crate::hand::{Hand, Room};
 use crate::handler::{ServiceHandler, reply};
 use crate::holding::HeldMessage;
-use crate::returning::{Returned, fate_after, send_wait};
+use crate::returning::{fate_after, send_wait};
 use crate::waiting::Waiting;
 use bitflags::Flags as _;
 use std::alloc::Global;
 use std::sync::Wait;
-use sysv_model::{Body, Cred, Errno, Flags, MESSAGE_BYTES};
+use sysv_model::{Body, Cred, Errno, Flags};
 use sysv_queue::{Delivery, Tally};
 use sysv_service::{Clock, Pass, Progress};
 use sysv_session::RequestOutcome;
@@ -35,28 +37,22 @@ use sysv_wire::{Ask, Op, ReplyContent, Request, Version};
 /// with a message is followed by its return.
 pub struct Keeper<'a, C: Clock, R: Wait> {
     pub(crate) handler: ServiceHandler<'a, C, R>,
-    /// The message that the session holds.
-    pub(crate) message: Option<HeldMessage>,
+    /// The message that the session holds, and what became of those before it.
+    pub(crate) hand: Hand,
     /// Memory for messages, if the session may hold one more.
     pub(crate) memory: Option<Global>,
-    /// The number of messages that were held, modulo 2^64.
-    pub(crate) taken: u64,
-    /// The numbers of messages that were given back since they were last asked for.
-    pub(crate) returns: Returned,
 }
 
 impl<'a, C: Clock, R: Wait> Keeper<'a, C, R> {
     /// Creates a keeper of no message, whose sessions may hold none.
     pub fn new(handler: ServiceHandler<'a, C, R>) -> Keeper<'a, C, R>
         ensures handler { result.handler ≡ handler.entry }
-        ensures none { result.message ≡ None }
+        ensures none { result.hand ≡ empty_hand }
     {
         Keeper {
             handler,
-            message: None,
+            hand: Hand::empty(),
             memory: None,
-            taken: 0,
-            returns: Returned::NONE,
         }
     }
 
@@ -67,37 +63,45 @@ impl<'a, C: Clock, R: Wait> Keeper<'a, C, R> {
     {
         let Keeper {
             handler,
-            message: _,
+            hand: _,
             memory: _,
-            taken: _,
-            returns: _,
         } = self;
         handler.into_pass()
     }
 
     /// Returns whether a message is held.
     pub fn has_message(&self) -> bool
-        ensures { result ≡ is_some self.now.message }
+        ensures { result ≡ is_some self.now.hand.message }
     {
-        self.message.is_some()
-    }
-
-    /// Returns the number of messages that were held so far, modulo 2^64.
-    pub fn taken(&self) -> u64
-        ensures { result ≡ self.now.taken }
-    {
-        self.taken
+        self.hand.message().is_some()
     }
 
     /// Returns for how many seconds the message that is held may be held, or 0 if there is no limit or
     /// nothing is held.
     pub fn seconds(&self) -> u32
-        ensures { result ≡ seconds_of self.now.message }
+        ensures { result ≡ seconds_of self.now.hand.message }
     {
-        match &self.message {
+        match self.hand.message() {
             Some(message) => message.seconds(),
             None => 0,
         }
+    }
+
+    /// Returns whether a message is held, and `set_due` was not called since.
+    pub fn is_untimed(&self) -> bool {
+        self.hand.is_untimed()
+    }
+
+    /// Keeps when the time of the message that is held is over: a number that `due` returns.
+    pub fn set_due(&mut self, due: Option<u64>)
+        ensures { self.new ≡ self.old }
+    {
+        self.hand.set_due(due);
+    }
+
+    /// Returns when the time of the message that is held is over, as `set_due` said.
+    pub fn due(&self) -> Option<u64> {
+        self.hand.due()
     }
 
     /// Returns the number of blocks in use, as `ServiceHandler::blocks_in_use` does.
@@ -107,7 +111,7 @@ impl<'a, C: Clock, R: Wait> Keeper<'a, C, R> {
 
     /// Has the session hold messages in this memory from now on, or no further message.
     pub fn set_memory(&mut self, memory: Option<Global>)
-        ensures { (self.new.handler ≡ self.old.handler) × (self.new.message ≡ self.old.message) }
+        ensures { (self.new.handler ≡ self.old.handler) × (self.new.hand ≡ self.old.hand) }
     {
         self.memory = memory;
     }
@@ -135,6 +139,7 @@ impl<'a, C: Clock, R: Wait> Keeper<'a, C, R> {
             request.now.ask text.now (holder_of self.old) result given.new (holder_of self.new) }
         ensures answer { HoldProgress request.now.version request.now.ask result given.new }
         ensures handles { KeepsHandles self.old.handler self.new.handler }
+        ensures beside { KeepsReturns self.old.hand self.new.hand }
     {
         match request.ask {
             Ask::Hold {
@@ -178,6 +183,7 @@ impl<'a, C: Clock, R: Wait> Keeper<'a, C, R> {
         ensures answer { HoldProgress version (Ask.Hold id size mtype flags seconds) result
             given.new }
         ensures handles { KeepsHandles self.old.handler self.new.handler }
+        ensures beside { KeepsReturns self.old.hand self.new.hand }
         // Without memory nothing is taken.
         ensures none { self.old.memory ≡ None → holder_of self.new ≡ holder_of self.old }
     {
@@ -209,8 +215,9 @@ impl<'a, C: Clock, R: Wait> Keeper<'a, C, R> {
             version cred Ask.Back text (holder_of self.old) result given.new (holder_of self.new) }
         ensures answer { HoldProgress version Ask.Back result given.new }
         ensures handles { KeepsHandles self.old.handler self.new.handler }
+        ensures beside { KeepsReturns self.old.hand self.new.hand }
     {
-        let Some(message) = &self.message else {
+        let Some(message) = self.hand.message() else {
             return Progress::Over(refusal(version, Op::Back, Errno::EINVAL));
         };
         let (cred, id, mtype) = (message.cred(), message.id(), message.mtype());
@@ -251,6 +258,7 @@ impl<'a, C: Clock, R: Wait> Keeper<'a, C, R> {
             (holder_of self.new) }
         ensures answer { HoldProgress request.now.version request.now.ask result given.new }
         ensures handles { KeepsHandles self.old.handler self.new.handler }
+        ensures beside { KeepsReturns self.old.hand self.new.hand }
     {
         match request.ask {
             Ask::Hold {
@@ -305,6 +313,7 @@ impl<'a, C: Clock, R: Wait> Keeper<'a, C, R> {
         ensures answer { HoldProgress version (Ask.Hold id size mtype flags seconds) result
             given.new }
         ensures handles { KeepsHandles self.old.handler self.new.handler }
+        ensures beside { KeepsReturns self.old.hand self.new.hand }
     {
         let Some(memory) = self.room() else {
             return Progress::Waits(waiting);
@@ -333,8 +342,9 @@ impl<'a, C: Clock, R: Wait> Keeper<'a, C, R> {
             (holder_of self.old) result given.new (holder_of self.new) }
         ensures answer { HoldProgress version Ask.Back result given.new }
         ensures handles { KeepsHandles self.old.handler self.new.handler }
+        ensures beside { KeepsReturns self.old.hand self.new.hand }
     {
-        let Some(message) = &self.message else {
+        let Some(message) = self.hand.message() else {
             return Progress::Waits(waiting);
         };
         message.recall(given);
@@ -353,14 +363,15 @@ impl<'a, C: Clock, R: Wait> Keeper<'a, C, R> {
     ) -> Progress<Waiting, RequestOutcome>
         requires { IsOfSend came }
         ensures progress { result ≡ back_progress version came }
-        ensures message { self.new.message ≡ held_after self.old.message came }
+        ensures message { self.new.hand.message ≡ held_after self.old.hand.message came }
         ensures handler { self.new.handler ≡ self.old.handler }
+        ensures beside { KeepsReturns self.old.hand self.new.hand }
     {
         match came {
             Progress::Waits(waiting) => Progress::Waits(waiting),
             Progress::Over(outcome) => {
-                self.message = None;
-                self.returns.count(fate_after(&outcome));
+                self.hand.clear();
+                self.hand.count_return(fate_after(&outcome));
                 Progress::Over(back_outcome(version, outcome))
             }
         }
@@ -376,23 +387,24 @@ impl<'a, C: Clock, R: Wait> Keeper<'a, C, R> {
         seconds: u32,
         came: Progress<Waiting, RequestOutcome>,
         given: &Body,
-        memory: Vec<u8>,
+        memory: Room,
     ) -> Progress<Waiting, RequestOutcome>
-        requires empty { memory.items ≡ [] }
-        requires room { MESSAGE_BYTES ≤ vec_capacity memory }
+        requires room { HasRoom self.old.hand memory }
         requires short { length given.now ≤ MESSAGE_BYTES }
-        requires none { self.old.message ≡ None }
+        requires none { self.old.hand.message ≡ None }
         ensures progress { result ≡ hold_progress version came }
-        ensures message { self.new.message ≡ held_at cred id seconds came given.now }
+        ensures message { self.new.hand.message ≡ held_at cred id seconds came given.now }
         ensures handler { self.new.handler ≡ self.old.handler }
+        ensures beside { KeepsReturns self.old.hand self.new.hand }
     {
         match came {
             Progress::Waits(waiting) => Progress::Waits(waiting),
             Progress::Over(RequestOutcome::Got(delivery)) => {
                 let mtype = delivery.mtype();
                 spend(delivery);
-                self.taken = self.taken.wrapping_add(1);
-                self.message = Some(HeldMessage::new(cred, id, mtype, seconds, given, memory));
+                let Room { body, kept } = memory;
+                let message = HeldMessage::new(cred, id, mtype, seconds, given, body);
+                self.hand.put(message, kept);
                 Progress::Over(reply(version, Op::Hold, ReplyContent::Hold { mtype }))
             }
             Progress::Over(RequestOutcome::Reply(told)) => {
@@ -405,9 +417,9 @@ impl<'a, C: Clock, R: Wait> Keeper<'a, C, R> {
     /// Returns the request whose call a request makes, if it is another one: for a back, the send of
     /// the message that is held.
     pub(crate) fn made_by(&self, ask: Ask) -> Ask
-        ensures { result ≡ the_made_by self.now.message ask }
+        ensures { result ≡ the_made_by self.now.hand.message ask }
     {
-        match (ask, &self.message) {
+        match (ask, self.hand.message()) {
             (Ask::Back, Some(message)) => message.send().ask,
             _ => ask,
         }
@@ -418,8 +430,9 @@ impl<'a, C: Clock, R: Wait> Keeper<'a, C, R> {
         ensures spends { Spends version (holder_of self.old) result [] (holder_of self.new) }
         ensures answer { MayAnswer version Ask.Done result [] }
         ensures handler { self.new.handler ≡ self.old.handler }
+        ensures beside { KeepsReturns self.old.hand self.new.hand }
     {
-        match self.message.take() {
+        match self.hand.take() {
             Some(_spent) => reply(version, Op::Done, ReplyContent::Done),
             None => refusal(version, Op::Done, Errno::EINVAL),
         }
@@ -427,22 +440,21 @@ impl<'a, C: Clock, R: Wait> Keeper<'a, C, R> {
 
     /// Returns whether the session may hold a message that it receives with these flags.
     fn can_hold(&self, flags: Flags) -> bool
-        ensures { result ≡ may_hold flags self.now.message }
+        ensures { result ≡ may_hold flags self.now.hand.message }
     {
-        !flags.contains(Flags::MSG_NOERROR) && self.message.is_none()
+        !flags.contains(Flags::MSG_NOERROR) && self.hand.message().is_none()
     }
 
     /// Returns memory for a message, or `None` if one is held or memory is refused.
-    fn room(&self) -> Option<Vec<u8>>
-        ensures room { IfSome result (λ memory. (memory.items ≡ [])
-            × (MESSAGE_BYTES ≤ vec_capacity memory)) }
-        ensures free { IfSome result (λ _. self.now.message ≡ None) }
+    fn room(&self) -> Option<Room>
+        ensures room { IfSome result (HasRoom self.now.hand) }
+        ensures free { IfSome result (λ _. self.now.hand.message ≡ None) }
         ensures none { self.now.memory ≡ None → result ≡ None }
     {
-        if self.message.is_some() {
+        if self.hand.message().is_some() {
             return None;
         }
-        Vec::with_capacity(self.memory?, MESSAGE_BYTES).ok()
+        self.hand.room(self.memory?)
     }
 }
 

@@ -36,6 +36,8 @@ pub enum Notification {
     },
     /// The registry recorded that a queue was installed, or forgot an identifier.
     Settled,
+    /// Anything: there was no room for what has changed.
+    Anything,
 }
 
 /// What one call may have changed: at most three things.

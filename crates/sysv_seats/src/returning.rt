@@ -1,7 +1,8 @@
 //! Messages that are given back, and what became of them.
-ghost use Rattle.std.specs.Prelude.{◌≡◌, false, true};
+ghost use Rattle.std.specs.Prelude.{◌≡◌, None, false, is_some, true};
 ghost use Rattle.sysv_session.specs.Answers.{is_message};
 ghost use Rattle.sysv_seats.specs.GivingBack.{GoesBack, GoesBackOn, IsOfSend, fate_of, held_length, one_returned, return_by, waits_to_send};
+ghost use Rattle.sysv_seats.specs.GivingBack.{fated_after, one_fated, wait_in};
 ghost use Rattle.sysv_seats.specs.HandlesKept.{KeepsHandles};
 ghost use Rattle.sysv_seats.specs.Held.{held_after, holder_of};
 
@@ -38,6 +39,38 @@ pub enum Return {
     Over(Fate),
 }
 
+/// What became of messages that were given back: the numbers of each fate. A number stays at its
+/// maximum once it has reached it.
+#[derive(Clone, Copy, PartialEq, Eq, Debug)]
+pub struct Fated {
+    /// Those that were sent again.
+    pub sent: u64,
+    /// Those that were discarded with their queue.
+    pub discarded: u64,
+    /// Those whose send was refused for another reason.
+    pub refused: u64,
+}
+
+impl Fated {
+    /// No messages.
+    pub const NONE: Fated = Fated {
+        sent: 0,
+        discarded: 0,
+        refused: 0,
+    };
+
+    /// Counts one more message.
+    pub(crate) fn count(&mut self, fate: Fate)
+        ensures { self.new ≡ one_fated fate self.old }
+    {
+        match fate {
+            Fate::Sent => self.sent = self.sent.saturating_add(1),
+            Fate::Discarded => self.discarded = self.discarded.saturating_add(1),
+            Fate::Refused => self.refused = self.refused.saturating_add(1),
+        }
+    }
+}
+
 /// The numbers of messages that were held and were given back.
 #[derive(Clone, Copy, PartialEq, Eq, Debug)]
 pub struct Returned {
@@ -67,9 +100,12 @@ impl<'a, R: Wait> Keeper<'a, Zero, R> {
     /// and with the credentials of its session. Once that send is over, nothing is held.
     pub fn give_back(&mut self, tools: &mut Tools) -> Return
         ensures goes { GoesBack (holder_of self.old) result (holder_of self.new) }
+        ensures waits { self.new.hand.returning ≡ wait_in result }
+        ensures fated { self.new.hand.fated ≡ fated_after self.old.hand.fated result }
         ensures handles { KeepsHandles self.old.handler self.new.handler }
     {
-        let Some(message) = &self.message else {
+        let Some(message) = self.hand.message() else {
+            self.hand.leave();
             return Return::Nothing;
         };
         let (cred, request) = (message.cred(), message.send());
@@ -87,9 +123,12 @@ impl<'a, R: Wait> Keeper<'a, Zero, R> {
     /// back.
     pub fn give_back_on(&mut self, wait: SendWait, tools: &mut Tools) -> Return
         ensures goes { GoesBackOn (holder_of self.old) wait result (holder_of self.new) }
+        ensures waits { self.new.hand.returning ≡ wait_in result }
+        ensures fated { self.new.hand.fated ≡ fated_after self.old.hand.fated result }
         ensures handles { KeepsHandles self.old.handler self.new.handler }
     {
-        let Some(message) = &self.message else {
+        let Some(message) = self.hand.message() else {
+            self.hand.leave();
             return Return::Nothing;
         };
         let request = message.send();
@@ -102,23 +141,42 @@ impl<'a, R: Wait> Keeper<'a, Zero, R> {
         self.settle_return(&request, progress, tools)
     }
 
+    /// Returns the wait of the send that gives back the message, if it waits.
+    pub fn returning(&self) -> Option<SendWait>
+        ensures { result ≡ self.now.hand.returning }
+    {
+        self.hand.returning()
+    }
+
+    /// Leaves that send. The message is still held.
+    pub fn leave_return(&mut self)
+        ensures handler { self.new.handler ≡ self.old.handler }
+        ensures hand { self.new.hand ≡ record self.old.hand { returning = None } }
+    {
+        self.hand.leave();
+    }
+
+    /// Returns what became of the messages that `give_back` and `give_back_on` gave back.
+    pub fn fated(&self) -> Fated
+        ensures { result ≡ self.now.hand.fated }
+    {
+        self.hand.fated()
+    }
+
     /// Returns the numbers of messages that were given back since this was last asked.
     pub fn take_returns(&mut self) -> Returned
-        ensures told { result ≡ self.old.returns }
-        ensures none { self.new.returns ≡ Returned.NONE }
-        ensures same { (self.new.handler ≡ self.old.handler)
-            × (self.new.message ≡ self.old.message) }
+        ensures told { result ≡ self.old.hand.returns }
+        ensures handler { self.new.handler ≡ self.old.handler }
+        ensures hand { self.new.hand ≡ record self.old.hand { returns = Returned.NONE } }
     {
-        let returns = self.returns;
-        self.returns = Returned::NONE;
-        returns
+        self.hand.take_returns()
     }
 
     /// Returns the number of bytes in the frame of a send of the message that is held, or 0.
     pub fn return_length(&self) -> usize
-        ensures { result ≡ held_length self.now.message }
+        ensures { result ≡ held_length self.now.hand.message }
     {
-        match &self.message {
+        match self.hand.message() {
             Some(message) => message.length(),
             None => 0,
         }
@@ -131,9 +189,12 @@ impl<'a, R: Wait> Keeper<'a, Zero, R> {
         progress: Progress<Waiting, RequestOutcome>,
         tools: &mut Tools,
     ) -> Return
-        requires { IsOfSend progress }
+        requires sends { IsOfSend progress }
+        requires held { is_some self.old.hand.message ≡ true }
         ensures came { result ≡ return_by progress }
-        ensures message { self.new.message ≡ held_after self.old.message progress }
+        ensures message { self.new.hand.message ≡ held_after self.old.hand.message progress }
+        ensures waits { self.new.hand.returning ≡ wait_in result }
+        ensures fated { self.new.hand.fated ≡ fated_after self.old.hand.fated result }
         ensures handler { self.new.handler ≡ self.old.handler }
     {
         match progress {
@@ -141,13 +202,14 @@ impl<'a, R: Wait> Keeper<'a, Zero, R> {
                 tools.tell(Told::by_end(&request.ask, &outcome));
                 let fate = fate_after(&outcome);
                 drop_outcome(outcome);
-                self.message = None;
-                self.returns.count(fate);
+                self.hand.give_up(fate);
                 Return::Over(fate)
             }
             Progress::Waits(waiting) => {
                 tools.tell(Told::by_wait(&waiting));
-                Return::Waits(send_wait(waiting))
+                let wait = send_wait(waiting);
+                self.hand.wait(wait);
+                Return::Waits(wait)
             }
         }
     }

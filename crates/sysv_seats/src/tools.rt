@@ -31,6 +31,8 @@ pub struct Tools {
     pub(crate) text: Body,
     pub(crate) given: Body,
     pub(crate) notifications: Vec<Notification>,
+    /// Whether there was no room for a notification since this was last told.
+    pub(crate) missed: bool,
     /// The number of places that hold a message or whose client waits for one, and the maximum.
     holding: usize,
     most_holding: usize,
@@ -62,6 +64,7 @@ impl Tools {
             text,
             given,
             notifications,
+            missed: false,
             holding: 0,
             most_holding: 0,
             held: 0,
@@ -106,16 +109,28 @@ impl Tools {
     }
 
     /// Removes the last of the things that calls may have changed since the tools were opened, and
-    /// returns it.
+    /// returns it. If there was no room for one, the last is that anything may have changed.
     pub fn take_notification(&mut self) -> Option<Notification>
         ensures { TakesLast self.old result self.new }
     {
+        if self.missed {
+            self.missed = false;
+            return Some(Notification::Anything);
+        }
         self.notifications.pop()
     }
 
     /// Returns whether a message of this type was taken since the notifications were taken.
+    #[tactic(auto, using(crate::proofs::Keeping::taken_among))]
     pub fn has_taken(&self, taken: i64) -> bool
         ensures { result ≡ list_any (is_taken taken) (notifications_in self.now) }
+    {
+        self.keeps_taken(taken)
+    }
+
+    /// Returns whether it is among the notifications that a message of this type was taken.
+    fn keeps_taken(&self, taken: i64) -> bool
+        ensures { result ≡ list_any (is_taken taken) self.now.notifications.items }
     {
         self.notifications.iter().any(
             |it| matches!(it, Notification::Freed { mtype, .. } if *mtype == taken),
@@ -132,30 +147,37 @@ impl Tools {
     }
 
     /// Keeps this, if there is something.
+    #[tactic(auto, using(crate::proofs::Keeping::keeps_none))]
     fn keep_some(&mut self, notification: Option<Notification>)
         ensures { Keeps (option_to_list notification) self.old self.new }
     {
-        if let Some(notification) = notification {
-            self.keep(notification);
-        }
+        let Some(notification) = notification else {
+            return;
+        };
+        self.keep(notification);
     }
 
     /// Keeps this if the condition holds.
+    #[tactic(auto, using(crate::proofs::Keeping::keeps_none))]
     fn keep_if(&mut self, holds: bool, notification: Notification)
         ensures { Keeps (if holds then notification ∷ [] else []) self.old self.new }
     {
-        if holds {
-            self.keep(notification);
+        if !holds {
+            return;
         }
+        self.keep(notification);
     }
 
-    /// Keeps one more thing, if there is room.
+    /// Keeps one more thing. If there is no room, it keeps that anything may have changed.
+    #[tactic(auto, using(crate::proofs::Keeping::keeps_missed, crate::proofs::Keeping::keeps_one))]
     fn keep(&mut self, notification: Notification)
         ensures { Keeps (notification ∷ []) self.old self.new }
     {
-        if self.notifications.len() < self.notifications.capacity() {
-            self.notifications.push_reserved(notification);
+        if self.notifications.len() >= self.notifications.capacity() {
+            self.missed = true;
+            return;
         }
+        self.notifications.push_reserved(notification);
     }
 }
 

@@ -334,6 +334,7 @@ module _ {L I H : Type 0} (told : L → Option (List SocketStream)) (listens : L
       held = all.held;
       removed = refl;
       closed = all.closed;
+      queued = all.queued;
     };
     accepted = all_tell all.given s s' all.gave;
     came = all_came all.given s s' all.gave;

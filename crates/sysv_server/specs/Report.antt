@@ -33,6 +33,7 @@ numbers_of counted admission =
     ∷ counted.held
     ∷ counted.sent_back
     ∷ counted.gone
+    ∷ counted.unwatched
     ∷ []
 
 -- These are the numbers of a server with this maximum of sessions at once, by these totals of its workers.

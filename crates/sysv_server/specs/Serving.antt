@@ -9,6 +9,7 @@ use Rattle.std.specs.List.Sorted.{IsPermutation}
 use Rattle.sysv_bank.specs.Banks.{Each2}
 use Rattle.sysv_service.specs.Opened.{AreOpen}
 use Rattle.sysv_service.specs.Seats.{AreOf, Gates}
+use Rattle.sysv_service.specs.Stopped.{messages_in}
 use Rattle.sysv_model.specs.declared.errno.Errno.{Errno}
 use Rattle.sysv_seats.specs.declared.limits.Limits.{Limits}
 use Rattle.sysv_seats.specs.Limits.{limits_for}
@@ -86,7 +87,7 @@ pub record ServesPlainly (blocks places most : ℕ) (sums : Sums) : Type 0 where
   pub versions : AllByRecursion (λ (shift : Shift). shift.newest ≡ newest_of false) served.shifts
 
 -- A server served the connections of a listener, and then removed the queues that were left. It
--- returns what its stop and its close told.
+-- returns what its stop and its close told, and the number of messages that were still in these queues.
 pub record EndsOn (shows : Bool) (blocks places most : ℕ) (limits : Limits) (ended : Ended) : Type 0 where
   pub served : ServesOn shows blocks places most limits ended.sums
   pub refused : ended.refused ≡ refused_of (told_in served.shifts)
@@ -96,6 +97,7 @@ pub record EndsOn (shows : Bool) (blocks places most : ℕ) (limits : Limits) (e
   pub held : ended.fates ≡ fates_of (backs_in served.shifts)
   pub removed : ended.removed ≡ served.removed
   pub closed : ended.closed ≡ served.lived.closed
+  pub queued : ended.queued ≡ messages_in served.lived.stopped.stops
 
 -- A server on a listener with this number of places. Each place had one session on each of its sockets,
 -- in order. `Ran` is so of the gates and of the shifts.

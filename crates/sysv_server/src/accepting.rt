@@ -68,8 +68,8 @@ pub(crate) struct Accepting<'a, L, I: Drop, H> {
     accepted: u64,
     /// Why the source has ended, if it has.
     reason: Option<Reason>,
-    /// Whether the host has learned that the memory of a session was refused.
-    told: bool,
+    /// What the host has learned of the workers.
+    told: Told,
     /// Where the state of the server is shown.
     desk: Desk,
     /// The number of blocks in the pool.
@@ -120,7 +120,7 @@ impl<'a, L: Listens, I: Input + Drop, H: Host> Accepting<'a, L, I, H> {
             most,
             accepted: 0,
             reason: None,
-            told: false,
+            told: Told::NOTHING,
             desk: Desk::closed(),
             blocks,
             stats,
@@ -445,6 +445,23 @@ impl<L: Listens, I: Input + Drop, H: Host> Arrivals<SocketStream> for Accepting<
     }
 }
 
+/// What the host of a server has learned of its workers.
+#[derive(Clone, Copy)]
+struct Told {
+    /// The memory of a session was refused.
+    no_memory: bool,
+    /// A client was cut off, since the system refused to report its events.
+    unwatched: bool,
+}
+
+impl Told {
+    /// It has learned nothing.
+    const NOTHING: Told = Told {
+        no_memory: false,
+        unwatched: false,
+    };
+}
+
 /// What is known of an open listener, and of the connections that came through it.
 #[derive(Drop)]
 struct Acceptor<'v, 'h, H> {
@@ -473,7 +490,7 @@ impl<H: Host> Acceptor<'_, '_, H> {
     fn accept_next<L: Listens, I: Input, R: Wait>(
         &self,
         listener: &mut L,
-        told: &mut bool,
+        told: &mut Told,
         input: &mut Option<I>,
         goes_on: &mut bool,
         desk: &mut Desk,
@@ -532,19 +549,16 @@ impl<H: Host> Acceptor<'_, '_, H> {
 
     /// Waits until the input, whose descriptor is given, can be read, until something happens at
     /// the desk, or until there is a connection and room for its client. It may return early. Tells the
-    /// host of the first session whose memory was refused.
+    /// host what it has not learned yet of the workers.
     fn wait<L: Listens>(
         &self,
         listener: &L,
-        told: &mut bool,
+        told: &mut Told,
         input: Watched,
         desk: &Desk,
     ) -> Arrived {
+        self.tell(told);
         let server = self.view.server;
-        if server.is_starved() && !*told {
-            self.host.note(Notice::NoMemory);
-            *told = true;
-        }
         let mut listeners = Several::none();
         if self.watch(listener, &mut listeners) {
             return self.arrived(input, &listeners, desk);
@@ -555,6 +569,20 @@ impl<H: Host> Acceptor<'_, '_, H> {
         let arrived = self.arrived(input, &listeners, desk);
         server.await_turn(false);
         arrived
+    }
+
+    /// Tells the host of the first session whose memory was refused, and of the first client that was cut
+    /// off since the system refused to report its events.
+    fn tell(&self, told: &mut Told) {
+        let server = self.view.server;
+        if server.is_starved() && !told.no_memory {
+            self.host.note(Notice::NoMemory);
+            told.no_memory = true;
+        }
+        if server.has_missed() && !told.unwatched {
+            self.host.note(Notice::Unwatched);
+            told.unwatched = true;
+        }
     }
 
     /// Adds what can be read when a client waits to be accepted for which there is room. Returns whether

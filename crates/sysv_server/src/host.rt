@@ -60,6 +60,9 @@ pub enum Notice {
     Lost(usize, io::Error),
     /// The memory of a session was refused. It is told of the first such session alone.
     NoMemory,
+    /// A client was cut off, since the system refused to report its events. It is told of the first such
+    /// client alone.
+    Unwatched,
     /// The time for an orderly end is over, and the sessions that are left are cut off.
     Cut,
     /// There is no further last session: its socket could not be opened, or no client has connected

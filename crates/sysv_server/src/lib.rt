@@ -6,6 +6,7 @@ mod accepting;
 mod desk;
 mod doors;
 mod host;
+mod laws;
 mod listening;
 mod report;
 mod serving;
@@ -14,6 +15,7 @@ mod visitor;
 
 pub use doors::Doors;
 pub use host::{Host, Notice, Reason};
+pub use laws::each_connection_is_let_in;
 pub use listening::{Hosted, Input, Listens, Reading, Shown};
 pub use serving::{MAX_CLIENTS, serve_from, serve_listener, serve_on};
 pub use sysv_engine::{Ended, Fates, Patience, ServeFault, Sums};

@@ -33,7 +33,7 @@ enum Kind {
 type Metric = (&'static str, &'static str, Kind, &'static str);
 
 /// The numbers of a server, in the order of `numbers`.
-const OF_SERVER: [Metric; 17] = [
+const OF_SERVER: [Metric; 18] = [
     (
         "start_time_seconds",
         "sysvmsg_start_time_seconds",
@@ -135,6 +135,12 @@ const OF_SERVER: [Metric; 17] = [
         "sysvmsg_messages_gone_total",
         Kind::Counter,
         "Messages that were held and could not go back, as their queue was removed or refused them.",
+    ),
+    (
+        "unwatched_total",
+        "sysvmsg_sessions_unwatched_total",
+        Kind::Counter,
+        "Sessions that were cut off, as the system refused to report events of their clients.",
     ),
 ];
 
@@ -446,6 +452,7 @@ fn numbers(counted: &Counted, admission: &Admission) -> [u64; OF_SERVER.len()]
         held,
         sent_back,
         gone,
+        unwatched,
     } = *counted;
     let Admission {
         blocks,
@@ -471,6 +478,7 @@ fn numbers(counted: &Counted, admission: &Admission) -> [u64; OF_SERVER.len()]
         held,
         sent_back,
         gone,
+        unwatched,
     ]
 }
 

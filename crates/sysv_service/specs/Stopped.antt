@@ -1,6 +1,6 @@
 -- What a stop does: at each slot in order it reads the row, and removes the queue that it finds.
 -- This project's profile.
-use Rattle.std.specs.Prelude.{◌≡◌, ℕ, suc, ◌+◌, ◌||◌, Bool, true, false, Some, None, Result, Ok, Err}
+use Rattle.std.specs.Prelude.{◌≡◌, ℕ, suc, ◌+◌, ◌||◌, Bool, true, false, Option, Some, None, Result, Ok, Err}
 use Rattle.sysv_model.specs.declared.attributes.Row.{Row}
 use Rattle.sysv_model.specs.declared.cred.Cred.{Cred}
 use Rattle.sysv_model.specs.declared.errno.Errno.{Errno}
@@ -44,16 +44,49 @@ pub data Stops (old : Pass) : ℕ → ℕ → Bool → Pass → Type 0 where
       Stops old slot removed worn mid → StopsAt slot mid here found new →
       Stops old (suc slot) (removed + here) (worn || found) new
 
--- What the code returns for one slot, as a number of queues removed.
-abbrev pub count_of : Result Bool Errno → ℕ
-count_of (Ok true) = 1
-count_of (Ok false) = 0
+-- The number of messages that the row of a queue states which a removal with this ending has removed.
+abbrev pub messages_by : Row → Ending → ℕ
+messages_by row Zero = row.qnum
+messages_by row ending = 0
+
+-- The number of messages that the row of the queue states which was removed at a slot, or 0.
+abbrev pub messages_at : {slot : ℕ} {before : Pass} {here : ℕ} {found : Bool} {after : Pass} →
+    StopsAt slot before here found after → ℕ
+messages_at (is_vacant after tells) = 0
+messages_at (is_worn after tells) = 0
+messages_at (tries row mid ending after tells came) = messages_by row ending
+
+-- The number of messages that the rows of the queues state which a stop has removed.
+abbrev pub messages_in : {old : Pass} {slots removed : ℕ} {worn : Bool} {new : Pass} →
+    Stops old slots removed worn new → ℕ
+messages_in begins = 0
+messages_in (goes_on here found new run at) = messages_in run + messages_at at
+
+-- The slots below a number, and the number of messages in the queues that were removed there.
+pub record StopsSo (old : Pass) (slots removed : ℕ) (worn : Bool) (messages : ℕ) (new : Pass) : Type 0 where
+  pub run : Stops old slots removed worn new
+  pub counted : messages ≡ messages_in run
+
+-- What the code returns for one slot, as a number of queues removed, and as a number of messages in them.
+abbrev pub count_of : Result (Option ℕ) Errno → ℕ
+count_of (Ok (Some messages)) = 1
+count_of (Ok None) = 0
 count_of (Err why) = 0
 
+abbrev pub messages_of : Result (Option ℕ) Errno → ℕ
+messages_of (Ok (Some messages)) = messages
+messages_of (Ok None) = 0
+messages_of (Err why) = 0
+
 -- Whether the code returns an error for one slot.
-abbrev pub is_refused : Result Bool Errno → Bool
-is_refused (Ok done) = false
+abbrev pub is_refused : Result (Option ℕ) Errno → Bool
+is_refused (Ok found) = false
 is_refused (Err why) = true
+
+-- What was done at one slot is what the code returns for it.
+abbrev pub StopsSlot : ℕ → Pass → Result (Option ℕ) Errno → Pass → Type 0
+StopsSlot slot before result after =
+    (at : StopsAt slot before (count_of result) (is_refused result) after) × (messages_at at ≡ messages_of result)
 
 -- The number of queues removed is returned, unless the gate of a slot was found worn out. Then
 -- EOVERFLOW is returned.

@@ -55,6 +55,7 @@ pub use seat_laws::{
 pub use seats::Seats;
 pub use service::Service;
 pub use shared_count::SharedCount;
+pub use stopping::Stop;
 
 // The types that the signatures use.
 pub use sysv_model::{Body, Cred, Errno, Flags, NoMemory, Perm, Row, SetTo, Stat};

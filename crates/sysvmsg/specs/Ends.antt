@@ -6,7 +6,9 @@ use Rattle.std.specs.declared.process.ExitCode.{ExitCode}
 use Rattle.std.specs.Fmt.{decimal}
 use Rattle.std.specs.Io.KnownBytes.{Appends}
 use Rattle.sysv_connect.specs.Ends.{Succeeds}
+use Rattle.sysv_seats.specs.declared.callers.Callers.{Callers}
 use Rattle.sysv_seats.specs.declared.socket_stream.SocketStream.{SocketStream}
+use Rattle.sysv_server.specs.LetIn.{EachLetsInOneOf}
 use Rattle.sysv_server.specs.Serving.{EndsFrom, EndsOn, FailsFrom, FailsOn, HasCause, HasReason, limits_in, looks_in}
 use Rattle.sysv_engine.specs.declared.fates.Fates.{Fates}
 use Rattle.sysv_engine.specs.declared.fault.ServeFault.{ServeFault}
@@ -37,12 +39,22 @@ abbrev pub rest_of : (holds : Bool) → Fates → List ℕ
 rest_of false fates = 10 ∷ []
 rest_of true fates = fates_of fates
 
+-- The same, after the number of messages that were still queued at the end.
+abbrev pub queued_of : ℕ → List ℕ → List ℕ
+queued_of queued rest = codes " queued " ++ decimal queued ++ rest
+
+-- What follows the sums of a server without an input. If sessions might not hold messages, the line ends there.
+abbrev pub plain_of : (holds : Bool) → ℕ → Fates → List ℕ
+plain_of false queued fates = 10 ∷ []
+plain_of true queued fates = queued_of queued (fates_of fates)
+
 -- The line with the sums of a server. That of a server that may have an input also has the number of
 -- calls that its end cut off.
 abbrev pub sums_line : (has_input : Bool) → Ended → List ℕ
-sums_line false ended = line_of ended.sums (rest_of ended.setting.holds ended.fates)
+sums_line false ended = line_of ended.sums (plain_of ended.setting.holds ended.queued ended.fates)
 sums_line true ended =
-    line_of ended.sums (codes " cut " ++ decimal ended.cut ++ rest_of ended.setting.holds ended.fates)
+    line_of ended.sums
+    (codes " cut " ++ decimal ended.cut ++ queued_of ended.queued (rest_of ended.setting.holds ended.fates))
 
 -- What is printed of a server that did not serve to its end. A thread that cannot be started lacks memory
 -- or is one too many.
@@ -72,11 +84,12 @@ HasServed has_input ended reason shown after =
 abbrev pub places_of : Option ℕ → Terms → ℕ
 places_of limit terms = places_within limit terms.stats terms.workers terms.sockets terms.at_once
 
--- A server on these terms ended so, under this limit of open files. It cut off clients only under the
--- limits that the terms have.
-abbrev pub EndsWithin : Option ℕ → Terms → Ended → Type 0
-EndsWithin limit terms ended =
-    EndsOn (looks_in terms) terms.blocks (places_of limit terms) terms.sessions (limits_in terms) ended
+-- A server on these terms ended so, under this limit of open files, with sockets that let in these callers. It cut
+-- off clients only under the limits that the terms have. Each connection on which a session was lets in the callers
+-- of one of the sockets.
+pub record EndsWithin (limit : Option ℕ) (terms : Terms) (callers : List Callers) (ended : Ended) : Type 0 where
+  pub ends : EndsOn (looks_in terms) terms.blocks (places_of limit terms) terms.sessions (limits_in terms) ended
+  pub let_in : EachLetsInOneOf callers ends.served.accepted
 
 -- A server on these terms ended by this fault, under this limit of open files.
 abbrev pub FailsWithin : Option ℕ → Terms → ServeFault → Type 0
@@ -98,12 +111,12 @@ abbrev pub Reports : ExitCode → (has_input : Bool) → Outcome → (shown afte
 Reports exit has_input outcome shown after =
     Succeeds exit → IsOkAnd outcome.ended (λ ended. HasServed has_input ended outcome.reason shown after)
 
--- A server that may have an input served on these terms, under this limit of open files, whatever the exit
--- status is.
-pub record HasServedAll (limit : Option ℕ) (has_input : Bool) (terms : Terms) (exit : ExitCode)
-    (shown after : Option (List ℕ)) : Type 0 where
+-- A server that may have an input served on these terms, under this limit of open files, at sockets that let in these
+-- callers, whatever the exit status is.
+pub record HasServedAll (limit : Option ℕ) (has_input : Bool) (terms : Terms) (callers : List Callers)
+    (exit : ExitCode) (shown after : Option (List ℕ)) : Type 0 where
   pub outcome : Outcome
-  pub ends : IfOk outcome.ended (EndsWithin limit terms)
+  pub ends : IfOk outcome.ended (EndsWithin limit terms callers)
   pub setting : IfOk outcome.ended (λ ended. RanWithin limit terms ended.setting)
   pub meant : IfOk outcome.ended (λ ended. HasReason terms.alone has_input terms.sessions ended.sums.sessions
       outcome.reason)

@@ -27,6 +27,7 @@ use Rattle.sysv_options.specs.declared.process.NoWords.{NoWords}
 use Rattle.sysv_options.specs.declared.who.Surroundings.{Surroundings}
 use Rattle.sysv_options.specs.Process.{AreTold, Told, Unread, Words}
 use Rattle.sysv_options.specs.Requests.{AreRefused, IsMeant}
+use Rattle.sysv_options.specs.Sockets.{callers_let_in}
 use Rattle.sysv_options.specs.Who.{stated_by, told_by}
 use Rattle.sysvmsg.specs.Ends.{HasServedAll}
 use Rattle.sysvmsg.specs.Scripts.{AnswersScript}
@@ -81,7 +82,7 @@ module _ {P R W : Type 0} (remaining : R → Option (List ℕ)) (contents : W �
   Answers Script exit fed shown after contact = (contact ≡ Unused place)
       × ((text : List ℕ) → fed ≡ Some text → (left : Option (List ℕ)) × AnswersScript exit text shown after left)
   Answers (Serve serving) exit fed shown after contact = (contact ≡ Unused place)
-      × HasServedAll around.open_files serving.until_eof serving.terms exit shown after
+      × HasServedAll around.open_files serving.until_eof serving.terms (callers_let_in serving) exit shown after
   Answers (Look looking) exit fed shown after contact =
       ShowsState looking.path.now looking.json exit shown after contact
   Answers (Save who saving) exit fed shown after contact =

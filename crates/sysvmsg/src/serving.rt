@@ -1,12 +1,15 @@
 //! The server.
-ghost use Rattle.std.specs.Prelude.{◌≡◌, ◌∷◌, ◌++◌, [], codes, IfErr, IfOk};
+ghost use Rattle.std.specs.Prelude.{◌≡◌, ◌∷◌, ◌++◌, [], codes, IfErr, IfOk, IfSome, map};
 ghost use Rattle.std.specs.Fmt.{decimal};
 ghost use Rattle.std.specs.Io.KnownBytes.{Appends};
 ghost use Rattle.sysv_connect.specs.Ends.{Fails, SucceedsOnlyIf};
 ghost use Rattle.sysv_options.specs.Asked.{HasLimits};
+ghost use Rattle.sysv_options.specs.Sockets.{callers_let_in, common_let_in};
+ghost use Rattle.sysv_server.specs.LetIn.{callers_at, sockets_at};
 ghost use Rattle.sysv_server.specs.Serving.{EndsFrom, FailsFrom, HasCause, limits_in, looks_in};
 ghost use Rattle.sysvmsg.specs.Ends.{HasServed, HasServedAll, HasServedFrom, RanWithin, places_of};
-ghost use Rattle.sysvmsg.specs.Ends.{fates_of, line_of, sums_line, words_of};
+ghost use Rattle.sysvmsg.specs.Ends.{fates_of, line_of, queued_of, sums_line, words_of};
+ghost use Rattle.sysvmsg.specs.Sockets.{AreSocketsFor};
 
 use crate::room::room;
 use crate::socket::listen_at;
@@ -26,7 +29,7 @@ use sysv_options::Serving;
 use sysv_seats::Attendance;
 use sysv_server::{
     Callers, Doors, Ended, Fates, Host, Hosted, Input, Listens, MAX_CLIENTS, Notice, Reading,
-    Reason, ServeFault, Sums, Terms, serve_from,
+    Reason, ServeFault, Sums, Terms, each_connection_is_let_in, serve_from,
 };
 use sysv_system::{Event, Watched, await_event};
 
@@ -64,8 +67,8 @@ pub(crate) fn serve_on_sockets<
     screen: &mut S,
 ) -> ExitCode
     requires { HasLimits serving.now }
-    ensures { HasServedAll limit serving.now.until_eof serving.now.terms result
-        (S.contents screen.old) (S.contents screen.new) }
+    ensures { HasServedAll limit serving.now.until_eof serving.now.terms
+        (callers_let_in serving.now) result (S.contents screen.old) (S.contents screen.new) }
 {
     let rt = server.rt;
     let host = Reporter {
@@ -97,37 +100,59 @@ fn serve_at_doors<
     screen: &mut S,
 ) -> ExitCode
     requires { HasLimits serving.now }
-    ensures { HasServedAll limit serving.now.until_eof serving.now.terms result
-        (S.contents screen.old) (S.contents screen.new) }
+    ensures { HasServedAll limit serving.now.until_eof serving.now.terms
+        (map callers_at sockets.items) result (S.contents screen.old) (S.contents screen.new) }
 {
-    let mut listener = if serving.alone.is_some() {
-        Doors::with_alone(sockets, host)
-    } else {
-        Doors::new(sockets, host)
-    };
+    each_connection_is_let_in::<H>();
+    let mut listener = doors_of(host, sockets, serving.alone.is_some());
     serve_at(rt, &mut listener, &host, input, serving, limit, screen)
 }
 
-/// Returns the sockets of a server, which its host has not opened yet, in order, and then the one at
-/// which sessions are served alone, if there is one: it lets in user 0. Returns `None` if memory is
-/// refused.
-fn sockets_of<H: Copy>(alloc: Global, host: H, serving: &Serving<'_>) -> Option<Vec<Hosted<H>>> {
+/// Returns the doors with these sockets. If `has_alone` says so, sessions are served alone at the
+/// last one.
+fn doors_of<H: Host>(host: H, sockets: Vec<Hosted<H>>, has_alone: bool) -> Doors<Hosted<H>, H>
+    ensures { sockets_at result ≡ sockets.items }
+{
+    if has_alone {
+        Doors::with_alone(sockets, host)
+    } else {
+        Doors::new(sockets, host)
+    }
+}
+
+/// Returns the sockets of a server, which its host has not opened yet: those that are opened
+/// together, in order, and then the one at which sessions are served alone, if there is one.
+/// Returns `None` if memory is refused.
+fn sockets_of<H: Copy>(alloc: Global, host: H, serving: &Serving<'_>) -> Option<Vec<Hosted<H>>>
+    ensures { IfSome result (λ sockets.
+        AreSocketsFor (callers_let_in serving.now) sockets.items) }
+{
+    let mut sockets = common_of(alloc, host, serving)?;
+    if serving.alone.is_none() {
+        return Some(sockets);
+    }
+    let number = sockets.len();
+    sockets.push(Hosted::new(host, number, ROOT, None)).ok()?;
+    Some(sockets)
+}
+
+/// Returns the sockets of a server that are opened together, in order, with room for one more.
+/// Returns `None` if memory is refused.
+fn common_of<H: Copy>(alloc: Global, host: H, serving: &Serving<'_>) -> Option<Vec<Hosted<H>>>
+    ensures { IfSome result (λ sockets.
+        AreSocketsFor (common_let_in serving.now) sockets.items) }
+{
     let count = serving.count();
     let mut sockets = Vec::with_capacity(alloc, count.saturating_add(1)).ok()?;
-    for number in 0..count {
-        let Some(socket) = serving.socket(number) else {
-            continue;
-        };
+    while let Some(socket) = serving.socket(sockets.len()) {
         let attendance = if count > 1 {
             Some(Attendance::try_new(alloc)?)
         } else {
             None
         };
+        let number = sockets.len();
         let socket = Hosted::new(host, number, socket.callers, attendance);
         sockets.push(socket).ok()?;
-    }
-    if serving.alone.is_some() {
-        sockets.push(Hosted::new(host, count, ROOT, None)).ok()?;
     }
     Some(sockets)
 }
@@ -241,6 +266,9 @@ impl<R: Files + Net + Eprint + AllocGlobal + Clone + Drop> Host for Reporter<'_,
             }
             Notice::NoLast => {
                 let _ = eprintln!(*rt; "sysvmsg: no further session is served alone");
+            }
+            Notice::Unwatched => {
+                let _ = eprintln!(*rt; "sysvmsg: cannot watch a client, and cuts it off");
             }
             Notice::Cut => {
                 let _ = eprintln!(*rt; "sysvmsg: the sessions that are left are cut off");
@@ -420,17 +448,18 @@ fn fail<S: Write>(screen: &mut S, fault: &str) -> ExitCode
     ExitCode::from(FAULT)
 }
 
-/// Prints the sums, for a server that may have had an input the number of calls that its end cut off,
-/// and what became of the messages that sessions held, if they might hold any.
+/// Prints the sums. For a server that may have had an input it also prints the number of calls that
+/// its end cut off and that of the messages that were still queued; and if sessions might hold
+/// messages, the latter and what became of those that they held.
 fn tell<S: Write>(screen: &mut S, ended: &Ended, has_input: bool) -> ExitCode
     ensures { SucceedsOnlyIf (Appends (S.contents screen.old) (S.contents screen.new)
         (sums_line has_input ended.now)) result }
 {
     match (has_input, ended.setting.holds()) {
         (false, false) => tell_sums(screen, &ended.sums),
-        (true, false) => tell_cut(screen, &ended.sums, ended.cut),
-        (false, true) => tell_held(screen, &ended.sums, &ended.fates),
-        (true, true) => tell_all(screen, &ended.sums, ended.cut, &ended.fates),
+        (true, false) => tell_cut(screen, &ended.sums, ended.cut, ended.queued),
+        (false, true) => tell_held(screen, &ended.sums, ended.queued, &ended.fates),
+        (true, true) => tell_all(screen, &ended.sums, ended.cut, ended.queued, &ended.fates),
     }
 }
 
@@ -454,55 +483,61 @@ fn tell_sums<S: Write>(screen: &mut S, sums: &Sums) -> ExitCode
     }
 }
 
-/// Prints the sums, and the number of calls that the end cut off.
-fn tell_cut<S: Write>(screen: &mut S, sums: &Sums, cut: u64) -> ExitCode
+/// Prints the sums, the number of calls that the end cut off, and that of the messages that were
+/// still queued.
+#[tactic(auto, using(crate::proofs::Lines::cut_line))]
+fn tell_cut<S: Write>(screen: &mut S, sums: &Sums, cut: u64, queued: u64) -> ExitCode
     ensures { SucceedsOnlyIf (Appends (S.contents screen.old) (S.contents screen.new)
-        (line_of sums.now (codes " cut " ++ decimal cut ++ 10 ∷ []))) result }
+        (line_of sums.now (codes " cut " ++ decimal cut ++ queued_of queued (10 ∷ [])))) result }
 {
-    let Sums {
-        sessions,
-        taken,
-        written,
-        lost,
-    } = *sums;
-    match writeln!(
-        screen,
-        "sessions {sessions} taken {taken} written {written} lost {lost} cut {cut}"
-    ) {
+    match begin_cut(screen, sums, cut, queued) {
+        Ok(()) => end_line(screen),
+        Err(_) => ExitCode::from(FAULT),
+    }
+}
+
+/// Ends a line.
+fn end_line<S: Write>(screen: &mut S) -> ExitCode
+    ensures { SucceedsOnlyIf (Appends (S.contents screen.old) (S.contents screen.new) (10 ∷ []))
+        result }
+{
+    match writeln!(screen) {
         Ok(()) => ExitCode::SUCCESS,
         Err(_) => ExitCode::from(FAULT),
     }
 }
 
-/// Prints the sums, and what became of the messages that sessions held.
-#[tactic(auto, using(crate::proofs::Lines::held_line))]
-fn tell_held<S: Write>(screen: &mut S, sums: &Sums, fates: &Fates) -> ExitCode
-    ensures { SucceedsOnlyIf (Appends (S.contents screen.old) (S.contents screen.new)
-        (line_of sums.now (fates_of fates.now))) result }
-{
-    match begin_sums(screen, sums) {
-        Ok(()) => tell_fates(screen, fates),
-        Err(_) => ExitCode::from(FAULT),
-    }
-}
-
-/// Prints the sums, the number of calls that the end cut off, and what became of the messages that
+/// Prints the sums, the number of messages that were still queued, and what became of those that
 /// sessions held.
-#[tactic(auto, using(crate::proofs::Lines::whole_line))]
-fn tell_all<S: Write>(screen: &mut S, sums: &Sums, cut: u64, fates: &Fates) -> ExitCode
+#[tactic(auto, using(crate::proofs::Lines::held_line))]
+fn tell_held<S: Write>(screen: &mut S, sums: &Sums, queued: u64, fates: &Fates) -> ExitCode
     ensures { SucceedsOnlyIf (Appends (S.contents screen.old) (S.contents screen.new)
-        (line_of sums.now (codes " cut " ++ decimal cut ++ fates_of fates.now))) result }
+        (line_of sums.now (queued_of queued (fates_of fates.now)))) result }
 {
-    match begin_cut(screen, sums, cut) {
+    match begin_sums(screen, sums, queued) {
         Ok(()) => tell_fates(screen, fates),
         Err(_) => ExitCode::from(FAULT),
     }
 }
 
-/// Prints the sums, and does not end the line.
-fn begin_sums<S: Write>(screen: &mut S, sums: &Sums) -> io::Result<()>
+/// Prints the sums, the number of calls that the end cut off, that of the messages that were still
+/// queued, and what became of those that sessions held.
+#[tactic(auto, using(crate::proofs::Lines::whole_line))]
+fn tell_all<S: Write>(screen: &mut S, sums: &Sums, cut: u64, queued: u64, fates: &Fates) -> ExitCode
+    ensures { SucceedsOnlyIf (Appends (S.contents screen.old) (S.contents screen.new)
+        (line_of sums.now (codes " cut " ++ decimal cut ++ queued_of queued (fates_of fates.now))))
+        result }
+{
+    match begin_cut(screen, sums, cut, queued) {
+        Ok(()) => tell_fates(screen, fates),
+        Err(_) => ExitCode::from(FAULT),
+    }
+}
+
+/// Prints the sums and the number of messages that were still queued, and does not end the line.
+fn begin_sums<S: Write>(screen: &mut S, sums: &Sums, queued: u64) -> io::Result<()>
     ensures { IfOk result (λ _. Appends (S.contents screen.old) (S.contents screen.new)
-        (line_of sums.now [])) }
+        (line_of sums.now (queued_of queued []))) }
 {
     let Sums {
         sessions,
@@ -512,14 +547,15 @@ fn begin_sums<S: Write>(screen: &mut S, sums: &Sums) -> io::Result<()>
     } = *sums;
     write!(
         screen,
-        "sessions {sessions} taken {taken} written {written} lost {lost}"
+        "sessions {sessions} taken {taken} written {written} lost {lost} queued {queued}"
     )
 }
 
-/// Prints the sums and the number of calls that the end cut off, and does not end the line.
-fn begin_cut<S: Write>(screen: &mut S, sums: &Sums, cut: u64) -> io::Result<()>
+/// Prints the sums, the number of calls that the end cut off, and that of the messages that were
+/// still queued, and does not end the line.
+fn begin_cut<S: Write>(screen: &mut S, sums: &Sums, cut: u64, queued: u64) -> io::Result<()>
     ensures { IfOk result (λ _. Appends (S.contents screen.old) (S.contents screen.new)
-        (line_of sums.now (codes " cut " ++ decimal cut))) }
+        (line_of sums.now (codes " cut " ++ decimal cut ++ queued_of queued []))) }
 {
     let Sums {
         sessions,
@@ -529,7 +565,7 @@ fn begin_cut<S: Write>(screen: &mut S, sums: &Sums, cut: u64) -> io::Result<()>
     } = *sums;
     write!(
         screen,
-        "sessions {sessions} taken {taken} written {written} lost {lost} cut {cut}"
+        "sessions {sessions} taken {taken} written {written} lost {lost} cut {cut} queued {queued}"
     )
 }
 

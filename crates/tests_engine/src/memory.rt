@@ -89,13 +89,14 @@ const NO_FATES: Fates = Fates {
 };
 
 /// Asserts that the server ended after this number of sessions, in which one message was written,
-/// removed one queue, and cut off no call.
+/// removed one queue without messages, and cut off no call.
 fn assert_ended(rt: &impl Abort, ended: Ended, sessions: u64) {
     let wanted = Ended {
         sums: sums(sessions, 1, 0),
         refused: 0,
         fates: NO_FATES,
         removed: Ok(1),
+        queued: 0,
         cut: 0,
         closed: EMPTY,
         setting: ended.setting,

@@ -247,7 +247,7 @@ const STATE_BEGINS: &[u8] = b"{\"version\":\"";
 const STATE_ENDS: &[u8] = b",\"sessions\":1,\"sessions_max\":2,\"sessions_total\":1,\
     \"has_waiting_clients\":0,\"waiting_receives\":0,\"waiting_sends\":0,\"waiting_for_blocks\":0,\
     \"sent_total\":1,\"taken_total\":0,\"written_total\":0,\"lost_total\":0,\"blocks\":128,\
-    \"free_blocks\":127,\"held\":0,\"back_total\":0,\"gone_total\":0,\
+    \"free_blocks\":127,\"held\":0,\"back_total\":0,\"gone_total\":0,\"unwatched_total\":0,\
     \"queues\":[{\"key\":\"0x00000007\",\"msqid\":0,\"slot\":0,\"bytes\":3,\"messages\":1,\
     \"waiting_receives\":0,\"waiting_sends\":0}],\
     \"slots\":[{\"slot\":0,\"sent_total\":1,\"taken_total\":0}]}\n";
@@ -462,15 +462,15 @@ fn ended<R: Threads + Wait + Net + Files + Abort + Clock + Sync>(
 }
 
 /// Asserts that a server with these many clients at once ends with these sums, after it has removed
-/// this number of queues, and that its clients had the right replies. Tries again if memory or a
-/// thread was refused before a session began.
+/// this number of queues with this number of messages, and that its clients had the right replies.
+/// Tries again if memory or a thread was refused before a session began.
 fn ends_with<R: Threads + Wait + Net + Files + Abort + Clock + Sync>(
     rt: &R,
     alloc: Global,
     at_once: u32,
     clients: Clients,
     all: Sums,
-    removed: u32,
+    left: (u32, u64),
 )
     requires { (1 ≤ at_once) × (at_once ≤ 16384) }
 {
@@ -491,9 +491,9 @@ fn ends_with<R: Threads + Wait + Net + Files + Abort + Clock + Sync>(
     };
     let first = ended(rt, alloc, terms, clients);
     if matches!(&first.0.0, Err(ServeFault::NoMemory | ServeFault::Thread)) {
-        assert_end(rt, ended(rt, alloc, terms, clients), terms, all, removed);
+        assert_end(rt, ended(rt, alloc, terms, clients), terms, all, left);
     } else {
-        assert_end(rt, first, terms, all, removed);
+        assert_end(rt, first, terms, all, left);
     }
 }
 
@@ -506,22 +506,25 @@ const NO_FATES: Fates = Fates {
 };
 
 /// Asserts that a server on these terms ended with these sums because all its connections were
-/// accepted, after it had removed this number of queues, and that its clients had the right replies.
+/// accepted, after it had removed this number of queues with this number of messages, and that its
+/// clients had the right replies.
 fn assert_end(
     rt: &impl Abort,
     run: ((Result<Ended, ServeFault>, bool), bool),
     terms: Terms,
     all: Sums,
-    removed: u32,
+    left: (u32, u64),
 ) {
     let ((end, is_full), are_right) = run;
     assert_is(rt, (is_full, are_right), (true, true));
     let end = end.expect(rt, "a server that ends");
+    let (removed, queued) = left;
     let wanted = Ended {
         sums: all,
         refused: 0,
         fates: NO_FATES,
         removed: Ok(removed),
+        queued,
         cut: 0,
         closed: EMPTY,
         setting: end.setting,
@@ -581,18 +584,25 @@ fn sessions_of_both_versions(rt: HostRuntime) {
 }
 
 #[test]
-fn the_queue_that_the_last_session_made_is_removed(rt: HostRuntime) {
-    ends_with(&rt, rt.alloc(), 1, Clients::Leaving, sums(2, 0, 0), 1);
+fn the_queue_that_the_last_session_made_is_removed_with_its_message(rt: HostRuntime) {
+    ends_with(&rt, rt.alloc(), 1, Clients::Leaving, sums(2, 0, 0), (1, 1));
 }
 
 #[test]
 fn a_server_shows_its_state(rt: HostRuntime) {
-    ends_with(&rt, rt.alloc(), 2, Clients::Looking, sums(2, 1, 0), 1);
+    ends_with(&rt, rt.alloc(), 2, Clients::Looking, sums(2, 1, 0), (1, 0));
 }
 
 #[test]
 fn no_queue_is_left(rt: HostRuntime) {
-    ends_with(&rt, rt.alloc(), 40, Clients::Commanding, sums(5, 0, 0), 0);
+    ends_with(
+        &rt,
+        rt.alloc(),
+        40,
+        Clients::Commanding,
+        sums(5, 0, 0),
+        (0, 0),
+    );
 }
 
 #[test]

@@ -10,7 +10,7 @@ use std::process::Abort;
 use std::sync::Wait;
 use sysv_model::{Errno, Flags, SetTo};
 use sysv_queue::Tally;
-use sysv_service::{OpenRefused, Pass, Service};
+use sysv_service::{OpenRefused, Pass, Service, Stop};
 use tests_kit::{OTHER, USER, creating};
 
 /// Sends this body to the queue with this identifier, without waiting.
@@ -411,7 +411,11 @@ fn a_stop_removes_every_queue(rt: HostRuntime) {
     make_with_message(&rt, rt.alloc(), &service, &mut pass, 1);
     make_with_message(&rt, rt.alloc(), &service, &mut pass, 2);
     assert_is(&rt, service.msgctl_rmid(&rt, &mut pass, USER, 1), Ok(()));
-    assert_is(&rt, service.stop(&rt, &mut pass), Ok(2));
+    let stop = Stop {
+        removed: Ok(2),
+        messages: 2,
+    };
+    assert_is(&rt, service.stop_counting(&rt, &mut pass), stop);
     assert_is(&rt, service.list_row(&rt, &mut pass, 0), Ok(None));
     assert_is(&rt, service.stop(&rt, &mut pass), Ok(0));
     assert_is(&rt, service.close(pass), closed(0, 128));

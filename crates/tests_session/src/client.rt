@@ -120,6 +120,16 @@ fn loose<'a>(
     )
 }
 
+/// Returns a client that writes these bytes, whose connection takes up to 4,000 bytes. Tolerates one
+/// refusal of memory.
+fn roomy<'a>(rt: &impl Abort, alloc: Global, input: &'a [u8]) -> Client<MemoryStream<'a>> {
+    let stream = match MemoryStream::new(alloc, input, 4_000, &[], &[]) {
+        Some(stream) => stream,
+        None => MemoryStream::new(alloc, input, 4_000, &[], &[]).expect(rt, "a second try"),
+    };
+    Client::open(alloc, stream, Version::Two)
+}
+
 /// Returns the connection of a client. Tolerates one refusal of memory.
 pub(crate) fn stream<'a>(
     rt: &impl Abort,
@@ -139,7 +149,7 @@ pub(crate) fn stream<'a>(
 fn assert_counts(
     rt: &impl Abort,
     client: &Client<MemoryStream<'_>>,
-    counts: (u64, u64),
+    counts: (u32, u32),
     is_within: bool,
     has_more: bool,
 ) {
@@ -291,6 +301,35 @@ fn a_client_with_more_than_a_share(rt: HostRuntime) {
     let served = closed_early(&rt, alloc, client);
     assert_served(&rt, &served, End::Ended, (71, 0, 0));
     assert_notifications(&rt, &mut tools, &[Notification::Settled; 70]);
+    let pass = handler.into_pass();
+    ended(&rt, service, pass, 0);
+}
+
+// There is room for the notifications of one event. If others come before they are taken, the last one
+// is that anything may have changed.
+#[test]
+fn more_notifications_than_there_is_room_for(rt: HostRuntime) {
+    const ROOM: usize = 204;
+    let alloc = rt.alloc();
+    let (service, pass) = opened(&rt, alloc, 128, 0);
+    let mut handler = Keeper::new(ServiceHandler::new(&rt, &service, &ZERO, pass));
+    let mut tools = tools(&rt, alloc);
+    let mut input = Vec::new(alloc);
+    append(&rt, &mut input, &SESSION[..18]);
+    for _ in 0..=ROOM {
+        append(&rt, &mut input, &SESSION[18..32]);
+    }
+    let mut client = roomy(&rt, alloc, &input);
+    turn(&mut handler, &mut tools, &mut client);
+    turn(&mut handler, &mut tools, &mut client);
+    turn(&mut handler, &mut tools, &mut client);
+    turn(&mut handler, &mut tools, &mut client);
+    turn(&mut handler, &mut tools, &mut client);
+    assert_that(&rt, client.is_over());
+    let served = closed_early(&rt, alloc, client);
+    assert_served(&rt, &served, End::Ended, (206, 0, 0));
+    assert_is(&rt, tools.take_notification(), Some(Notification::Anything));
+    assert_notifications(&rt, &mut tools, &[Notification::Settled; ROOM]);
     let pass = handler.into_pass();
     ended(&rt, service, pass, 0);
 }

@@ -242,7 +242,7 @@ fn a_message_is_held_for_its_seconds(rt: HostRuntime) {
     let mut handler = Keeper::new(ServiceHandler::new(&rt, &service, &ZERO, pass));
     let mut tools = tools(&rt, alloc);
     handler.set_memory(Some(alloc));
-    assert_is(&rt, (handler.taken(), handler.seconds()), (0, 0));
+    assert_is(&rt, (handler.is_untimed(), handler.seconds()), (false, 0));
     serve(
         &rt,
         alloc,
@@ -252,10 +252,12 @@ fn a_message_is_held_for_its_seconds(rt: HostRuntime) {
         4,
         &SPENT[..HELD],
     );
-    assert_is(&rt, (handler.taken(), handler.seconds()), (1, 30));
+    assert_is(&rt, (handler.is_untimed(), handler.seconds()), (true, 30));
+    handler.set_due(Some(5));
+    assert_is(&rt, (handler.is_untimed(), handler.due()), (false, Some(5)));
     let came = given_back(&mut handler, &mut tools);
     assert_that(&rt, matches!(came, Return::Over(Fate::Sent)));
-    assert_is(&rt, (handler.taken(), handler.seconds()), (1, 0));
+    assert_is(&rt, (handler.is_untimed(), handler.seconds()), (false, 0));
     assert_is(&rt, handler.take_returns(), Returned { sent: 1, gone: 0 });
     assert_is(&rt, handler.take_returns(), Returned::NONE);
     let pass = handler.into_pass();

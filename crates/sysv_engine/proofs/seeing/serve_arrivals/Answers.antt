@@ -17,19 +17,19 @@ use Rattle.sysv_engine.proofs.seeing.serve_arrivals.Goals as goal
 pub returns-in-Ok-outcome-clause-ok : goal.returns-in-Ok-outcome-clause-ok
 unfolding lived
 returns-in-Ok-outcome-clause-ok g c =
-    let stop = c.stop-removed.ensures.stopped in
+    let stop = c.stop_counting-stop.ensures.stopped in
     let opened = c.in-Ok.ensures.open in
     let worked = c.in-Ok-outcome.ensures.ok in
     let shifts = worked.shifts in
     let hires =
     subst (λ (p : Pass). HiresBy c.args.reads p shifts c.serve_seeing-outcome.new.pass) opened.1 worked.hires in
-    let stopped : Stopped c.in-Ok.service c.stop-removed.result = record {
+    let stopped : Stopped c.in-Ok.service c.stop_counting-stop.result.removed = record {
       before = c.serve_seeing-outcome.new.pass;
-      after = c.stop-removed.new.pass;
+      after = c.stop_counting-stop.new.pass;
       pass = c.serve_seeing-outcome.ensures.pass;
       removed = stop.0;
       worn = stop.1;
-      stops = stop.2;
+      stops = stop.2.run;
       tells = stop.3;
     } in
     let laws = c.each_lifetime_is_one_run.ensures in
@@ -50,34 +50,35 @@ returns-in-Ok-outcome-clause-ok g c =
       versions = subst (λ (h : Bool). AllByRecursion (λ (shift : Shift). shift.newest ≡ newest_of h) shifts)
           (sym c.setting-setting.ensures.3) worked.versions;
       held = worked.held;
-      lived = lived laws.run laws.whole laws.none_held laws.empty c.args.blocks c.in-Ok.service c.stop-removed.result
-          stopped
-          c.close-closed.result c.close-closed.ensures opened.0 c.stop-removed.ensures.pass c.args.reads shifts hires;
+      lived = lived laws.run laws.whole laws.none_held laws.empty c.args.blocks c.in-Ok.service
+          c.stop_counting-stop.result.removed stopped c.close-closed.result c.close-closed.ensures opened.0
+          c.stop_counting-stop.ensures.pass c.args.reads shifts hires;
       closed = refl;
+      queued = stop.2.counted;
     }
 
 pub returns-in-Err-clause-err : goal.returns-in-Err-clause-err
 returns-in-Err-clause-err g c =
     let t = g.T.NonBlocking in
-    let stop = c.stop-removed.ensures.stopped in
+    let stop = c.stop_counting-stop.ensures.stopped in
     let opened = c.in-Ok.ensures.open in
     let first = c.in-Ok.pass in
-    let stopped : Stopped c.in-Ok.service c.stop-removed.result = record {
+    let stopped : Stopped c.in-Ok.service c.stop_counting-stop.result.removed = record {
       before = c.serve_seeing-outcome.new.pass;
-      after = c.stop-removed.new.pass;
+      after = c.stop_counting-stop.new.pass;
       pass = c.serve_seeing-outcome.ensures.pass;
       removed = stop.0;
       worn = stop.1;
-      stops = stop.2;
+      stops = stop.2.run;
       tells = stop.3;
     } in
     let laws = c.each_lifetime_is_one_run.ensures in
     fault_says t.incoming t.outgoing t.closes g.S.Arrivals.gives c.args.source.now c.serve_seeing-outcome.new.source
     c.args.books.now.items c.serve_seeing-outcome.new.books.items
     (HiredFrom c.args.reads c.in-Ok.service first c.serve_seeing-outcome.new.pass) (HasLived c.args.reads c.args.blocks)
-    (have_lived laws.run laws.whole laws.none_held laws.empty c.args.blocks c.in-Ok.service c.stop-removed.result
-    stopped
-    c.close-closed.result c.close-closed.ensures opened.0 c.stop-removed.ensures.pass c.args.reads first opened.1)
+    (have_lived laws.run laws.whole laws.none_held laws.empty c.args.blocks c.in-Ok.service
+    c.stop_counting-stop.result.removed stopped c.close-closed.result c.close-closed.ensures opened.0
+    c.stop_counting-stop.ensures.pass c.args.reads first opened.1)
     c.in-Err.why c.in-Err.ensures.err
 
 pub returns-in-Ok-outcome-clause-balance : goal.returns-in-Ok-outcome-clause-balance

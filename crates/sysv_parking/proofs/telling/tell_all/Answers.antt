@@ -29,6 +29,7 @@ loop-preserved g c =
         | inr told ↦ inr (spread_on g.C.Tells.told g.C.Tells.read (g.C.Tells.agenda c.loop.calls) after
             c.tell_each.ensures.work change told)
       ];
+      news = c.tell_each.ensures.news ∙ c.loop.invariant.news;
       work = work_on _ _ _ c.loop.invariant.work c.tell_each.ensures.work;
       parking = c.tell_each.ensures.parking ∙ c.loop.invariant.parking;
       keeps = g.met.C.Tells.keeps_on _ _ _ c.loop.invariant.keeps c.tell_each.ensures.keeps;

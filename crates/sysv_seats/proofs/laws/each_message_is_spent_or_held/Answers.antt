@@ -1,4 +1,4 @@
-use Rattle.sysv_seats.proofs.Fated.{each_message}
+use Rattle.sysv_seats.proofs.Fates.{each_message}
 use Rattle.sysv_seats.proofs.laws.each_message_is_spent_or_held.Goals as goal
 
 pub returns : goal.returns

@@ -1,6 +1,8 @@
--- What the sockets and the input tell is left out.
-use Rattle.sysvmsg.proofs.Served.{told_less}
+-- What the sockets and the input tell is left out, except for the callers that connections let in.
+use Rattle.sysvmsg.proofs.Served.{doors_served}
 use Rattle.sysvmsg.proofs.serving.serve_at_doors.Goals as goal
 
 pub returns : goal.returns
-returns g c = told_less _ _ _ _ _ _ _ _ _ _ _ _ _ c.serve_at.ensures
+returns g c =
+    doors_served _ _ _ _ _ _ _ _ _ _ _ _ _ c.each_connection_is_let_in.ensures c.doors_of-listener.ensures
+    c.serve_at.ensures

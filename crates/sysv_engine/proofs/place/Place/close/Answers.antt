@@ -2,6 +2,7 @@
 use Rattle.std.proofs.Common.{◌≡◌, ◌∙◌, None, Option, Some, ap, refl, subst, sym, true}
 use Rattle.std.specs.Prelude.{IfSome}
 use Rattle.sysv_seats.specs.Sits.{Sitting, is_finished}
+use Rattle.sysv_engine.specs.Fated.{fates_seen}
 use Rattle.sysv_engine.specs.Places.{Seated}
 use Rattle.sysv_engine.proofs.PlaceLemmas.{closed_at, keeps_from, keeps_round}
 use Rattle.sysv_engine.proofs.place.Place.close.Goals as goal
@@ -14,7 +15,7 @@ returns g c =
     let held : c.self.inside.client ≡ Some c.in_ok-client.client = cc in
     let there : c.args.self.now.client ≡ Some c.in_ok-client.client =
     sym leave.ensures.client ∙ (sym (ap (λ (p : S). p.client) c.self.view_is) ∙ held) in
-    let idle : c.self.inside.returning ≡ None =
+    let idle : c.self.inside.handler.hand.returning ≡ None =
     ap (λ (p : S). p.returning) c.self.view_is
     ∙ subst (λ (o : Option (Sitting g.row.T.Denot)). IfSome o (λ client. leave.new.self.returning ≡ None)) there
     leave.ensures.none in
@@ -52,11 +53,11 @@ returns-in_err-client g c =
       newest = was.newest;
       sums = was.sums;
       refused = was.refused;
-      fates = was.fates;
+      fates = fates_seen was.handler.hand.fated;
       book = was.book;
       client = client;
-      message = was.handler.message;
-      returning = was.returning;
+      message = was.handler.hand.message;
+      returning = was.handler.hand.returning;
     } in place) gone ∙ c.self.view_is in
     record {
       keeps = keeps_round t.incoming t.outgoing t.closes c.args.self.now c.args.self.now leave.new.self _ refl

@@ -3,8 +3,8 @@ use Rattle.std.proofs.Common.{refl}
 use Rattle.sysv_engine.proofs.PlaceLemmas.{keeps_round}
 use Rattle.sysv_engine.proofs.place.Place.give_back.Goals as goal
 
-pub returns-then-is_none-2 : goal.returns-then-is_none-2
-returns-then-is_none-2 g c =
+pub returns-then-not-is_returning : goal.returns-then-not-is_returning
+returns-then-not-is_returning g c =
     let t = g.T.NonBlocking in
     record {
       keeps = keeps_round t.incoming t.outgoing t.closes c.args.self.now c.args.self.now c.begin_return.new.self

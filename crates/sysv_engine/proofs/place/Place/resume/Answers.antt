@@ -1,11 +1,12 @@
 -- The parked call goes on, or the send that gives back a message.
-use Rattle.std.proofs.Common.{◌≡◌, None, Some, refl}
+use Rattle.std.proofs.Common.{◌≡◌, ◌∙◌, None, Some, ap, refl}
+use Rattle.sysv_engine.specs.Fated.{fates_seen}
 use Rattle.sysv_engine.specs.Places.{Seated}
 use Rattle.sysv_engine.proofs.PlaceLemmas.{goes_on, keeps_from, none_waits}
 use Rattle.sysv_engine.proofs.place.Place.resume.Goals as goal
 
-pub returns-then-is_some : goal.returns-then-is_some
-returns-then-is_some g c = record { keeps = c.go_on_returning.ensures.keeps }
+pub returns-then-is_returning : goal.returns-then-is_returning
+returns-then-is_returning g c = record { keeps = c.go_on_returning.ensures.keeps }
 
 pub returns-in-Some : goal.returns-in-Some
 returns-in-Some g c =
@@ -19,11 +20,11 @@ returns-in-Some g c =
       newest = was.newest;
       sums = was.sums;
       refused = was.refused;
-      fates = was.fates;
+      fates = fates_seen was.handler.hand.fated;
       book = was.book;
       client = was.client;
-      message = was.handler.message;
-      returning = was.returning;
+      message = was.handler.hand.message;
+      returning = was.handler.hand.returning;
     } in
     let new : S = record {
       gates = now.handler.service.now;
@@ -31,18 +32,21 @@ returns-in-Some g c =
       newest = was.newest;
       sums = was.sums;
       refused = was.refused;
-      fates = was.fates;
+      fates = fates_seen now.hand.fated;
       book = was.book;
       client = Some c.go_on.new.self;
-      message = now.message;
-      returning = was.returning;
+      message = now.hand.message;
+      returning = now.hand.returning;
     } in
     let gates : new.gates ≡ seen.gates = cc in
-    let idle : was.returning ≡ None =
-    none_waits t.incoming t.outgoing t.closes was.returning c.is_some.result c.is_some.ensures c.if-is_some.false in
+    let idle : was.handler.hand.returning ≡ None =
+    ap (λ (p : S). p.returning) c.self.view_is
+    ∙ none_waits t.incoming t.outgoing t.closes c.args.self.now.returning c.is_returning.result c.is_returning.ensures
+    c.if-is_returning.false in
     record {
       keeps = keeps_from t.incoming t.outgoing t.closes seen c.args.self.now new c.self.view_is
           (goes_on t.incoming t.outgoing t.closes seen new c.in-Some.client c.go_on.new.self c.in-Some.is refl
-          (gates, refl, refl, refl, refl, refl) idle refl c.go_on.ensures.keeps c.go_on.ensures.breaks
+          (gates, refl, refl, refl, ap fates_seen c.go_on.ensures.beside.1, refl) idle
+          c.go_on.ensures.beside.0 c.go_on.ensures.keeps c.go_on.ensures.breaks
           c.go_on.ensures.said);
     }

@@ -1,5 +1,6 @@
 -- The client takes up and answers what has arrived, unless a send of what it holds waits.
-use Rattle.std.proofs.Common.{◌≡◌, ◌∙◌, None, Some, refl}
+use Rattle.std.proofs.Common.{◌≡◌, ◌∙◌, None, Some, ap, refl}
+use Rattle.sysv_engine.specs.Fated.{fates_seen}
 use Rattle.sysv_engine.specs.Places.{Seated}
 use Rattle.sysv_engine.proofs.PlaceLemmas.{goes_on, holder_at, keeps_from, none_waits}
 use Rattle.sysv_engine.proofs.place.Place.take_up.Goals as goal
@@ -16,11 +17,11 @@ returns-in-Some g c =
       newest = was.newest;
       sums = was.sums;
       refused = was.refused;
-      fates = was.fates;
+      fates = fates_seen was.handler.hand.fated;
       book = was.book;
       client = was.client;
-      message = was.handler.message;
-      returning = was.returning;
+      message = was.handler.hand.message;
+      returning = was.handler.hand.returning;
     } in
     let new : S = record {
       gates = now.handler.service.now;
@@ -28,19 +29,22 @@ returns-in-Some g c =
       newest = was.newest;
       sums = was.sums;
       refused = was.refused;
-      fates = was.fates;
+      fates = fates_seen now.hand.fated;
       book = was.book;
       client = Some c.drain.new.self;
-      message = now.message;
-      returning = was.returning;
+      message = now.hand.message;
+      returning = now.hand.returning;
     } in
     let gates : new.gates ≡ seen.gates = cc in
-    let idle : was.returning ≡ None =
-    none_waits t.incoming t.outgoing t.closes was.returning c.is_some.result c.is_some.ensures c.if-is_some.false in
+    let idle : was.handler.hand.returning ≡ None =
+    ap (λ (p : S). p.returning) c.self.view_is
+    ∙ none_waits t.incoming t.outgoing t.closes c.args.self.now.returning c.is_returning.result c.is_returning.ensures
+    c.if-is_returning.false in
     record {
       keeps = keeps_from t.incoming t.outgoing t.closes seen c.args.self.now new c.self.view_is
           (goes_on t.incoming t.outgoing t.closes seen new c.in-Some.client c.drain.new.self c.in-Some.is refl
-          (gates, refl, refl, refl, refl, refl) idle refl
+          (gates, refl, refl, refl, ap fates_seen c.take_turn.ensures.beside.1, refl) idle
+          c.take_turn.ensures.beside.0
           (λ late newest start origin sits.
           c.drain.ensures.keeps (holder_at new) late newest start origin
           (c.take_turn.ensures.keeps late newest start origin sits))

@@ -1,8 +1,11 @@
--- The places have had what they had at the entry.
+-- The places have had what they had at the entry, and nothing is left to tell.
+use Rattle.sysv_engine.specs.Heeding.{IsAllTold}
 use Rattle.sysv_engine.specs.Places.{KeepsAll}
 use Rattle.sysv_engine.proofs.rounds.Serving.serve.Given as goal
 
 abbrev pub invariant-loop : goal.invariant-loop
-invariant-loop g l =
-    KeepsAll g.T.NonBlocking.incoming g.T.NonBlocking.outgoing g.T.NonBlocking.closes l.fn.worker.places.items
-    l.worker.places.items
+invariant-loop g l = record {
+  keeps : KeepsAll g.T.NonBlocking.incoming g.T.NonBlocking.outgoing g.T.NonBlocking.closes l.fn.worker.places.items
+      l.worker.places.items;
+  told : IsAllTold l.worker.tools;
+}

@@ -26,4 +26,4 @@ returns-clause-work g c =
       | else-is_none w ↦ ap (λ x. x.agenda) w.worker-is ∙ c.go_on.ensures.agenda
     ] in
     work_on _ _ _ (subst (λ (a : Agenda). KeepsWork a c.settle.new.worker.agenda) same
-    (moved_works c.if-is_none.worker.agenda c.settle.new.worker.agenda c.settle.ensures.rest)) c.collect.ensures.work
+    (moved_works c.if-is_none.worker.agenda c.settle.new.worker.agenda c.settle.ensures.rest)) c.conclude.ensures.work

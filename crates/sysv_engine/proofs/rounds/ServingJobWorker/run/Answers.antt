@@ -7,9 +7,10 @@ pub returns-clause-fits : goal.returns-clause-fits
 returns-clause-fits g c =
     let own = c.args.self.now.service.now in
     let was = c.requires.1.0 in
-    let here = c.make_room-place.ensures.keeps own was c.requires.1.1 in
-    let adopted = c.adopt.ensures own was here in
-    let served = c.serve.ensures own adopted.0 (c.turn.ensures own adopted.0 adopted.2) in (
+    let ready = c.collect.ensures.keeps.0 own was c.requires.1.1 in
+    let here = c.make_room-place.ensures.keeps own was ready in
+    let adopted = c.adopt.ensures.adopts own was here in
+    let served = c.serve.ensures.keeps own adopted.0 (c.turn.ensures.keeps own adopted.0 adopted.2) in (
       adopter_has_some (Stands g.T.NonBlocking.incoming g.T.NonBlocking.outgoing g.T.NonBlocking.closes own) was
           c.args.connection adopted.0 c.serve.new.worker.places.items adopted.1 served,
       (adopted.0, served),

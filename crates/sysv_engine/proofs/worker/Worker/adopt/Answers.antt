@@ -10,8 +10,8 @@ adopt-requires g c =
     is_free c.index_mut-there.result.now
     (ap (λ (p : S). is_vacant p) c.index_mut-there.ensures.value ∙ c.requires.1 c.index_mut-there.result.now)
 
-pub returns : goal.returns
-returns g c =
+pub returns-clause-adopts : goal.returns-clause-adopts
+returns-clause-adopts g c =
     adopts_at g.T.NonBlocking.incoming g.T.NonBlocking.outgoing g.T.NonBlocking.closes c.args.connection
     c.args.self.now.places.items c.args.place c.index_mut-there.result.now c.adopt.new.self c.begin.new.self
     c.requires.0 c.index_mut-there.ensures.value c.adopt.ensures c.begin.ensures.keeps

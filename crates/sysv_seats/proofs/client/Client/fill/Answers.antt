@@ -80,6 +80,7 @@ returns-in-Over-Reset g c = record {
       )
       c.stop.ensures;
   handles = (refl, refl);
+  beside = (refl, refl);
   breaks = ap (λ (s : Sitting g.row.T.Denot). g.T.NonBlocking.closes.breaks s.connection) c.stop.ensures
       ∙ (c.fill.ensures.breaks
       ∙ ap (λ (s : Sitting g.row.T.Denot). g.T.NonBlocking.closes.breaks s.connection) c.self.view_is);
@@ -101,6 +102,7 @@ returns-in-Over-Failed g c = record {
       )
       c.stop-in-Over-Failed.ensures;
   handles = (refl, refl);
+  beside = (refl, refl);
   breaks = ap (λ (s : Sitting g.row.T.Denot). g.T.NonBlocking.closes.breaks s.connection) c.stop-in-Over-Failed.ensures
       ∙ (c.fill.ensures.breaks
       ∙ ap (λ (s : Sitting g.row.T.Denot). g.T.NonBlocking.closes.breaks s.connection) c.self.view_is);

@@ -2,9 +2,16 @@
 use Rattle.std.proofs.Common.{◌≡◌, ◌≤◌, ◌∙◌, ℕ, List, length, Result, ap, refl, sym, subst, subst₂, arith, true}
 use Rattle.std.proofs.lemmas.List.{drop-drop}
 use Rattle.std.specs.Prelude.{⊤}
+use Rattle.sysv_service.specs.declared.progress.Progress.{Progress}
+use Rattle.sysv_service.specs.declared.progress.Progress.TheVariants as progress
+use Rattle.sysv_session.specs.declared.handler.RequestOutcome.{RequestOutcome}
 use Rattle.sysv_session.specs.declared.served.End.{End}
 use Rattle.sysv_session.specs.Conversation.{Puts}
+use Rattle.sysv_seats.specs.declared.notification.Told.{Told}
 use Rattle.sysv_seats.specs.declared.tools.Tools.{Tools}
+use Rattle.sysv_seats.specs.declared.waiting.Waiting.{Waiting}
+use Rattle.sysv_seats.specs.Notification.{Keeps as KeepsNotification, notifications_of, told_of}
+use Rattle.sysv_wire.specs.declared.request.Ask.{Ask}
 use Rattle.sysv_seats.specs.Holding.{timed}
 use Rattle.sysv_seats.specs.Sits.{HasAsked, IsPending, Sits, Sitting, is_hold_wait_of}
 use Rattle.sysv_seats.proofs.ClientLemmas.{put_cause}
@@ -14,8 +21,31 @@ use Rattle.sysv_seats.specs.Untold.{lets_in}
 use Rattle.sysv_seats.proofs.client.Client.settle.Goals as goal
 
 -- The body that was given is the same.
-given_still : (old new : Tools) → new ≡ record old { notifications = new.notifications } → new.given ≡ old.given
+given_still : (old new : Tools) → new ≡ record old { notifications = new.notifications; missed = new.missed } →
+    new.given ≡ old.given
 given_still old new is = ap (λ (t : Tools). t.given) is
+
+-- What was told of a call that has come so far is kept.
+told_keeps : (made : Ask) (came one : Progress Waiting RequestOutcome) (told : Told) (old new : Tools) → came ≡ one →
+    told ≡ told_of made one → KeepsNotification (notifications_of told) old new →
+    KeepsNotification (notifications_of (told_of made came)) old new
+told_keeps made came one told old new is what =
+    subst (λ (t : Told). KeepsNotification (notifications_of t) old new) (what ∙ ap (told_of made) (sym is))
+
+pub returns-in-Err-clause-notifications : goal.returns-in-Err-clause-notifications
+returns-in-Err-clause-notifications g c =
+    told_keeps c.args.made.now c.args.progress (progress.Over c.in-Over.outcome) c.by_end.result c.args.tools.now
+    c.tell.new.self c.in-Over.is c.by_end.ensures c.tell.ensures
+
+pub returns-in_default-clause-notifications : goal.returns-in_default-clause-notifications
+returns-in_default-clause-notifications g c =
+    told_keeps c.args.made.now c.args.progress (progress.Over c.in-Over.outcome) c.by_end.result c.args.tools.now
+    c.tell.new.self c.in-Over.is c.by_end.ensures c.tell.ensures
+
+pub returns-in-Waits-clause-notifications : goal.returns-in-Waits-clause-notifications
+returns-in-Waits-clause-notifications g c =
+    told_keeps c.args.made.now c.args.progress (progress.Waits c.in-Waits.waiting) c.by_wait.result c.args.tools.now
+    c.tell-in-Waits.new.self c.in-Waits.is c.by_wait.ensures c.tell-in-Waits.ensures
 
 pub put-requires-clause-text : goal.put-requires-clause-text
 put-requires-clause-text g c =

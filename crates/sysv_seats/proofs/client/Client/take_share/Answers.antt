@@ -21,6 +21,10 @@ loop-preserved g c =
         c.take_up.ensures.handles.0 ∙ c.loop.invariant.handles.0,
         c.take_up.ensures.handles.1 ∙ c.loop.invariant.handles.1,
       );
+      beside = (
+        c.take_up.ensures.beside.0 ∙ c.loop.invariant.beside.0,
+        c.take_up.ensures.beside.1 ∙ c.loop.invariant.beside.1,
+      );
       breaks = c.take_up.ensures.breaks
           ∙ (ap (λ (client : Sitting g.row.T.Denot). t.closes.breaks client.connection) c.self.view_is
           ∙ c.loop.invariant.breaks);

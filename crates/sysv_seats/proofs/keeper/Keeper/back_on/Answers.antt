@@ -12,9 +12,10 @@ pub returns-clause-begun : goal.returns-clause-begun
 returns-clause-begun g c = λ start cred text parked.
     let same : c.settle_back.new.self.handler.pass ≡ c.send_on-came.new.self.pass =
     rw c.settle_back.ensures.handler refl in
-    back_came_on (g.C.Clock.may c.args.self.now.handler.clock.now) c.args.version cred text c.in-Some.message start
+    let held = rw c.in-Some.is at c.message.ensures.message in
+    back_came_on (g.C.Clock.may c.args.self.now.handler.clock.now) c.args.version cred text c.in-Some.message.now start
     c.args.waiting c.send_wait-wait.result c.recall.new.text (holder_of c.args.self.now) c.send_on-came.result
-    (holder_of c.settle_back.new.self) c.settle_back.result c.clear.new.self c.in-Some.is c.recall.ensures.text
+    (holder_of c.settle_back.new.self) c.settle_back.result c.clear.new.self held c.recall.ensures.text
     c.send_wait-wait.ensures
     (subst (λ (p : Pass). GoesOn (g.C.Clock.may c.args.self.now.handler.clock.now) Three (Send c.send_wait-wait.result)
     c.recall.new.text c.args.self.now.handler.pass c.send_on-came.result [] p) (sym same) c.send_on-came.ensures.looks)
@@ -24,9 +25,10 @@ pub returns-clause-looks : goal.returns-clause-looks
 returns-clause-looks g c = λ cred text.
     let same : c.settle_back.new.self.handler.pass ≡ c.send_on-came.new.self.pass =
     rw c.settle_back.ensures.handler refl in
-    back_looked (g.C.Clock.may c.args.self.now.handler.clock.now) c.args.version cred text c.in-Some.message
+    let held = rw c.in-Some.is at c.message.ensures.message in
+    back_looked (g.C.Clock.may c.args.self.now.handler.clock.now) c.args.version cred text c.in-Some.message.now
     c.args.waiting c.send_wait-wait.result c.recall.new.text (holder_of c.args.self.now) c.send_on-came.result
-    (holder_of c.settle_back.new.self) c.settle_back.result c.clear.new.self c.in-Some.is c.recall.ensures.text
+    (holder_of c.settle_back.new.self) c.settle_back.result c.clear.new.self held c.recall.ensures.text
     c.send_wait-wait.ensures
     (subst (λ (p : Pass). GoesOn (g.C.Clock.may c.args.self.now.handler.clock.now) Three (Send c.send_wait-wait.result)
     c.recall.new.text c.args.self.now.handler.pass c.send_on-came.result [] p) (sym same) c.send_on-came.ensures.looks)

@@ -16,10 +16,11 @@ returns-clause-begun g c = λ cred text.
     let came = simp to_z-of_z at c.begin_send-came.ensures.begun in
     let same : c.settle_back.new.self.handler.pass ≡ c.begin_send-came.new.self.pass =
     rw c.settle_back.ensures.handler refl in
-    back_came (g.C.Clock.may c.args.self.now.handler.clock.now) c.args.version cred text c.in-Some.message
+    let held = rw c.in-Some.is at c.message.ensures.message in
+    back_came (g.C.Clock.may c.args.self.now.handler.clock.now) c.args.version cred text c.in-Some.message.now
     c.cred-cred.result c.id-id.result c.mtype-mtype.result c.from_bits_retain-none.result c.recall.new.text
     (holder_of c.args.self.now) c.begin_send-came.result (holder_of c.settle_back.new.self) c.settle_back.result
-    c.clear.new.self c.in-Some.is c.cred-cred.ensures c.id-id.ensures c.mtype-mtype.ensures
+    c.clear.new.self held c.cred-cred.ensures c.id-id.ensures c.mtype-mtype.ensures
     (c.from_bits_retain-none.ensures tt) c.recall.ensures.text
     (subst (λ (p : Pass). HasBegun (g.C.Clock.may c.args.self.now.handler.clock.now) Three c.cred-cred.result
     (Snd c.id-id.result c.mtype-mtype.result c.from_bits_retain-none.result) c.recall.new.text

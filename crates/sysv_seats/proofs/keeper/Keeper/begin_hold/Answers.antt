@@ -26,7 +26,7 @@ returns-in-Ok-clause-begun g c = λ text.
     let came = simp to_z-of_z at c.begin_receive-came.ensures.begun in
     let begun = rw c.ask_for_writing.ensures.handles.1 at came in
     let held = simp to_z-of_z at c.keep.ensures.message in
-    let can : can_hold c.args.flags c.args.self.now.message ≡ true = search rules in
+    let can : can_hold c.args.flags c.args.self.now.hand.message ≡ true = search rules in
     let asked = simp to_z-of_z at c.ask_for_writing.ensures.asks in
     let asks = subst (λ (r : Result ⊤ Errno). AsksForWriting c.args.cred c.args.id c.args.self.now.handler.pass r
     c.ask_for_writing.new.self.pass) c.in-Ok.is asked in

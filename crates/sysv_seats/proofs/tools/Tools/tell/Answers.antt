@@ -1,30 +1,13 @@
 -- The notifications of a call are kept one after another.
-use Rattle.std.proofs.Common.{◌≡◌, ◌∙◌, List, [], ◌∷◌, ◌++◌, ap, append_assoc, arith, length, length-append, subst}
+use Rattle.std.proofs.Common.{◌++◌, List, [], ◌∷◌}
 use Rattle.std.specs.Prelude.{if◌then◌else◌}
 use Rattle.std.specs.Option.{option_to_list}
 use Rattle.sysv_seats.specs.declared.notification.Notification.{Notification}
 use Rattle.sysv_seats.specs.declared.notification.Notification.TheVariants as notifications
 use Rattle.sysv_seats.specs.declared.notification.Told.{Told}
 use Rattle.sysv_seats.specs.declared.tools.Tools.{Tools}
-use Rattle.sysv_seats.specs.Notification.{Keeps, notifications_in}
+use Rattle.sysv_seats.proofs.Keeping.{keeps_both}
 use Rattle.sysv_seats.proofs.tools.Tools.tell.Goals as goal
-
--- Some were kept, and then more.
-keeps_both : (some more : List Notification) (old mid new : Tools) → Keeps some old mid → Keeps more mid new →
-    Keeps (some ++ more) old new
-keeps_both some more old mid new first second = (
-  subst (λ (t : Tools). new ≡ record t { notifications = new.notifications }) first.0 second.0,
-  second.1 ∙ first.1,
-  λ fits.
-      let there = notifications_in old in
-      let all = length-append there (some ++ more) in
-      let both = length-append some more in
-      let few = length-append there some in
-      let one : notifications_in mid ≡ there ++ some = first.2 (omega (arith, fits, all, both, few)) in
-      let long = length-append (notifications_in mid) more in
-      let two = second.2 (omega (arith, fits, all, both, few, long, first.1, ap (length {A = Notification}) one)) in
-      two ∙ (ap (λ (l : List Notification). l ++ more) one ∙ append_assoc there some more),
-)
 
 abbrev released : Told → List Notification
 released told = if told.released then notifications.Released ∷ [] else []

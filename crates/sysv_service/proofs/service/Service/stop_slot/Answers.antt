@@ -3,7 +3,7 @@ use Rattle.std.proofs.lemmas.Int.{to_z-of_z}
 use Rattle.sysv_model.specs.declared.attributes.Row.{Row}
 use Rattle.sysv_model.specs.declared.errno.Errno.TheVariants.{EOVERFLOW}
 use Rattle.sysv_service.proofs.SlotBySlot.{worn_at, vacant_at, removed_at, overflowed_at, refused_at}
-use Rattle.sysv_service.specs.Stopped.{StopsAt, count_of, is_refused}
+use Rattle.sysv_service.specs.Stopped.{StopsSlot}
 use Rattle.sysv_service.proofs.service.Service.stop_slot.Goals as goal
 
 pub returns-in_err-row-clause-stopped : goal.returns-in_err-row-clause-stopped
@@ -11,7 +11,7 @@ returns-in_err-row-clause-stopped g c =
     let worn = worn_at c.args.slot c.args.pass.now c.list_row.result c.in_err-row.field-0.0 c.list_row.new.pass
     c.requires.slot c.in_err-row.was c.list_row.ensures.told in
     let is : c.from_residual.result ≡ Err c.in_err-row.field-0.0 = search rules in
-    subst (λ r. StopsAt c.args.slot c.args.pass.now (count_of r) (is_refused r) c.list_row.new.pass) (sym is) worn
+    subst (λ r. StopsSlot c.args.slot c.args.pass.now r c.list_row.new.pass) (sym is) worn
 
 pub returns-in_default-clause-stopped : goal.returns-in_default-clause-stopped
 returns-in_default-clause-stopped g c =
