@@ -5,7 +5,7 @@ ghost use Rattle.sysv_connect.specs.Files.{Saves};
 ghost use Rattle.sysv_connect.specs.Links.{left_by, taken_by};
 ghost use Rattle.sysv_connect.specs.Visits.{Visited};
 
-use crate::connection::no_link;
+use crate::connection::no_link_said;
 use crate::contact::{Contact, Visit};
 use crate::ending::FAULT;
 use crate::holds::tell;
@@ -35,14 +35,14 @@ pub struct Saving<'a> {
 /// messages. Each queue that is refused is named on standard error, and the status is that of a
 /// fault then. Faults are reported there too. It makes at most one connection, and returns it.
 pub fn save_at<P: Place, S: Write>(
-    rt: &(impl Print + Eprint + AllocGlobal),
+    rt: &(impl Eprint + AllocGlobal),
     place: P,
     cred: Cred,
     saving: &Saving<'_>,
     screen: &mut Screen<S>,
 ) -> Visit<P, Link<P::Input, P::Output>>
     ensures { Visited (P.refuses place saving.now.path.now) place
-        (Fails result.exit
+        (λ _. Fails result.exit
         × (S.contents screen.new.writer ≡ S.contents screen.old.writer))
         (λ link. Saves cred result.exit
         (P.incoming place saving.now.path.now) (left_by P.Input.remaining link)
@@ -63,13 +63,13 @@ pub fn save_at<P: Place, S: Write>(
             exit: save_on(rt, &mut link, &teller, cred, screen),
             contact: Contact::Made(link),
         },
-        Err(unlinked) => no_link(rt, &teller, unlinked),
+        Err(unlinked) => no_link_said(rt, &teller, unlinked),
     }
 }
 
 /// Saves queues over a connection like `save_at`.
 fn save_on<R: Leave, W: Write + Drop, S: Write>(
-    rt: &(impl Print + Eprint + AllocGlobal),
+    rt: &(impl Eprint + AllocGlobal),
     link: &mut Link<R, W>,
     teller: &Teller<'_>,
     cred: Cred,

@@ -53,7 +53,7 @@ impl<S: Write> Write for Screen<S> {
 
 /// Writes the bytes and flushes them. Returns whether that succeeded. If it did not, a prefix of
 /// the bytes was written.
-pub(crate) fn put<S: Write>(stream: &mut S, bytes: &[u8]) -> bool
+pub fn put<S: Write>(stream: &mut S, bytes: &[u8]) -> bool
     ensures whole { result ≡ true → Appends (S.contents stream.old) (S.contents stream.new)
         bytes.now }
     ensures part { AppendsPrefix (S.contents stream.old) (S.contents stream.new) bytes.now }
