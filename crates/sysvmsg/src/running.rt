@@ -198,10 +198,11 @@ fn telling_of(words: &[String]) -> Telling
     ensures { result ≡ asked_by (map string_bytes words.now) }
 {
     for word in words {
-        match word.as_str() {
-            "--" => return Telling::Line,
-            "--stderr" => return Telling::Sentence,
-            _ => {}
+        if word.as_str() == "--" {
+            return Telling::Line;
+        }
+        if word.as_str() == "--stderr" {
+            return Telling::Sentence;
         }
     }
     Telling::Line
