@@ -72,8 +72,6 @@ pub(crate) struct Accepting<'a, L, I: Drop, H> {
     told: Told,
     /// Where the state of the server is shown.
     desk: Desk,
-    /// The number of blocks in the pool.
-    blocks: u32,
     /// Whether the state of the server is shown.
     stats: bool,
     /// Whether a session is served alone before the others, and one after them.
@@ -98,7 +96,6 @@ impl<'a, L: Listens, I: Input + Drop, H: Host> Accepting<'a, L, I, H> {
         retries: bool,
         input: Option<I>,
         most: u64,
-        blocks: u32,
         stats: bool,
         alone: bool,
         server: &'a ServerState,
@@ -122,7 +119,6 @@ impl<'a, L: Listens, I: Input + Drop, H: Host> Accepting<'a, L, I, H> {
             reason: None,
             told: Told::NOTHING,
             desk: Desk::closed(),
-            blocks,
             stats,
             alone,
             goes_on: false,
@@ -150,7 +146,6 @@ impl<'a, L: Listens, I: Input + Drop, H: Host> Accepting<'a, L, I, H> {
             reason,
             told: _,
             desk: _,
-            blocks: _,
             stats: _,
             alone: _,
             goes_on: _,
@@ -236,12 +231,11 @@ impl<'a, L: Listens, I: Input + Drop, H: Host> Accepting<'a, L, I, H> {
             alloc: self.alloc,
             server: self.server,
             listeners: &listeners,
-            blocks: self.blocks,
-            accepted: self.accepted,
             started: self.desk.started(),
         };
         let acceptor = Acceptor {
             view,
+            accepted: self.accepted,
             limits: self.limits,
             host: self.host,
         };
@@ -466,6 +460,8 @@ impl Told {
 #[derive(Drop)]
 struct Acceptor<'v, 'h, H> {
     view: View<'v>,
+    /// The number of connections that were accepted.
+    accepted: u64,
     /// The limits under which the clients may be cut off.
     limits: Limits,
     host: &'h H,
@@ -594,7 +590,7 @@ impl<H: Host> Acceptor<'_, '_, H> {
 
     /// Returns how many more clients there is room for.
     fn room(&self) -> u64 {
-        self.view.server.room(self.view.accepted)
+        self.view.server.room(self.accepted)
     }
 
     /// Waits until the input or the doorbell can be read, a client waits at one of the listeners, or

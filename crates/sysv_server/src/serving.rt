@@ -237,7 +237,7 @@ fn run<L: Listens, I: Input + Drop, H: Host, R: Threads + Wait + Net + Sync>(
     };
     let limits = Limits::of_seconds(patience.idle, patience.stall, drain);
     let mut source = Accepting::new(
-        alloc, listener, limits, retries, input, sessions, blocks, stats, alone, &server, host,
+        alloc, listener, limits, retries, input, sessions, stats, alone, &server, host,
     );
     let outcome = serve_arrivals(
         rt,
