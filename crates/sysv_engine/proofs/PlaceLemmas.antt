@@ -257,7 +257,8 @@ module _ {T B C : Type 0} (incoming outgoing : T → Option (List ℕ)) (closes 
             returns = holds.returns;
             dialogues = holds.dialogues;
             on = holds.on;
-            closed = subst (λ (b : B). Closes incoming outgoing closes old.book holds.dialogue b) (sym same.3) holds.closed;
+            closed = subst (λ (b : B). Closes incoming outgoing closes old.book holds.dialogue b) (sym same.3)
+                holds.closed;
           };
           adds = same.1 ∙ one.adds;
           counts = same.2 ∙ one.counts;

@@ -91,8 +91,8 @@ module _ {T : Type 0} (incoming outgoing : T → Option (List ℕ)) (callers : T
       (client.dialogue.session.caller ≡ None → client.dialogue.session.requests ≡ 0) →
       HasStopped incoming outgoing callers newest start origin client now sent why →
       closes.leaves book (incoming client.connection) (outgoing client.connection) book' →
-      IsOver incoming outgoing callers closes newest start origin client.connection (report why client.dialogue) now book
-      book'
+      IsOver incoming outgoing callers closes newest start origin client.connection (report why client.dialogue) now
+      book book'
   closed_in closes newest start origin client now book book' sent why wrote counted stopped done =
       let let_in = lets newest (callers origin) (report why client.dialogue) (begun_with start) stopped.2 stopped.0
       (outgoing origin) (outgoing client.connection) (incoming origin) client.dialogue.session.caller counted
@@ -112,8 +112,8 @@ module _ {T : Type 0} (incoming outgoing : T → Option (List ℕ)) (callers : T
       Appends (outgoing origin) (outgoing client.connection) sent →
       HasDenied incoming outgoing callers newest start origin client now sent why →
       closes.leaves book (incoming client.connection) (outgoing client.connection) book' →
-      IsOver incoming outgoing callers closes newest start origin client.connection (report why client.dialogue) now book
-      book'
+      IsOver incoming outgoing callers closes newest start origin client.connection (report why client.dialogue) now
+      book book'
   closed_denied closes newest start origin client now book book' sent why wrote denied done = record {
     rest = denied.rest;
     serves = inr (record {
@@ -140,8 +140,8 @@ module _ {T : Type 0} (incoming outgoing : T → Option (List ℕ)) (callers : T
       HasStopped incoming outgoing callers newest start origin client now sent why
       ⊎ HasDenied incoming outgoing callers newest start origin client now sent why →
       closes.leaves book (incoming client.connection) (outgoing client.connection) book' →
-      IsOver incoming outgoing callers closes newest start origin client.connection (report why client.dialogue) now book
-      book'
+      IsOver incoming outgoing callers closes newest start origin client.connection (report why client.dialogue) now
+      book book'
   closed_at closes newest start origin client now book book' sent why wrote counted (inl stopped) done =
       closed_in closes newest start origin client now book book' sent why wrote counted stopped done
   closed_at closes newest start origin client now book book' sent why wrote counted (inr denied) done =
