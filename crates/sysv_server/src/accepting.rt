@@ -192,7 +192,7 @@ impl<'a, L: Listens, I: Input + Drop, H: Host> Accepting<'a, L, I, H> {
     }
 
     /// Accepts the next connection. The error is why no more connections are to be accepted.
-    #[tactic(auto, using(sysv_engine::proofs::Looking::looks_stay, crate::proofs::Came::came_on, crate::proofs::Came::came_once, crate::proofs::Came::came_quiet, crate::proofs::Came::came_still))]
+    #[tactic(auto, using(sysv_engine::proofs::Looking::looks_stay, crate::proofs::Came::came_on, crate::proofs::Came::came_once, crate::proofs::Came::came_quiet, crate::proofs::Came::came_still, crate::proofs::Came::failed_since))]
     fn accept<R: Wait>(&mut self, rows: &mut Rows<'_, R>) -> Result<SocketStream, Reason>
         ensures same { (self.new.most ≡ self.old.most) × (self.new.accepted ≡ self.old.accepted)
             × (self.new.reason ≡ self.old.reason) × (self.new.limits ≡ self.old.limits)
@@ -201,7 +201,8 @@ impl<'a, L: Listens, I: Input + Drop, H: Host> Accepting<'a, L, I, H> {
         ensures bounded { IfOk result (λ _. self.old.most ≢ 0 →
             self.old.accepted < self.old.most) }
         ensures opened { OnOk result (L.listens self.new.listener.now ≡ true) }
-        ensures ended { IfErr result (λ why. HasEnded L.listens I.reads L.fails self.old why) }
+        ensures ended { IfErr result (λ why. HasEnded L.listens I.reads L.fails L.steps
+            self.old why) }
         ensures ok { IfOk result (λ stream. L.accepted self.new.listener.now
             ≡ added (L.accepted self.old.listener.now) (stream ∷ [])) }
         ensures limits { IfOk result (λ stream. limits_of stream ≡ self.old.limits) }
@@ -494,7 +495,7 @@ impl<H: Host> Acceptor<'_, '_, H> {
         retries: bool,
     ) -> Result<SocketStream, Reason>
         ensures input { is_some input.new ≡ is_some input.old }
-        ensures ended { IfErr result (EndsWait I.reads L.fails (is_some input.old)) }
+        ensures ended { IfErr result (EndsWait I.reads L.fails L.steps (is_some input.old) listener.old) }
         ensures ok { IfOk result (λ stream.
             L.accepted listener.new ≡ added (L.accepted listener.old) (stream ∷ [])) }
         ensures limits { IfOk result (λ stream. limits_of stream ≡ self.now.limits) }
