@@ -103,7 +103,7 @@ IsOn incoming outgoing closes connection dialogue = (dialogue.left ≡ incoming 
 -- wrote, and still had the bytes that the session left, except those that were read ahead. Its reads had said what the
 -- session ended for, and what might break it off is what might break off the session.
 abbrev pub Closes : {T B : Type 0} → (incoming outgoing : T → Option (List ℕ)) → Closing T B → B → Dialogue → B → Type 0
-Closes {T} incoming outgoing closes book dialogue book' =
+Closes {T} {B} incoming outgoing closes book dialogue book' =
     (last : T) × (dialogue.breaks ≡ closes.breaks last) × (dialogue.said ≡ closes.said last)
     × IsBehind dialogue.rest (incoming last) × (dialogue.more ≡ outgoing last)
     × closes.leaves book (incoming last) (outgoing last) book'
