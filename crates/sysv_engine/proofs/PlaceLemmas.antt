@@ -124,14 +124,14 @@ module _ {T B C : Type 0} (incoming outgoing : T → Option (List ℕ)) (closes 
   record Closed (newest : Version) (start : Pass) (connection : T) (told : Option Served) (after : Timed Pass)
       (book book' : B) : Type 0 where
     pub rest : Option (List ℕ)
-    pub kept : Option (List ℕ)
-    pub more : Option (List ℕ)
+    pub last : T
+    pub same : closes.breaks connection ≡ closes.breaks last
     pub dialogues : ConversesAs newest (lets_in closes connection) start told (incoming connection) rest (outgoing
-        connection) more after
-    pub behind : IsBehind rest kept
-    pub closed : closes.leaves book kept more book'
+        connection) (outgoing last) after
+    pub behind : IsBehind rest (incoming last)
+    pub closed : closes.leaves book (incoming last) (outgoing last) book'
     pub caused : MayTell (closes.breaks connection) told
-    pub said : TellsAsSaid closes connection told
+    pub said : closes.said connection ≡ None → TellsAsSaid (closes.said last) told
 
   leaves : (newest : Version) (connection : T) (start : Pass) (sums : Sums) (refused : ℕ) (book : B)
       (told : Option Served) (after : Timed Pass) (sums' : Sums) (refused' : ℕ) (book' : B) →
@@ -142,20 +142,22 @@ module _ {T B C : Type 0} (incoming outgoing : T → Option (List ℕ)) (closes 
     told = told;
     holds = record {
       dialogue = record {
+        breaks = closes.breaks connection;
         callers = lets_in closes connection;
         told = told;
+        said = closes.said done.last;
         late = after.late;
         back = None;
         left = incoming connection;
         rest = done.rest;
         taken = outgoing connection;
-        more = done.more;
+        more = outgoing done.last;
       };
       reports = refl;
       returns = refl;
       dialogues = (done.dialogues, refl);
-      on = (refl, refl, done.caused, done.said, refl);
-      closed = (done.kept, done.behind, done.closed);
+      on = (refl, refl, done.caused, done.said, refl, refl);
+      closed = (done.last, done.same, refl, done.behind, refl, done.closed);
     };
     adds = adds;
     counts = counts;
@@ -182,7 +184,9 @@ module _ {T B C : Type 0} (incoming outgoing : T → Option (List ℕ)) (closes 
               returns = refl;
               dialogues = holds.dialogues;
               on = holds.on;
-              closed = subst (λ (b : B). Closes closes old.book (record holds.dialogue { back = back }) b) (sym same.3)
+              closed = subst (λ (b : B). Closes incoming outgoing closes old.book (record holds.dialogue {
+                back = back;
+              }) b) (sym same.3)
                   holds.closed;
             };
             adds = same.1 ∙ one.adds;
@@ -253,7 +257,8 @@ module _ {T B C : Type 0} (incoming outgoing : T → Option (List ℕ)) (closes 
             returns = holds.returns;
             dialogues = holds.dialogues;
             on = holds.on;
-            closed = subst (λ (b : B). Closes closes old.book holds.dialogue b) (sym same.3) holds.closed;
+            closed = subst (λ (b : B). Closes incoming outgoing closes old.book holds.dialogue b) (sym same.3)
+                holds.closed;
           };
           adds = same.1 ∙ one.adds;
           counts = same.2 ∙ one.counts;
@@ -488,7 +493,8 @@ module _ {T B : Type 0} (incoming outgoing : T → Option (List ℕ)) (closes : 
       new.refused ≡ capped (old.refused + one_refused (Some served)) →
       ((newest : Version) (start : Pass) (now : Timed Pass) (origin : T) →
       Sits incoming outgoing (lets_in closes) newest start origin client now →
-      IsOver incoming outgoing (lets_in closes) closes newest start origin served now old.book book') →
+      IsOver incoming outgoing (lets_in closes) closes newest start origin client.connection served now old.book
+      book') →
       MayEnd (closes.breaks client.connection) served.«end» →
       (IsAsSaid closes client → EndsAsSaid (closes.said client.connection) served.«end») →
       KeepsPlace incoming outgoing closes old new
@@ -502,13 +508,13 @@ module _ {T B : Type 0} (incoming outgoing : T → Option (List ℕ)) (closes : 
       (Some served) new.sums new.refused book'
       (λ newest start origin left at sits. let done = over newest start left origin sits.0 in record {
         rest = done.rest;
-        kept = done.kept;
-        more = done.more;
+        last = client.connection;
+        same = sym sits.1;
         dialogues = done.serves;
         behind = done.behind;
         closed = done.closed;
         caused = subst (λ b. MayEnd b served.«end») sits.1 cause;
-        said = (client.connection, λ none. said (sits.3 none));
+        said = λ none. said (sits.3 none);
       })
       sums refused stood in
       let view : record (view_of old) { sums = new.sums; refused = new.refused; book = book' } ≡ view_of new = cc in (

@@ -103,7 +103,7 @@ module _ {W T B : Type 0} (incoming outgoing : T → Option (List ℕ)) (closes 
     dialogues : List Dialogue
     folds : FoldsTo (Converses (newest w)) (pass w) dialogues (pass w')
     on : Each2 (IsOn incoming outgoing closes) items dialogues
-    closed : FoldsTo (Closes closes) (book w) dialogues (book w')
+    closed : FoldsTo (Closes incoming outgoing closes) (book w) dialogues (book w')
     adds : sums w' ≡ sums_of (xs ++ reports_of dialogues)
     counts : refused w' ≡ refused_of (xs ++ reports_of dialogues)
     fated : fates w' ≡ fates_of (bs ++ backs_of dialogues)

@@ -9,22 +9,26 @@ use Rattle.sysv_wire.specs.declared.frame.Version.{Version}
 use Rattle.sysv_wire.specs.declared.reply.Reply.{Reply as Answer}
 use Rattle.sysv_seats.specs.GivingBack.{GivesBack}
 use Rattle.sysv_seats.specs.declared.callers.Callers.{Callers}
+use Rattle.sysv_seats.specs.declared.non_blocking.Over.{Over}
 use Rattle.sysv_seats.specs.Holding.{Timed, begun_with}
-use Rattle.sysv_seats.specs.Breaking.{MayTell}
+use Rattle.sysv_seats.specs.Breaking.{Breaks, MayTell}
 use Rattle.sysv_seats.specs.LettingIn.{IsDenied, ServesFor}
 use Rattle.sysv_seats.specs.Said.{TellsAsSaid}
 use Rattle.sysv_seats.specs.Sits.{IsBehind, zero_moment}
 use Rattle.sysv_seats.specs.Untold.{Closing, lets_in}
 use Rattle.sysv_engine.specs.Made.{GivesBackIn, Log, ServesLogFor}
 
--- One session: the callers that its connection lets in; what it reported, if anything; the bytes that could
+-- One session: what might break it off; the callers that its connection lets in; what it reported, if anything; why
+-- nothing more could be read, if a read of its connection had said so at its end; the bytes that could
 -- still be read before it and after it; and the bytes that were written before it and after it. The bytes are
 -- known if the connection tells them. `late` are the replies to the sends that gave back messages of the session before
 -- its end, since their time was over. If the session held a message at its end, `back` is the outcome of the
 -- send that gave the message back, or that the send was left at a wait.
 pub record Dialogue : Type 0 where
+  pub breaks : Breaks
   pub callers : Callers
   pub told : Option Served
+  pub said : Option Over
   pub late : List Answer
   pub back : Option RequestOutcome
   pub left : Option (List ℕ)
@@ -87,15 +91,19 @@ ConversesIn newest before dialogue after = (mid : Timed Log)
 -- The session was one over this very connection: it began with the bytes that the connection had, and
 -- ended for a reason that there is. So it did not end with `Fault(Read)` unless reading from the
 -- connection may break off, nor with `Reset` unless its client may reset it, nor with `Write` or `Left`
--- unless writing to it may break off. It reported what the reads of the connection had said. It let in the callers that
--- the connection lets in.
+-- unless writing to it may break off. If no read of the connection had said anything before it, it ended for what they
+-- had said at its end. It let in the callers that the connection lets in.
 abbrev pub IsOn : {T B : Type 0} → (incoming outgoing : T → Option (List ℕ)) → Closing T B → T → Dialogue → Type 0
 IsOn incoming outgoing closes connection dialogue = (dialogue.left ≡ incoming connection)
     × (dialogue.taken ≡ outgoing connection) × MayTell (closes.breaks connection) dialogue.told
-    × TellsAsSaid closes connection dialogue.told × (dialogue.callers ≡ lets_in closes connection)
+    × (closes.said connection ≡ None → TellsAsSaid dialogue.said dialogue.told)
+    × (dialogue.callers ≡ lets_in closes connection) × (dialogue.breaks ≡ closes.breaks connection)
 
--- The connection of the session was closed with what the session had written, and with the bytes
--- that the session left, except those that were read ahead.
-abbrev pub Closes : {T B : Type 0} → Closing T B → B → Dialogue → B → Type 0
-Closes closes book dialogue book' =
-    (kept : Option (List ℕ)) × IsBehind dialogue.rest kept × closes.leaves book kept dialogue.more book'
+-- The connection of the session, as it was at the end, was closed into the book: it had been written what the session
+-- wrote, and still had the bytes that the session left, except those that were read ahead. Its reads had said what the
+-- session ended for, and what might break it off is what might break off the session.
+abbrev pub Closes : {T B : Type 0} → (incoming outgoing : T → Option (List ℕ)) → Closing T B → B → Dialogue → B → Type 0
+Closes {T} {B} incoming outgoing closes book dialogue book' =
+    (last : T) × (dialogue.breaks ≡ closes.breaks last) × (dialogue.said ≡ closes.said last)
+    × IsBehind dialogue.rest (incoming last) × (dialogue.more ≡ outgoing last)
+    × closes.leaves book (incoming last) (outgoing last) book'

@@ -37,7 +37,7 @@ module _ {T B : Type 0} (incoming outgoing : T → Option (List ℕ)) (closes : 
   abbrev pub Sat : Desk T B → Shift → Type 0
   Sat desk shift =
       Each2 (IsOn incoming outgoing closes) desk.connections shift.dialogues
-      × FoldsTo (Closes closes) desk.first shift.dialogues desk.last
+      × FoldsTo (Closes incoming outgoing closes) desk.first shift.dialogues desk.last
 
   -- The places of these desks worked these shifts at the gates. There was one place for each book.
   -- Each began with its book and with a pass of the gates that holds no chain.

@@ -127,7 +127,7 @@ module _ {T B : Type 0} (incoming outgoing : T → Option (List ℕ)) (closes : 
     pub returns : dialogue.back ≡ back
     pub dialogues : Talks newest before dialogue after
     pub on : IsOn incoming outgoing closes connection dialogue
-    pub closed : Closes closes book dialogue book'
+    pub closed : Closes incoming outgoing closes book dialogue book'
 
   -- One more session was held, on this connection, and it was added to the sums.
   pub record Leaves (newest : Version) (connection : T) (before : Pass) (sums : Sums) (refused : ℕ) (book : B)

@@ -1,7 +1,8 @@
 //! The rows of a running service.
 ghost use Rattle.std.specs.Option.{ForSome};
-ghost use Rattle.std.specs.Prelude.{◌≡◌};
+ghost use Rattle.std.specs.Prelude.{◌≡◌, ◌+◌};
 ghost use Rattle.sysv_service.specs.Seats.{AreOf};
+ghost use Rattle.sysv_engine.specs.Added.{capped};
 ghost use Rattle.sysv_engine.specs.Looking.{LookedBy, ReadsRow, SplitsOff, TakesBack};
 
 use std::alloc::Global;
@@ -9,28 +10,43 @@ use std::sync::Wait;
 use sysv_model::Row;
 use sysv_service::{Pass, Service};
 
-/// The rows of a running service, read with a pass of their own. Without one no row is read.
+/// The rows of a running service, read with a pass of their own. Without one no row is read. It is known
+/// too how many blocks the pool of the service has, and how many connections the source of the server
+/// has returned.
 ///
 /// Such a value can be neither dropped nor copied; end it with `close`.
 pub struct Rows<'p, R> {
     rt: &'p R,
     service: &'p Service,
     pass: Option<Pass>,
+    /// The number of blocks in the pool.
+    blocks: u32,
+    /// The number of connections that the source has returned. It stays at 2^64 - 1 once it has reached
+    /// it.
+    returned: u64,
     ghost fits: { ForSome pass (λ own. AreOf service.now own.seats) },
+    ghost pool: { service.now.pool.opening.size ≡ blocks },
 }
 
 impl<'p, R: Wait> Rows<'p, R> {
     /// Splits a pass off from `pass`, with which the rows of its service are read, if `reads` is
-    /// true. Else it reads none.
+    /// true. Else it reads none. The source has returned no connection.
+    ///
+    /// # Conditions
+    ///
+    /// - The pool of the service has this number of `blocks`.
     pub(crate) fn open(
         rt: &'p R,
         alloc: Global,
         service: &'p Service,
         pass: &mut Pass,
         reads: bool,
+        blocks: u32,
     ) -> Rows<'p, R>
-        requires { AreOf service.now pass.old.seats }
+        requires pass { AreOf service.now pass.old.seats }
+        requires blocks { service.now.pool.opening.size ≡ blocks }
         ensures service { result.service.now ≡ service.now }
+        ensures returned { result.returned ≡ 0 }
         ensures pass { AreOf service.now pass.new.seats }
         ensures splits { SplitsOff reads pass.old result.pass pass.new }
     {
@@ -39,6 +55,8 @@ impl<'p, R: Wait> Rows<'p, R> {
                 rt,
                 service,
                 pass: None,
+                blocks,
+                returned: 0,
             };
         }
         let Ok(own) = service.split_pass(alloc, pass) else {
@@ -48,6 +66,8 @@ impl<'p, R: Wait> Rows<'p, R> {
             rt,
             service,
             pass: Some(own),
+            blocks,
+            returned: 0,
         }
     }
 
@@ -59,6 +79,7 @@ impl<'p, R: Wait> Rows<'p, R> {
         ensures service { self.new.service.now ≡ self.old.service.now }
         ensures told { ReadsRow slot self.old.pass result self.new.pass }
         ensures looked { LookedBy self.old.pass self.new.pass }
+        ensures returned { self.new.returned ≡ self.old.returned }
     {
         let Some(pass) = &mut self.pass else {
             return None;
@@ -71,6 +92,29 @@ impl<'p, R: Wait> Rows<'p, R> {
 }
 
 impl<R> Rows<'_, R> {
+    /// Returns the number of blocks in the pool of the service.
+    pub fn blocks(&self) -> u32
+        ensures { result ≡ self.now.service.now.pool.opening.size }
+    {
+        self.blocks
+    }
+
+    /// Returns the number of connections that the source of the server has returned.
+    pub fn returned(&self) -> u64
+        ensures { result ≡ self.now.returned }
+    {
+        self.returned
+    }
+
+    /// Counts a connection that the source has returned.
+    pub(crate) fn count(&mut self)
+        ensures service { self.new.service.now ≡ self.old.service.now }
+        ensures pass { self.new.pass ≡ self.old.pass }
+        ensures returned { self.new.returned ≡ capped (self.old.returned + 1) }
+    {
+        self.returned = self.returned.saturating_add(1);
+    }
+
     /// Joins its pass, if it has one, into `pass`, which is a pass of the same service.
     pub(crate) fn close(self, pass: &mut Pass)
         requires { AreOf self.service.now pass.old.seats }
@@ -81,6 +125,8 @@ impl<R> Rows<'_, R> {
             rt: _,
             service,
             pass: own,
+            blocks: _,
+            returned: _,
         } = self;
         if let Some(own) = own {
             service.join_pass(pass, own);

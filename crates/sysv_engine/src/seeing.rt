@@ -6,7 +6,7 @@ ghost use Rattle.sysv_service.specs.Seats.{AreOf};
 ghost use Rattle.sysv_engine.specs.Added.{IsBalanced};
 ghost use Rattle.sysv_engine.specs.Handled.{newest_of};
 ghost use Rattle.sysv_engine.specs.Headline.{ServesConnections};
-ghost use Rattle.sysv_engine.specs.Looks.{Looks};
+ghost use Rattle.sysv_engine.specs.Looks.{Follows, returned_after};
 ghost use Rattle.sysv_engine.specs.Serving.{HasLived, HiredFrom, LeavesConnections, RunsWith, WorkedFrom};
 
 use crate::alarm::Rest;
@@ -63,7 +63,7 @@ where
         return Err(ServeFault::NoMemory);
     };
     let outcome = serve_seeing(
-        rt, alloc, &service, &mut pass, source, books, watches, server, reads,
+        rt, alloc, &service, &mut pass, source, books, blocks, watches, server, reads,
     );
     let stop = service.stop_counting(rt, &mut pass);
     let closed = service.close(pass);
@@ -85,7 +85,7 @@ where
 
 /// Serves the connections of a source that may look at the queues if `reads` is true, like
 /// `serve_with`. What reads the rows has a pass of its own, which is taken back after those of all
-/// places.
+/// places. The pool of the service has this number of `blocks`.
 fn serve_seeing<
     T: NonBlocking + Drop + Send,
     S: Arrivals<T>,
@@ -98,6 +98,7 @@ fn serve_seeing<
     pass: &mut Pass,
     source: &mut S,
     books: &mut Vec<T::Book>,
+    blocks: u32,
     watches: Vec<(W, Rest)>,
     server: &ServerState,
     reads: bool,
@@ -105,6 +106,7 @@ fn serve_seeing<
 where
     T::Book: Send,
     requires pass { AreOf service.now pass.old.seats }
+    requires blocks { service.now.pool.opening.size ≡ blocks }
     requires count { (1 ≤ vec_len watches) × (vec_len watches ≤ vec_len books.old)
         × (vec_len watches ≤ MAX_WORKERS) }
     ensures pass { AreOf service.now pass.new.seats }
@@ -115,7 +117,7 @@ where
         (HiredFrom reads service.now pass.old pass.new) source.old books.old.items why source.new
         books.new.items) }
 {
-    let rows = Rows::open(rt, alloc, service, pass, reads);
+    let rows = Rows::open(rt, alloc, service, pass, reads, blocks);
     let mut seeing = Seeing::new(source, rows);
     let outcome = serve_with(
         rt,
@@ -162,9 +164,23 @@ impl<'s, 'p, S, R> Seeing<'s, 'p, S, R> {
 
 impl<T, S: Arrivals<T>, R: Wait> Source<T> for Seeing<'_, '_, S, R> {
     ghost gives = { λ old connection new. S.gives old.source.now connection new.source.now
-        × ((new.source.ghost_name ≡ old.source.ghost_name) × Looks old.rows new.rows) };
+        × ((new.source.ghost_name ≡ old.source.ghost_name) × Follows old.rows new.rows) };
 
-    fn next(&mut self) -> Option<T> {
-        self.source.next(&mut self.rows)
+    /// Returns the next connection, or `None` if there are no more. A connection is counted.
+    #[tactic(auto, using(crate::proofs::Looking::counted_then))]
+    fn next(&mut self) -> Option<T>
+        ensures gives { S.gives self.old.source.now result self.new.source.now
+            × ((self.new.source.ghost_name ≡ self.old.source.ghost_name)
+            × Follows self.old.rows self.new.rows) }
+        ensures returned { self.new.rows.returned
+            ≡ returned_after result self.old.rows.returned }
+    {
+        match self.source.next(&mut self.rows) {
+            Some(connection) => {
+                self.rows.count();
+                Some(connection)
+            }
+            None => None,
+        }
     }
 }

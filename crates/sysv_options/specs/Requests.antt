@@ -37,13 +37,16 @@ AsksFor (Some found) asked = CommandAsks found.0 found.1 asked
 AsksFor None asked = ⊥
 
 -- These words, on this command line, have matches that make this request. They are the matches that
--- clap defines, if it defines any: it does so for a command line without groups of options.
+-- clap defines, if it defines any: it does so for a command line without groups of options and without options that
+-- take negative numbers. That of sysvmsg(1) has both, so of it this states that there are matches which make the
+-- request.
 abbrev pub IsAskedBy : App → List (List ℕ) → Requested → Type 0
 IsAskedBy line words asked =
     (matches : ArgMatches) × HasMatchesOf line words matches × AsksFor (subcommand_rows_of matches) asked
 
 -- These words were refused on this command line by this error. If clap takes them, and memory was not refused,
--- they make no request. It takes no words on a command line with groups of options.
+-- they make no request. It defines which words it takes for such a command line alone, so of that of sysvmsg(1) this
+-- states nothing.
 abbrev pub IsRefused : App → List (List ℕ) → Error → Type 0
 IsRefused line words error =
     takes line words ≡ true → ¬ (kind_of error ≡ OutOfMemory) → (asked : Requested) → ¬ IsAskedBy line words asked

@@ -91,7 +91,8 @@ module _ {T : Type 0} (incoming outgoing : T → Option (List ℕ)) (callers : T
       (client.dialogue.session.caller ≡ None → client.dialogue.session.requests ≡ 0) →
       HasStopped incoming outgoing callers newest start origin client now sent why →
       closes.leaves book (incoming client.connection) (outgoing client.connection) book' →
-      IsOver incoming outgoing callers closes newest start origin (report why client.dialogue) now book book'
+      IsOver incoming outgoing callers closes newest start origin client.connection (report why client.dialogue) now
+      book book'
   closed_in closes newest start origin client now book book' sent why wrote counted stopped done =
       let let_in = lets newest (callers origin) (report why client.dialogue) (begun_with start) stopped.2 stopped.0
       (outgoing origin) (outgoing client.connection) (incoming origin) client.dialogue.session.caller counted
@@ -100,8 +101,6 @@ module _ {T : Type 0} (incoming outgoing : T → Option (List ℕ)) (callers : T
       (incoming origin) stopped.0 (outgoing origin) (outgoing client.connection) sent stopped.4 wrote) in
       record {
         rest = stopped.0;
-        kept = incoming client.connection;
-        more = outgoing client.connection;
         serves = inl ((stopped.2, let_in.0, stopped.3), let_in.1);
         behind = stopped.1;
         closed = done;
@@ -113,11 +112,10 @@ module _ {T : Type 0} (incoming outgoing : T → Option (List ℕ)) (callers : T
       Appends (outgoing origin) (outgoing client.connection) sent →
       HasDenied incoming outgoing callers newest start origin client now sent why →
       closes.leaves book (incoming client.connection) (outgoing client.connection) book' →
-      IsOver incoming outgoing callers closes newest start origin (report why client.dialogue) now book book'
+      IsOver incoming outgoing callers closes newest start origin client.connection (report why client.dialogue) now
+      book book'
   closed_denied closes newest start origin client now book book' sent why wrote denied done = record {
     rest = denied.rest;
-    kept = incoming client.connection;
-    more = outgoing client.connection;
     serves = inr (record {
       version = denied.version;
       cred = denied.cred;
@@ -142,7 +140,8 @@ module _ {T : Type 0} (incoming outgoing : T → Option (List ℕ)) (callers : T
       HasStopped incoming outgoing callers newest start origin client now sent why
       ⊎ HasDenied incoming outgoing callers newest start origin client now sent why →
       closes.leaves book (incoming client.connection) (outgoing client.connection) book' →
-      IsOver incoming outgoing callers closes newest start origin (report why client.dialogue) now book book'
+      IsOver incoming outgoing callers closes newest start origin client.connection (report why client.dialogue) now
+      book book'
   closed_at closes newest start origin client now book book' sent why wrote counted (inl stopped) done =
       closed_in closes newest start origin client now book book' sent why wrote counted stopped done
   closed_at closes newest start origin client now book book' sent why wrote counted (inr denied) done =
@@ -155,12 +154,15 @@ module _ {T : Type 0} (incoming outgoing : T → Option (List ℕ)) (callers : T
       closes.leaves book (incoming client.connection) (outgoing client.connection) book' →
       (newest : Version) (start : Pass) (now : Timed Pass) (origin : T) →
       Sits incoming outgoing callers newest start origin old now →
-      IsOver incoming outgoing callers closes newest start origin served now book book'
+      IsOver incoming outgoing callers closes newest start origin old.connection served now book book'
   closed_over closes old client why served book book' same reason is counted done newest start now origin sits =
       let here =
       subst (λ (c : Sitting T). Sits incoming outgoing callers newest start origin c now) (sym same) sits in
-      subst (λ (s : Served). IsOver incoming outgoing callers closes newest start origin s now book book')
+      subst (λ (c : Sitting T). IsOver incoming outgoing callers closes newest start origin c.connection served now book
+      book') same
+      (subst (λ (s : Served). IsOver incoming outgoing callers closes newest start origin client.connection s now book
+      book')
       (sym (is ∙ ap (λ (w : End). report w client.dialogue) reason))
       (closed_at closes newest start origin client now book book' here.sent
       (end_at_close client.parked client.stopped) here.wrote counted
-      (closing_at newest start origin client now here.sent client.parked client.stopped here.at) done)
+      (closing_at newest start origin client now here.sent client.parked client.stopped here.at) done))

@@ -29,14 +29,12 @@ EndsAsSaid (Some over.End) why = why ≢ Reset
 EndsAsSaid (Some over.Reset) why = (why ≡ Reset) ⊎ (why ≡ Write)
 EndsAsSaid (Some over.Failed) why = (why ≡ Fault Read) ⊎ (why ≡ Write)
 
-module _ {T B : Type 0} (closes : Closing T B) where
-  -- The session on this connection reported this, if anything, and it ended for what the reads of the connection
-  -- have said at its end, unless they had said something before it began.
-  abbrev pub TellsAsSaid : T → Option Served → Type 0
-  TellsAsSaid connection None = ⊤
-  TellsAsSaid connection (Some served) =
-      (last : T) × (closes.said connection ≡ None → EndsAsSaid (closes.said last) served.«end»)
+-- A session reported this, if anything, and it ended for what the reads of its connection have said.
+abbrev pub TellsAsSaid : Option Over → Option Served → Type 0
+TellsAsSaid said None = ⊤
+TellsAsSaid said (Some served) = EndsAsSaid said served.«end»
 
+module _ {T B : Type 0} (closes : Closing T B) where
   -- The client has stopped for what the reads of its connection have said, or for nothing that they say.
   pub record IsAsSaid (client : Sitting T) : Type 0 where
     pub stops : StopsAsSaid (closes.said client.connection) client.parked client.stopped

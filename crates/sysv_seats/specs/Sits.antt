@@ -180,16 +180,14 @@ module _ {T : Type 0} (incoming outgoing : T → Option (List ℕ)) (callers : T
     pub at : IsAt newest start origin client now sent client.parked client.stopped
 
   -- The client's session, which began with the pass `start` on the connection `origin`, is over. It
-  -- reported this, and its connection was closed into the book. It may still hold a message.
-  pub record IsOver {B : Type 0} (closes : Closing T B) (newest : Version) (start : Pass) (origin : T)
+  -- reported this, and its connection, which was `last` then, was closed into the book. It may still hold a message.
+  pub record IsOver {B : Type 0} (closes : Closing T B) (newest : Version) (start : Pass) (origin last : T)
       (served : Served) (now : Timed Pass) (book book' : B) : Type 0 where
     pub rest : Option (List ℕ)
-    pub kept : Option (List ℕ)
-    pub more : Option (List ℕ)
     pub serves : ServesFor newest (callers origin) zero_moment ⊤ served start now (incoming origin) rest
-        (outgoing origin) more
-    pub behind : IsBehind rest kept
-    pub closed : closes.leaves book kept more book'
+        (outgoing origin) (outgoing last)
+    pub behind : IsBehind rest (incoming last)
+    pub closed : closes.leaves book (incoming last) (outgoing last) book'
 
   -- Wherever the client was before, it is still one of the same session.
   abbrev pub KeepsWith : (old : Sitting T) → Holder Pass → (new : Sitting T) → Holder Pass → Type 0

@@ -394,8 +394,8 @@ impl<T: NonBlocking> Client<T> {
     pub fn close(self, book: &mut T::Book) -> Served
         ensures over { (newest : Known) (start : Pass) (now : Timed Pass) (origin : T) →
             Sits T.incoming T.outgoing (lets_in T.closes) newest start origin self now →
-            IsOver T.incoming T.outgoing (lets_in T.closes) T.closes newest start origin result now
-            book.old book.new }
+            IsOver T.incoming T.outgoing (lets_in T.closes) T.closes newest start origin
+            self.connection result now book.old book.new }
         ensures cause { is_finished self ≡ true
             → MayEnd (T.closes.breaks self.connection) result.«end» }
         ensures said { IsAsSaid T.closes self

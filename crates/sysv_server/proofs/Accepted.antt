@@ -19,9 +19,9 @@ use Rattle.sysv_server.specs.declared.host.Reason.TheVariants.{Full, InputOver, 
 use Rattle.sysv_engine.specs.declared.sums.Sums.{Sums}
 use Rattle.sysv_engine.specs.declared.terms.Ended.{Ended}
 use Rattle.sysv_server.specs.Accepts.{Accepts, HasEnded}
-use Rattle.sysv_server.specs.Doors.{Came}
-use Rattle.sysv_server.proofs.Came.{came_on, came_still}
-use Rattle.sysv_server.specs.Listening.{HasFailed, IsOver, added}
+use Rattle.sysv_server.specs.Doors.{Came, FailedSince}
+use Rattle.sysv_server.proofs.Came.{came_on, came_still, failed_since}
+use Rattle.sysv_server.specs.Listening.{IsOver, added}
 use Rattle.sysv_engine.specs.Added.{capped, one_session}
 use Rattle.sysv_seats.specs.declared.socket_stream.SocketStream.{SocketStream}
 use Rattle.sysv_service.specs.Seats.{Gates}
@@ -64,22 +64,31 @@ module _ {A : Type 0} where
 
 -- ---- why a source may have ended
 
-module _ {L I : Type 0} (reads : I → ℕ → Result ℕ Error → I → Type 0) (fails : L → Error → L → Type 0) where
+module _ {L I : Type 0} (reads : I → ℕ → Result ℕ Error → I → Type 0) (fails : L → Error → L → Type 0)
+    (steps : L → Option SocketStream → L → Type 0) where
   -- Why a source may have ended before its last sessions, which are served alone.
-  abbrev EndsEarly : (alone input : Bool) → Option Reason → Type 0
-  EndsEarly alone input None = ⊥
-  EndsEarly alone input (Some Full) = ⊥
-  EndsEarly alone input (Some InputOver) = (input ≡ true) × IsOver reads
-  EndsEarly alone input (Some (NoSocket why)) = alone ≡ true
-  EndsEarly alone input (Some (Accept why)) = HasFailed fails why
+  abbrev EndsEarly : (alone input : Bool) → L → Option Reason → Type 0
+  EndsEarly alone input start None = ⊥
+  EndsEarly alone input start (Some Full) = ⊥
+  EndsEarly alone input start (Some InputOver) = (input ≡ true) × IsOver reads
+  EndsEarly alone input start (Some (NoSocket why)) = alone ≡ true
+  EndsEarly alone input start (Some (Accept why)) = FailedSince steps fails start why
 
-  early_cause : (alone input : Bool) (m sessions : ℕ) (reason : Option Reason) → EndsEarly alone input reason →
-      HasCause reads fails alone input m sessions reason
-  early_cause alone input m sessions None early = early
-  early_cause alone input m sessions (Some Full) early = absurd early
-  early_cause alone input m sessions (Some InputOver) early = early
-  early_cause alone input m sessions (Some (NoSocket why)) early = λ off. absurd (true≢false (sym early ∙ off))
-  early_cause alone input m sessions (Some (Accept why)) early = early
+  early_cause : (alone input : Bool) (m sessions : ℕ) (start : L) (reason : Option Reason) →
+      EndsEarly alone input start reason → HasCause reads fails steps alone input m sessions start reason
+  early_cause alone input m sessions start None early = early
+  early_cause alone input m sessions start (Some Full) early = absurd early
+  early_cause alone input m sessions start (Some InputOver) early = early
+  early_cause alone input m sessions start (Some (NoSocket why)) early = λ off. absurd (true≢false (sym early ∙ off))
+  early_cause alone input m sessions start (Some (Accept why)) early = early
+
+  early_since : (alone input : Bool) (a b : L) (xs : List SocketStream) (reason : Option Reason) → Came steps a xs b →
+      EndsEarly alone input b reason → EndsEarly alone input a reason
+  early_since alone input a b xs None came early = early
+  early_since alone input a b xs (Some Full) came early = early
+  early_since alone input a b xs (Some InputOver) came early = early
+  early_since alone input a b xs (Some (NoSocket why)) came early = early
+  early_since alone input a b xs (Some (Accept why)) came early = failed_since steps fails a b xs why came early
 
 -- ---- the connections of a listener
 
@@ -131,8 +140,8 @@ module _ {L I H : Type 0} (told : L → Option (List SocketStream)) (listens : L
 
   -- A source that gives one more has not reached its limit.
   ends_early : (s : Accepting L I H) (reason : Option Reason) → s.alone ≡ true
-      → (s.most ≢ 0 → s.accepted < s.most) → IsSomeAnd reason (HasEnded listens reads fails s)
-      → EndsEarly reads fails s.alone (is_some s.input) reason
+      → (s.most ≢ 0 → s.accepted < s.most) → IsSomeAnd reason (HasEnded listens reads fails steps s)
+      → EndsEarly reads fails steps s.alone (is_some s.input) s.listener.now reason
   ends_early s None alone low why = why
   ends_early s (Some Full) alone low full =
       let below_it = low full.0 in
@@ -144,19 +153,21 @@ module _ {L I H : Type 0} (told : L → Option (List SocketStream)) (listens : L
 
   -- while connections are given, the source has ended for no reason, or before its last sessions
   keeps : (items : List SocketStream) (s s' : Accepting L I H) → Given items s s'
-      → (s'.reason ≡ s.reason) ⊎ EndsEarly reads fails s.alone (is_some s.input) s'.reason
+      → (s'.reason ≡ s.reason) ⊎ EndsEarly reads fails steps s.alone (is_some s.input) s.listener.now s'.reason
   keeps [] s s' h = inl (sym (ap (λ (t : Accepting L I H). t.reason) h))
   keeps (x ∷ items) s s' h =
       let step = h.1 in
       elim (keeps items h.0 s' h.2) [
         | inr early ↦
-            inr (subst (λ b. EndsEarly reads fails b (is_some s.input) s'.reason) step.11
-            (subst (λ b. EndsEarly reads fails h.0.alone b s'.reason) step.5 early))
+            inr (early_since reads fails steps s.alone (is_some s.input) s.listener.now h.0.listener.now (x ∷ [])
+            s'.reason step.10
+            (subst (λ b. EndsEarly reads fails steps b (is_some s.input) h.0.listener.now s'.reason) step.11
+            (subst (λ b. EndsEarly reads fails steps h.0.alone b h.0.listener.now s'.reason) step.5 early)))
         | inl kept ↦
             elim step.4 [
               | inl same ↦ inl (kept ∙ same)
               | inr ended ↦
-                  inr (subst (λ r. EndsEarly reads fails s.alone (is_some s.input) r) (sym kept)
+                  inr (subst (λ r. EndsEarly reads fails steps s.alone (is_some s.input) s.listener.now r) (sym kept)
                   (ends_early s h.0.reason ended.0 step.1 ended.2))
             ]
       ]
@@ -242,8 +253,8 @@ module _ {L I H : Type 0} (told : L → Option (List SocketStream)) (listens : L
       (reason : Option Reason)
       → s.accepted ≡ 0 → s.most ≡ m → m ≤ 2 ^ 64 - 1 → s.alone ≡ alone → is_some s.input ≡ input
       → Given items s last → GivesAll Gives s items s' → sessions ≡ capped (length items)
-      → IsSomeAnd reason (HasEnded listens reads fails last)
-      → HasCause reads fails alone input m sessions reason
+      → IsSomeAnd reason (HasEnded listens reads fails steps last)
+      → HasCause reads fails steps alone input m sessions s.listener.now reason
   has_cause m sessions s last s' items alone input None none same small of_alone of_input gave all count why = why
   has_cause m sessions s last s' items alone input (Some Full) none same small of_alone of_input gave all count full =
       let fits : s.most ≤ 2 ^ 64 - 1 = omega arith in
@@ -269,7 +280,7 @@ module _ {L I H : Type 0} (told : L → Option (List SocketStream)) (listens : L
       ]
   has_cause m sessions s last s' items alone input (Some (Accept why)) none same small of_alone of_input gave all count
       failed =
-      failed
+      failed_since steps fails s.listener.now last.listener.now items why (came items s last gave) failed
 
   abbrev pub Serves : Bool → ℕ → Accepting L I H → List ⊤ → Ended → Accepting L I H → List ⊤ → Type 0
   Serves = ServesConnections untold untold closing_sockets Gives
@@ -346,7 +357,7 @@ module _ {L I H : Type 0} (told : L → Option (List SocketStream)) (listens : L
       (ended : Ended) (alone input : Bool) (reason : Option Reason)
       → s.accepted ≡ 0 → s.most ≡ m → m ≤ 2 ^ 64 - 1 → s.reason ≡ None → s.alone ≡ alone
       → is_some s.input ≡ input → s'.reason ≡ reason → Serves shows blocks s books ended s' books'
-      → HasCause reads fails alone input m ended.sums.sessions reason
+      → HasCause reads fails steps alone input m ended.sums.sessions s.listener.now reason
   ends_for shows blocks m s s' books books' ended alone input reason none same small unended of_alone of_input
       of_reason served =
       let gave = served.gave in
@@ -361,15 +372,16 @@ module _ {L I H : Type 0} (told : L → Option (List SocketStream)) (listens : L
             elim (keeps served.given s gave.last gave.gave) [
               | inl still ↦ absurd (true≢false (sym over.0 ∙ ap is_some (still ∙ unended)))
               | inr early ↦
-                  early_cause reads fails alone input m ended.sums.sessions reason
-                  (subst (λ r. EndsEarly reads fails alone input r) (sym over.1 ∙ of_reason)
-                  (subst (λ b. EndsEarly reads fails b input gave.last.reason) of_alone
-                  (subst (λ b. EndsEarly reads fails s.alone b gave.last.reason) of_input early)))
+                  let start = s.listener.now in
+                  early_cause reads fails steps alone input m ended.sums.sessions start reason
+                  (subst (λ r. EndsEarly reads fails steps alone input start r) (sym over.1 ∙ of_reason)
+                  (subst (λ b. EndsEarly reads fails steps b input start gave.last.reason) of_alone
+                  (subst (λ b. EndsEarly reads fails steps s.alone b start gave.last.reason) of_input early)))
             ]
         | inr why ↦
             has_cause m ended.sums.sessions s gave.last s' served.given alone input reason none same small of_alone
             of_input gave.gave gave (sums ∙ ap capped counted)
-            (subst (λ r. IsSomeAnd r (HasEnded listens reads fails gave.last)) of_reason why)
+            (subst (λ r. IsSomeAnd r (HasEnded listens reads fails steps gave.last)) of_reason why)
       ]
 
   -- what a fault leaves of the service on a listener, and of the listener
@@ -450,16 +462,17 @@ module _ {L I H : Type 0} (told : L → Option (List SocketStream)) (listens : L
               (subst (λ k. FailsFrom told shows blocks workers m s.listener.now why k) after
               (fails_from shows blocks workers m s s' books books' why none same small counted left)))
 
-    pub all_for : (alone input : Bool) (reason : Option Reason) → s.reason ≡ None → s.alone ≡ alone →
-        is_some s.input ≡ input → s'.reason ≡ reason →
-        IfOk result (λ ended. HasCause reads fails alone input m ended.sums.sessions reason)
-    all_for alone input reason unended of_alone of_input of_reason = of result ok
+    pub all_for : (l : L) (alone input : Bool) (reason : Option Reason) → s.listener.now ≡ l → s.reason ≡ None →
+        s.alone ≡ alone → is_some s.input ≡ input → s'.reason ≡ reason →
+        IfOk result (λ ended. HasCause reads fails steps alone input m ended.sums.sessions l reason)
+    all_for l alone input reason before unended of_alone of_input of_reason = of result ok
       where
         of : (r : Result Ended ServeFault) → IfOk r (λ ended. Serves shows blocks s books ended s' books')
-            → IfOk r (λ ended. HasCause reads fails alone input m ended.sums.sessions reason)
+            → IfOk r (λ ended. HasCause reads fails steps alone input m ended.sums.sessions l reason)
         of (Ok ended) all =
-            ends_for shows blocks m s s' books books' ended alone input reason none same small unended of_alone of_input
-            of_reason all
+            subst (λ k. HasCause reads fails steps alone input m ended.sums.sessions k reason) before
+            (ends_for shows blocks m s s' books books' ended alone input reason none same small unended of_alone
+            of_input of_reason all)
         of (Err why) all = tt
 
 -- What is told of a listener and of an input may be left out.
@@ -473,20 +486,21 @@ pub err_so : {A E : Type 0} (P Q : E → Type 0) (result : Result A E) → ((e :
 err_so P Q (Ok x) so p = tt
 err_so P Q (Err e) so p = so e p
 
-has_reason : {L I : Type 0} (reads : I → ℕ → Result ℕ Error → I → Type 0) (fails : L → Error → L → Type 0)
-    (alone input : Bool) (m sessions : ℕ) (reason : Option Reason)
-    → HasCause reads fails alone input m sessions reason → HasReason alone input m sessions reason
-has_reason reads fails alone input m sessions None cause = cause
-has_reason reads fails alone input m sessions (Some Full) cause = cause
-has_reason reads fails alone input m sessions (Some InputOver) cause = cause.0
-has_reason reads fails alone input m sessions (Some (NoSocket why)) cause = cause
-has_reason reads fails alone input m sessions (Some (Accept why)) cause = tt
+module _ {L I : Type 0} (reads : I → ℕ → Result ℕ Error → I → Type 0) (fails : L → Error → L → Type 0)
+    (steps : L → Option SocketStream → L → Type 0) where
+  has_reason : (alone input : Bool) (m sessions : ℕ) (start : L) (reason : Option Reason)
+      → HasCause reads fails steps alone input m sessions start reason → HasReason alone input m sessions reason
+  has_reason alone input m sessions start None cause = cause
+  has_reason alone input m sessions start (Some Full) cause = cause
+  has_reason alone input m sessions start (Some InputOver) cause = cause.0
+  has_reason alone input m sessions start (Some (NoSocket why)) cause = cause
+  has_reason alone input m sessions start (Some (Accept why)) cause = tt
 
-pub reason_so : {L I : Type 0} (reads : I → ℕ → Result ℕ Error → I → Type 0) (fails : L → Error → L → Type 0)
-    (alone input input' : Bool) (m : ℕ) (reason : Option Reason) (result : Result Ended ServeFault) → input' ≡ input
-    → IfOk result (λ ended. HasCause reads fails alone input' m ended.sums.sessions reason)
-    → IfOk result (λ ended. HasReason alone input m ended.sums.sessions reason)
-reason_so reads fails alone input input' m reason (Ok ended) same cause =
-    subst (λ b. HasReason alone b m ended.sums.sessions reason) same
-    (has_reason reads fails alone input' m ended.sums.sessions reason cause)
-reason_so reads fails alone input input' m reason (Err why) same cause = tt
+  pub reason_so : (alone input input' : Bool) (m : ℕ) (start : L) (reason : Option Reason)
+      (result : Result Ended ServeFault) → input' ≡ input
+      → IfOk result (λ ended. HasCause reads fails steps alone input' m ended.sums.sessions start reason)
+      → IfOk result (λ ended. HasReason alone input m ended.sums.sessions reason)
+  reason_so alone input input' m start reason (Ok ended) same cause =
+      subst (λ b. HasReason alone b m ended.sums.sessions reason) same
+      (has_reason alone input' m ended.sums.sessions start reason cause)
+  reason_so alone input input' m start reason (Err why) same cause = tt

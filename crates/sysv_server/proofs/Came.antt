@@ -5,7 +5,8 @@ use Rattle.std.specs.Prelude.{◌⊎◌, slice_index_or, slice_set}
 use Rattle.std.specs.Option.{option_to_list}
 use Rattle.sysv_seats.specs.declared.socket_stream.SocketStream.{SocketStream}
 use Rattle.sysv_server.specs.Doors as doors
-use Rattle.sysv_server.specs.Doors.{Came, EachCame, OneCame, all_accepted}
+use Rattle.sysv_server.specs.Doors.{Came, EachCame, FailedSince, OneCame, all_accepted}
+use Rattle.std.specs.declared.io.Error.{Error}
 
 module _ {L : Type 0} (steps : L → Option SocketStream → L → Type 0) where
   pub came_on : (a b c : L) (xs ys : List SocketStream) → Came steps a xs b → Came steps b ys c →
@@ -29,6 +30,17 @@ module _ {L : Type 0} (steps : L → Option SocketStream → L → Type 0) where
 
   pub came_once : (a b : L) (stream : SocketStream) → steps a (Some stream) b → Came steps a (stream ∷ []) b
   came_once a b stream step = doors.accepts stream b doors.begins step
+
+  -- What has failed since a later state has failed since an earlier one.
+  pub failed_since : (fails : L → Error → L → Type 0) (a b : L) (xs : List SocketStream) (why : Error) →
+      Came steps a xs b → FailedSince steps fails b why → FailedSince steps fails a why
+  failed_since fails a b xs why came failed = record {
+    accepted = xs ++ failed.accepted;
+    before = failed.before;
+    after = failed.after;
+    came = came_on a b failed.before xs failed.accepted came failed.came;
+    failed = failed.failed;
+  }
 
   -- ---- several listeners
 

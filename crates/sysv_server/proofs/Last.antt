@@ -31,14 +31,14 @@ module _ {L I H : Type 0} (told : L → Option (List SocketStream)) (listens : L
     pub came : Came steps old.listener.now [] mid.listener.now
     pub may : mid.has_last ≡ true → old.alone ≡ true
     pub unended : old.reason ≡ None
-    pub why : IsSomeAnd mid.reason (HasEnded listens reads fails old)
+    pub why : IsSomeAnd mid.reason (HasEnded listens reads fails steps old)
 
   pub gives_last : (old mid new : Accepting L I H) (step : Option SocketStream) → HasJustEnded old mid →
       AcceptsLast told listens steps mid step new → Accepts told listens reads fails steps old step new
   gives_last old mid new None ended last = (
     last.0 ∙ ended.most,
     last.1 ∙ ended.accepted,
-    inr (subst (λ r. IsSomeAnd r (HasEnded listens reads fails old)) (sym last.2) ended.why),
+    inr (subst (λ r. IsSomeAnd r (HasEnded listens reads fails steps old)) (sym last.2) ended.why),
     last.3,
     last.4 ∙ ended.same,
     last.5 ∙ ended.lent,
@@ -53,7 +53,7 @@ module _ {L I H : Type 0} (told : L → Option (List SocketStream)) (listens : L
     inr (
       ended.may last.5,
       ended.unended,
-      subst (λ r. IsSomeAnd r (HasEnded listens reads fails old)) (sym last.4) ended.why,
+      subst (λ r. IsSomeAnd r (HasEnded listens reads fails steps old)) (sym last.4) ended.why,
     ),
     last.6 ∙ ended.input,
     last.7 ∙ ap (λ o. added o (stream ∷ [])) ended.same,

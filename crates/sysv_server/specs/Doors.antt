@@ -21,6 +21,16 @@ pub data Came {L : Type 0} (steps : L → Option SocketStream → L → Type 0) 
       Came steps before accepted mid → steps mid (Some stream) after →
       Came steps before (accepted ++ stream ∷ []) after
 
+-- An accept of a listener has failed with this error, once the listener had made steps from this state on. `fails` are
+-- its accepts that may fail.
+pub record FailedSince {L : Type 0} (steps : L → Option SocketStream → L → Type 0) (fails : L → Error → L → Type 0)
+    (start : L) (why : Error) : Type 0 where
+  pub accepted : List SocketStream
+  pub before : L
+  pub after : L
+  pub came : Came steps start accepted before
+  pub failed : fails before why after
+
 -- What several listeners accepted: the connections of the first one, then those of the next one, and so on.
 abbrev pub all_accepted : List (List SocketStream) → List SocketStream
 all_accepted parts = flat_map (λ accepted. accepted) parts

@@ -72,8 +72,6 @@ pub(crate) struct Accepting<'a, L, I: Drop, H> {
     told: Told,
     /// Where the state of the server is shown.
     desk: Desk,
-    /// The number of blocks in the pool.
-    blocks: u32,
     /// Whether the state of the server is shown.
     stats: bool,
     /// Whether a session is served alone before the others, and one after them.
@@ -98,7 +96,6 @@ impl<'a, L: Listens, I: Input + Drop, H: Host> Accepting<'a, L, I, H> {
         retries: bool,
         input: Option<I>,
         most: u64,
-        blocks: u32,
         stats: bool,
         alone: bool,
         server: &'a ServerState,
@@ -122,7 +119,6 @@ impl<'a, L: Listens, I: Input + Drop, H: Host> Accepting<'a, L, I, H> {
             reason: None,
             told: Told::NOTHING,
             desk: Desk::closed(),
-            blocks,
             stats,
             alone,
             goes_on: false,
@@ -150,7 +146,6 @@ impl<'a, L: Listens, I: Input + Drop, H: Host> Accepting<'a, L, I, H> {
             reason,
             told: _,
             desk: _,
-            blocks: _,
             stats: _,
             alone: _,
             goes_on: _,
@@ -197,7 +192,7 @@ impl<'a, L: Listens, I: Input + Drop, H: Host> Accepting<'a, L, I, H> {
     }
 
     /// Accepts the next connection. The error is why no more connections are to be accepted.
-    #[tactic(auto, using(sysv_engine::proofs::Looking::looks_stay, crate::proofs::Came::came_on, crate::proofs::Came::came_once, crate::proofs::Came::came_quiet, crate::proofs::Came::came_still))]
+    #[tactic(auto, using(sysv_engine::proofs::Looking::looks_stay, crate::proofs::Came::came_on, crate::proofs::Came::came_once, crate::proofs::Came::came_quiet, crate::proofs::Came::came_still, crate::proofs::Came::failed_since))]
     fn accept<R: Wait>(&mut self, rows: &mut Rows<'_, R>) -> Result<SocketStream, Reason>
         ensures same { (self.new.most ≡ self.old.most) × (self.new.accepted ≡ self.old.accepted)
             × (self.new.reason ≡ self.old.reason) × (self.new.limits ≡ self.old.limits)
@@ -206,7 +201,8 @@ impl<'a, L: Listens, I: Input + Drop, H: Host> Accepting<'a, L, I, H> {
         ensures bounded { IfOk result (λ _. self.old.most ≢ 0 →
             self.old.accepted < self.old.most) }
         ensures opened { OnOk result (L.listens self.new.listener.now ≡ true) }
-        ensures ended { IfErr result (λ why. HasEnded L.listens I.reads L.fails self.old why) }
+        ensures ended { IfErr result (λ why. HasEnded L.listens I.reads L.fails L.steps
+            self.old why) }
         ensures ok { IfOk result (λ stream. L.accepted self.new.listener.now
             ≡ added (L.accepted self.old.listener.now) (stream ∷ [])) }
         ensures limits { IfOk result (λ stream. limits_of stream ≡ self.old.limits) }
@@ -236,12 +232,11 @@ impl<'a, L: Listens, I: Input + Drop, H: Host> Accepting<'a, L, I, H> {
             alloc: self.alloc,
             server: self.server,
             listeners: &listeners,
-            blocks: self.blocks,
-            accepted: self.accepted,
             started: self.desk.started(),
         };
         let acceptor = Acceptor {
             view,
+            accepted: self.accepted,
             limits: self.limits,
             host: self.host,
         };
@@ -466,6 +461,8 @@ impl Told {
 #[derive(Drop)]
 struct Acceptor<'v, 'h, H> {
     view: View<'v>,
+    /// The number of connections that were accepted.
+    accepted: u64,
     /// The limits under which the clients may be cut off.
     limits: Limits,
     host: &'h H,
@@ -498,7 +495,7 @@ impl<H: Host> Acceptor<'_, '_, H> {
         retries: bool,
     ) -> Result<SocketStream, Reason>
         ensures input { is_some input.new ≡ is_some input.old }
-        ensures ended { IfErr result (EndsWait I.reads L.fails (is_some input.old)) }
+        ensures ended { IfErr result (EndsWait I.reads L.fails L.steps (is_some input.old) listener.old) }
         ensures ok { IfOk result (λ stream.
             L.accepted listener.new ≡ added (L.accepted listener.old) (stream ∷ [])) }
         ensures limits { IfOk result (λ stream. limits_of stream ≡ self.now.limits) }
@@ -594,7 +591,7 @@ impl<H: Host> Acceptor<'_, '_, H> {
 
     /// Returns how many more clients there is room for.
     fn room(&self) -> u64 {
-        self.view.server.room(self.view.accepted)
+        self.view.server.room(self.accepted)
     }
 
     /// Waits until the input or the doorbell can be read, a client waits at one of the listeners, or

@@ -243,13 +243,9 @@ impl Slot {
     }
 }
 
-/// What the accepting thread knows of a server.
+/// What the accepting thread alone knows of a server.
 #[derive(Clone, Copy)]
 pub(crate) struct Admission {
-    /// The number of blocks in the pool.
-    pub(crate) blocks: u32,
-    /// The number of clients that were accepted.
-    pub(crate) accepted: u64,
     /// Whether a client waits to be accepted.
     pub(crate) has_waiting: bool,
     /// The time at which the server started, in seconds since 1970.
@@ -276,8 +272,10 @@ impl State {
     ) -> Option<State>
         ensures looks { Looks rows.old rows.new }
         ensures numbers { IfSome result (λ state.
-            AreNumbers server.now.at_once state.totals admission.now state.numbers) }
+            AreNumbers server.now.at_once rows.old state.totals admission.now state.numbers) }
     {
+        let blocks = rows.blocks();
+        let accepted = rows.returned();
         let mut slots = Vec::new(alloc);
         for slot in 0..SLOTS {
             let found = Slot {
@@ -292,7 +290,7 @@ impl State {
         let totals = server.counted();
         Some(State {
             totals,
-            numbers: numbers(&totals.counted(), admission),
+            numbers: numbers(&totals.counted(), blocks, accepted, admission),
             slots,
         })
     }
@@ -437,9 +435,15 @@ impl State {
     }
 }
 
-/// Returns the numbers of a server, in the order of `OF_SERVER`.
-fn numbers(counted: &Counted, admission: &Admission) -> [u64; OF_SERVER.len()]
-    ensures { result ≡ numbers_of counted.now admission.now }
+/// Returns the numbers of a server with this number of blocks in its pool that has accepted this
+/// number of connections, in the order of `OF_SERVER`.
+fn numbers(
+    counted: &Counted,
+    blocks: u32,
+    accepted: u64,
+    admission: &Admission,
+) -> [u64; OF_SERVER.len()]
+    ensures { result ≡ numbers_of counted.now blocks accepted admission.now }
 {
     let Counted {
         over,
@@ -455,8 +459,6 @@ fn numbers(counted: &Counted, admission: &Admission) -> [u64; OF_SERVER.len()]
         unwatched,
     } = *counted;
     let Admission {
-        blocks,
-        accepted,
         has_waiting,
         started,
     } = *admission;

@@ -178,8 +178,8 @@ pub fn serve_from<L: Listens, I: Input + Drop, H: Host, R: Threads + Wait + Net 
     ensures ok { IfOk result (λ ended. EndsFrom L.accepted L.listens L.steps (looks_in terms)
         terms.blocks terms.at_once terms.sessions (limits_in terms) listener.old ended
         listener.new) }
-    ensures exact { IfOk result (λ ended. HasCause I.reads L.fails terms.alone (is_some input)
-        terms.sessions ended.sums.sessions reason.new) }
+    ensures exact { IfOk result (λ ended. HasCause I.reads L.fails L.steps terms.alone
+        (is_some input) terms.sessions ended.sums.sessions listener.old reason.new) }
     ensures balance { IfOk result (λ ended. IsBalanced ended.sums) }
     ensures setting { IfOk result (λ ended. RanOn terms ended.setting) }
     ensures err { IfErr result (λ why. FailsFrom L.accepted (looks_in terms) terms.blocks terms.at_once
@@ -206,8 +206,8 @@ fn run<L: Listens, I: Input + Drop, H: Host, R: Threads + Wait + Net + Sync>(
     ensures ok { IfOk result (λ ended. EndsFrom L.accepted L.listens L.steps (looks_in terms)
         terms.blocks terms.at_once terms.sessions (limits_in terms) listener.old ended
         listener.new) }
-    ensures exact { IfOk result (λ ended. HasCause I.reads L.fails terms.alone (is_some input)
-        terms.sessions ended.sums.sessions reason.new) }
+    ensures exact { IfOk result (λ ended. HasCause I.reads L.fails L.steps terms.alone
+        (is_some input) terms.sessions ended.sums.sessions listener.old reason.new) }
     ensures balance { IfOk result (λ ended. IsBalanced ended.sums) }
     ensures setting { IfOk result (λ ended. RanOn terms ended.setting) }
     ensures err { IfErr result (λ why. FailsFrom L.accepted (looks_in terms) terms.blocks terms.at_once
@@ -237,7 +237,7 @@ fn run<L: Listens, I: Input + Drop, H: Host, R: Threads + Wait + Net + Sync>(
     };
     let limits = Limits::of_seconds(patience.idle, patience.stall, drain);
     let mut source = Accepting::new(
-        alloc, listener, limits, retries, input, sessions, blocks, stats, alone, &server, host,
+        alloc, listener, limits, retries, input, sessions, stats, alone, &server, host,
     );
     let outcome = serve_arrivals(
         rt,

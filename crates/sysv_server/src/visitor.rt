@@ -61,10 +61,6 @@ pub(crate) struct View<'v> {
     pub(crate) server: &'v ServerState,
     /// The listeners through which clients come.
     pub(crate) listeners: &'v Several,
-    /// The number of blocks in the pool.
-    pub(crate) blocks: u32,
-    /// The number of clients that were accepted.
-    pub(crate) accepted: u64,
     /// The time at which the server started, in seconds since 1970.
     pub(crate) started: u64,
 }
@@ -84,13 +80,9 @@ impl View<'_> {
             alloc,
             server,
             listeners,
-            blocks,
-            accepted,
             started,
         } = self;
         let admission = Admission {
-            blocks,
-            accepted,
             has_waiting: listeners.looked_at().has_clients(),
             started,
         };

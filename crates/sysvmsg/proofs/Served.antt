@@ -38,19 +38,22 @@ module _ {L I : Type 0} (told : L → Option (List SocketStream)) (listens : L �
   failed limit terms before now (Ok ended) from = from
   failed limit terms before now (Err why) from = from.0
 
-  has_reason : (alone has_input : Bool) (most sessions : ℕ) (reason : Option Reason) →
-      HasCause reads fails alone has_input most sessions reason → HasReason alone has_input most sessions reason
-  has_reason alone has_input most sessions None cause = cause
-  has_reason alone has_input most sessions (Some Full) cause = cause
-  has_reason alone has_input most sessions (Some InputOver) cause = cause.0
-  has_reason alone has_input most sessions (Some (NoSocket why)) cause = cause
-  has_reason alone has_input most sessions (Some (Accept why)) cause = tt
+  has_reason : (alone has_input : Bool) (most sessions : ℕ) (start : L) (reason : Option Reason) →
+      HasCause reads fails steps alone has_input most sessions start reason →
+      HasReason alone has_input most sessions reason
+  has_reason alone has_input most sessions start None cause = cause
+  has_reason alone has_input most sessions start (Some Full) cause = cause
+  has_reason alone has_input most sessions start (Some InputOver) cause = cause.0
+  has_reason alone has_input most sessions start (Some (NoSocket why)) cause = cause
+  has_reason alone has_input most sessions start (Some (Accept why)) cause = tt
 
-  meant : (alone has_input : Bool) (most : ℕ) (reason : Option Reason) (outcome : Result Ended ServeFault) →
-      IfOk outcome (λ ended. HasCause reads fails alone has_input most ended.sums.sessions reason) →
+  meant : (alone has_input : Bool) (most : ℕ) (start : L) (reason : Option Reason)
+      (outcome : Result Ended ServeFault) →
+      IfOk outcome (λ ended. HasCause reads fails steps alone has_input most ended.sums.sessions start reason) →
       IfOk outcome (λ ended. HasReason alone has_input most ended.sums.sessions reason)
-  meant alone has_input most reason (Ok ended) cause = has_reason alone has_input most ended.sums.sessions reason cause
-  meant alone has_input most reason (Err why) cause = cause
+  meant alone has_input most start reason (Ok ended) cause =
+      has_reason alone has_input most ended.sums.sessions start reason cause
+  meant alone has_input most start reason (Err why) cause = cause
 
   -- Which callers the connections let in follows from the steps of the listener.
   pub told_less : (limit : Option ℕ) (has_input : Bool) (terms : Terms) (callers : List Callers) (exit : ExitCode)
@@ -62,7 +65,7 @@ module _ {L I : Type 0} (told : L → Option (List SocketStream)) (listens : L �
     outcome = served.outcome;
     ends = ends limit terms callers before now served.outcome.ended let_in served.ends;
     setting = served.setting;
-    meant = meant terms.alone has_input terms.sessions served.outcome.reason served.outcome.ended served.meant;
+    meant = meant terms.alone has_input terms.sessions before served.outcome.reason served.outcome.ended served.meant;
     fails = failed limit terms before now served.outcome.ended served.failed;
     reports = served.reports;
   }

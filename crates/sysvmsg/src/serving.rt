@@ -362,8 +362,9 @@ fn run_server<L: Listens, H: Host, I: Input + Drop, R: Net + Threads + Wait + Sy
         (looks_in serving.now.terms) serving.now.terms.blocks (places_of limit serving.now.terms)
         serving.now.terms.sessions (limits_in serving.now.terms) listener.old ended listener.new) }
     ensures setting { IfOk result (λ ended. RanWithin limit serving.now.terms ended.setting) }
-    ensures meant { IfOk result (λ ended. HasCause I.reads L.fails serving.now.terms.alone
-        serving.now.until_eof serving.now.terms.sessions ended.sums.sessions reason.new) }
+    ensures meant { IfOk result (λ ended. HasCause I.reads L.fails L.steps serving.now.terms.alone
+        serving.now.until_eof serving.now.terms.sessions ended.sums.sessions listener.old
+        reason.new) }
     ensures fails { IfErr result (λ why. FailsFrom L.accepted (looks_in serving.now.terms)
         serving.now.terms.blocks (places_of limit serving.now.terms) serving.now.terms.sessions
         listener.old why listener.new) }

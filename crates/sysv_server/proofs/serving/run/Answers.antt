@@ -38,7 +38,8 @@ returns-clause-exact g c =
     c.in-Some-empty_books.books.items c.serve_arrivals-outcome.new.books.items c.serve_arrivals-outcome.result
     c.new-source.ensures.begun.1 c.new-source.ensures.begun.0
     (let same = c.new-source.ensures.begun.0 in let fits = c.new-source.ensures.range in omega arith)
-    c.serve_arrivals-outcome.ensures.ok c.serve_arrivals-outcome.ensures.err _ _ _ c.new-source.ensures.begun.2
+    c.serve_arrivals-outcome.ensures.ok c.serve_arrivals-outcome.ensures.err _ _ _ _ c.new-source.ensures.listener
+    c.new-source.ensures.begun.2
     c.new-source.ensures.alone (ap is_some c.new-source.ensures.input) (sym c.into_parts-left.ensures.reason)
 
 pub returns-clause-err : goal.returns-clause-err

@@ -27,7 +27,7 @@ returns-in-Err-clause-gives g c =
       may = λ on. sym told.same.4 ∙ ends.last on;
       unended = none_is old.reason (sym c.is_some.ensures ∙ c.if-is_some.false);
       why =
-          subst (λ r. IsSomeAnd r (HasEnded g.L.Listens.listens g.I.Input.reads g.L.Listens.fails old))
+          subst (λ r. IsSomeAnd r (HasEnded g.L.Listens.listens g.I.Input.reads g.L.Listens.fails steps old))
           (sym ends.reason)
           told.ended;
     }

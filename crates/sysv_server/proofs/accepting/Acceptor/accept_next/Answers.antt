@@ -19,6 +19,15 @@ returns-in-Err-2-clause-came g c =
     came_on steps c.args.listener.now c.loop.listener c.accept.new.self [] [] c.loop.invariant.4
     (came_quiet steps c.loop.listener c.accept.new.self c.in-Err.ensures.step)
 
+pub returns-in-Err-2-clause-ended : goal.returns-in-Err-2-clause-ended
+returns-in-Err-2-clause-ended g c = record {
+  accepted = [];
+  before = c.loop.listener;
+  after = c.accept.new.self;
+  came = c.loop.invariant.4;
+  failed = c.in-Err.ensures.failed;
+}
+
 pub loop-preserved : goal.loop-preserved
 loop-preserved g c =
     let steps = g.L.Listens.steps in (
@@ -40,6 +49,15 @@ returns-in-Ok-last-clause-came g c =
     came_on steps c.args.listener.now c.loop.listener c.accept-last.new.self [] (c.in-Ok-last.stream ∷ [])
     c.loop.invariant.4
     (came_once steps c.loop.listener c.accept-last.new.self c.in-Ok-last.stream c.in-Ok-last.ensures.step)
+
+pub returns-in-Err-last-clause-ended : goal.returns-in-Err-last-clause-ended
+returns-in-Err-last-clause-ended g c = record {
+  accepted = [];
+  before = c.loop.listener;
+  after = c.accept-last.new.self;
+  came = c.loop.invariant.4;
+  failed = c.in-Err-last.ensures.failed;
+}
 
 pub returns-in-Err-last-clause-came : goal.returns-in-Err-last-clause-came
 returns-in-Err-last-clause-came g c =
