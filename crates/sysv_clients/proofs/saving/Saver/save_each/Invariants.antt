@@ -13,7 +13,7 @@ invariant-loop-ask g l = record {
       (g.S.Write.contents (journal_stream l.fn.screen)) (g.S.Write.contents (journal_stream l.screen))
       l.fn.refusals.items l.refusals.items l.stage;
   synced : l.fn.saving.now.syncs ≡ true
-      → g.S.synced (journal_stream l.screen) ≡ g.S.Write.contents (journal_stream l.screen);
+      → g.S.Durable.synced (journal_stream l.screen) ≡ g.S.Write.contents (journal_stream l.screen);
   text : l.self.text ≡ [];
   page : l.self.page ≡ [];
   screen : KeepsJournal l.fn.screen l.screen false;
