@@ -294,7 +294,8 @@ one_more saving slots slot zero (step.Hold id) call parts fit asked tried rest =
 one_more saving slots slot (suc owed) (step.Hold id) call parts fit asked tried rest =
     part_at (step.Hold id) call.ask (first_ask saving id) call.answer call.given parts
     (same_ask (first_ask saving id) call.ask asked)
-    (hold_follows id MESSAGE_BYTES saving.mtype (flags_to_receive true false saving.except) 0 call.answer call.given parts rest)
+    (hold_follows id MESSAGE_BYTES saving.mtype (flags_to_receive true false saving.except) 0 call.answer call.given
+    parts rest)
 one_more saving slots slot owed (step.Done id) call parts fit asked tried rest =
     part_at (step.Done id) call.ask Done call.answer call.given parts (same_ask Done call.ask asked)
     (passes (step.Done id) (step.Hold id) parts (λ b. tt) rest)
@@ -319,7 +320,8 @@ follows_plan saving first before [] fit plan = nothing_follows (state saving fir
 follows_plan saving first before (call ∷ more) fit (asked, tried, rest) =
     let s = state saving first before in
     let next : state saving first (before ++ call ∷ []) ≡ moved s call.answer =
-    fold-append (λ (stage : Stage) (one : Call). moved stage one.answer) (begun saving first.answer) before (call ∷ []) in
+    fold-append (λ (stage : Stage) (one : Call). moved stage one.answer) (begun saving first.answer) before
+    (call ∷ []) in
     let later = follows_plan saving first (before ++ call ∷ []) more
     (subst (λ (x : Stage). IsStepFit x.step) (sym next) (fit_next s.slots s.slot s.owed s.step call tried)) rest in
     one_more saving s.slots s.slot s.owed s.step call (parts_of more) fit asked tried
@@ -357,7 +359,8 @@ queues_after saving first more (asked, tried, rest) =
     ap (λ (a : Ask). queues_in (part_of a first.answer first.given ∷ parts_of more))
     (sym (same_ask (Hello saving.cred) first.ask asked))
 
-file_is : (saving : Saving) (first : Call) (more : List Call) → FollowsPlan IsTried (saving_plan saving) [] (first ∷ more)
+file_is : (saving : Saving) (first : Call) (more : List Call)
+    → FollowsPlan IsTried (saving_plan saving) [] (first ∷ more)
     → saved_text (first ∷ more) ≡ file_of (queues_of (first ∷ more))
 file_is saving first more plan =
     let follows = after_hello saving first more plan in
@@ -410,8 +413,10 @@ are_kept saving (first ∷ more) some plan given =
     (served (parts_of more) (after_hello saving first more plan).fits (subst AreOfServer same given))
 
 pub restores_saved : RestoresSaved
-restores_saved saving saved left rest taken more bytes before reported save screen some given loading ended unheard unread
+restores_saved saving saved left rest taken more bytes before reported save screen some given loading ended unheard
+    unread
     untaken written unfed load from =
     restores_text (queues_of save.calls) bytes
     (saves_file saving saved left rest taken more bytes before reported save screen some)
-    (are_kept saving save.calls some save.made.follows given) loading ended unheard unread untaken written unfed load from
+    (are_kept saving save.calls some save.made.follows given) loading ended unheard unread untaken written unfed load
+    from

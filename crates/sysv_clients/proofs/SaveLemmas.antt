@@ -1,5 +1,6 @@
 -- A save in progress, and how it ends.
-use Rattle.std.proofs.Common.{◌≡◌, ◌≢◌, ℕ, ℤ, ◌+◌, ◌-◌, ◌*◌, ◌<◌, ◌≤◌, zero, suc, List, [], ◌∷◌, ◌++◌, Option, None, Some}
+use Rattle.std.proofs.Common.{◌≡◌, ◌≢◌, ℕ, ℤ, ◌+◌, ◌-◌, ◌*◌, ◌<◌, ◌≤◌, zero, suc, List, [], ◌∷◌, ◌++◌, Option, None}
+use Rattle.std.proofs.Common.{Some}
 use Rattle.std.proofs.Common.{Result, Ok, Err, inl, inr, refl, sym, ap, subst, ◌∙◌, append_assoc, append-nil, arith}
 use Rattle.std.proofs.lemmas.List.Concat.{flat_map-append}
 use Rattle.std.proofs.lemmas.List.Sums.{fold-append}
@@ -91,9 +92,11 @@ is_next saving left rest taken more before reported stage first calls found so_f
 greets : (saving : Saving) (welcome : ReplyContent) (given text : List ℕ) (left rest taken more : Option (List ℕ))
     (before : List Refusal)
     → ExchangesIn Three (frame (Hello saving.cred) text) (Hello saving.cred) (Ok welcome) left rest taken more given
-    → Requests saving left rest taken more before before (begun saving welcome) (call_of (Hello saving.cred) text welcome given) []
+    → Requests saving left rest taken more before before (begun saving welcome)
+    (call_of (Hello saving.cred) text welcome given) []
 greets saving welcome given text left rest taken more before exchange = record {
-  made = one_more_in Three IsTried (saving_plan saving) [] (call_of (Hello saving.cred) text welcome given) left left rest taken
+  made = one_more_in Three IsTried (saving_plan saving) [] (call_of (Hello saving.cred) text welcome given) left left
+      rest taken
       taken more (none_made_in Three IsTried (saving_plan saving) left taken) refl (inl exchange.1.1) exchange.0
       exchange.1.0;
   is_at = refl;
@@ -115,14 +118,17 @@ opens saving welcome given text left rest taken more shown after before exchange
 }
 
 -- One more call.
-grows : (saving : Saving) (one : Call) (left mid rest taken more most : Option (List ℕ)) (before so reported : List Refusal)
+grows : (saving : Saving) (one : Call) (left mid rest taken more most : Option (List ℕ))
+    (before so reported : List Refusal)
     (stage : Stage) (first : Call) (calls : List Call)
-    → Requests saving left mid taken more before so stage first calls → Some one.ask ≡ saving_ask saving stage → IsTried one
+    → Requests saving left mid taken more before so stage first calls → Some one.ask ≡ saving_ask saving stage
+    → IsTried one
     → Appends more most (frame one.ask one.text)
     → Consumes mid rest (reply_encoding (reply_in Three one.ask one.answer) one.given)
     → reported ≡ so ++ reported_by one.ask one.answer
     → Requests saving left rest taken most before reported (moved stage one.answer) first (calls ++ one ∷ [])
-grows saving one left mid rest taken more most before so reported stage first calls so_far asked tried written read new =
+grows saving one left mid rest taken more most before so reported stage first calls so_far asked tried written read
+    new =
     record {
       made = one_more_in Three IsTried (saving_plan saving) (first ∷ calls) one left mid rest taken more most
           so_far.made (is_next saving left mid taken more before so stage first calls (Some one.ask) so_far asked) tried
@@ -164,7 +170,8 @@ after_done saving ask answer given text left mid rest taken more most before so 
     }
 
 -- A request of a queue was refused.
-after_refused : (saving : Saving) (ask : Ask) (outcome : Result ReplyContent ClientFault) (answer : ReplyContent) (id : ℤ)
+after_refused : (saving : Saving) (ask : Ask) (outcome : Result ReplyContent ClientFault) (answer : ReplyContent)
+    (id : ℤ)
     (why : Errno) (given text : List ℕ) (left mid rest taken more most : Option (List ℕ))
     (before so reported : List Refusal) (stage : Stage) (first : Call) (calls : List Call)
     → Requests saving left mid taken more before so stage first calls → Some ask ≡ saving_ask saving stage
@@ -336,7 +343,8 @@ breaks_with saving ask outcome why given text left mid rest taken more most show
       written = more;
       made = so_far.requests.made;
       ends = ends_by saving (so_far.first ∷ so_far.calls) why ask text given mid rest more most shown after
-          (is_next saving left mid taken more before so stage so_far.first so_far.calls (Some ask) so_far.requests asked)
+          (is_next saving left mid taken more before so stage so_far.first so_far.calls (Some ask) so_far.requests
+          asked)
           is (subst (λ (o : Result ReplyContent ClientFault).
           ExchangesIn Three (frame ask text) ask o mid rest more most given) tried.0 exchange) so_far.shows;
       reports = reports_by why (reports_of (so_far.first ∷ so_far.calls)) before reported

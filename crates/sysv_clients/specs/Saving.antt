@@ -289,7 +289,8 @@ LacksMemory calls left rest taken more shown after =
 
 -- How a save ends after these calls: all requests were made; or the next one ends it; or the screen failed; or a
 -- done ends it, whose message was written; or memory was refused.
-abbrev pub EndsSave : Saving → Result ⊤ Unheld → List Call → (left rest taken more shown after : Option (List ℕ)) → Type 0
+abbrev pub EndsSave : Saving → Result ⊤ Unheld → List Call → (left rest taken more shown after : Option (List ℕ)) →
+    Type 0
 EndsSave saving (Ok done) calls left rest taken more shown after =
     (saving_plan saving calls ≡ None) × (rest ≡ left) × (more ≡ taken) × Appends shown after (saved_text calls)
 EndsSave saving (Err (Screen unshown)) calls left rest taken more shown after =
@@ -326,8 +327,8 @@ pub record SavesAll (saving : Saving) (ended : Result ⊤ Unheld) (left rest tak
 
 -- ---- what is synced
 
--- What the screen has is synced after this text, which was written and synced, if it is to be; after no text it is if it
--- was.
+-- What the screen has is synced after this text, which was written and synced, if it is to be. After no text it is if
+-- it was before.
 abbrev pub SyncsText : Bool → (text : List ℕ) → (had synced shown after : Option (List ℕ)) → Type 0
 SyncsText true [] had synced shown after = had ≡ shown → synced ≡ after
 SyncsText true (byte ∷ more) had synced shown after = synced ≡ after

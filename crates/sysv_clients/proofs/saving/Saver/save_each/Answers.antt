@@ -45,7 +45,8 @@ pub returns-in_err-show-2-clause-saves : goal.returns-in_err-show-2-clause-saves
 returns-in_err-show-2-clause-saves g c =
     let p = err_from_is_err_and c.from_residual-in_err-show-2.result c.from_residual-in_err-show-2.ensures.1 in
     rw (p.1, p.2)
-    (fails_at c.args.saving.now c.in-Some.ask c.exchange_in-outcome.result c.in_ok-answer.answer c.in_err-show-2.field-0.0
+    (fails_at c.args.saving.now c.in-Some.ask c.exchange_in-outcome.result c.in_ok-answer.answer
+    c.in_err-show-2.field-0.0
     c.exchange_in-outcome.new.given c.loop-ask.self.text _ _ _ _ _ _ _ _ _ c.args.refusals.now.items
     c.loop-ask.refusals.items c.tried.new.refusals.items c.loop-ask.stage c.loop-ask.invariant.saves
     c.in-Some.ensures.ask c.exchange_in-outcome.ensures.exchanges c.in_ok-answer.ensures c.in_err-show-2.ensures.line
