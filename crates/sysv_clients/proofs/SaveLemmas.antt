@@ -4,7 +4,7 @@ use Rattle.std.proofs.Common.{Some}
 use Rattle.std.proofs.Common.{Result, Ok, Err, inl, inr, refl, sym, ap, subst, ◌∙◌, append_assoc, append-nil, arith}
 use Rattle.std.proofs.lemmas.List.Concat.{flat_map-append}
 use Rattle.std.proofs.lemmas.List.Sums.{fold-append}
-use Rattle.std.specs.Prelude.{⊤, Bool, true, false, fold, length}
+use Rattle.std.specs.Prelude.{⊤, Bool, true, false, fold, length, OnErr, OnOk}
 use Rattle.std.specs.Io.KnownBytes.{Appends, Consumes}
 use Rattle.std.proofs.KnownBytes.{Appends-nil, Appends-trans}
 use Rattle.sysv_clients.specs.declared.clearing.Refusal.{Refusal}
@@ -492,3 +492,34 @@ pub still_synced : (syncs : Bool) (text : List ℕ) (had synced shown after : Op
 still_synced true [] had synced shown after syncs was on = syncs (was refl)
 still_synced true (byte ∷ more) had synced shown after syncs was on = syncs
 still_synced false text had synced shown after syncs was on = off on
+
+-- There is no text, and nothing was written.
+pub quiet : (syncs : Bool) (text : List ℕ) (synced shown : Option (List ℕ)) → text ≡ []
+    → SyncsText syncs text synced synced shown shown
+quiet true [] synced shown is = λ was. was
+quiet true (byte ∷ more) synced shown is = absurd (cc is)
+quiet false text synced shown is = tt
+
+text_synced : (syncs : Bool) (text : List ℕ) (had synced shown after : Option (List ℕ))
+    → (syncs ≡ true → synced ≡ after) → SyncsText syncs text had synced shown after
+text_synced true [] had synced shown after is = λ was. is refl
+text_synced true (byte ∷ more) had synced shown after is = is refl
+text_synced false text had synced shown after is = tt
+
+-- A text was written and synced, unless the screen failed.
+pub written_synced : (result : Result ⊤ Unshown) (syncs : Bool) (text : List ℕ)
+    (had synced shown after : Option (List ℕ)) → OnOk result (syncs ≡ true → synced ≡ after)
+    → OnOk result (SyncsText syncs text had synced shown after)
+written_synced (Ok done) syncs text had synced shown after is = text_synced syncs text had synced shown after is
+written_synced (Err unshown) syncs text had synced shown after is = tt
+
+-- The screen failed only at a text.
+pub failed_at_text : (result : Result ⊤ Unshown) (page text : List ℕ) → page ≡ text → 0 < length page
+    → OnErr result (text ≢ [])
+failed_at_text (Ok done) page text same some = tt
+failed_at_text (Err unshown) [] text same some = absurd (omega (arith, some))
+failed_at_text (Err unshown) (byte ∷ more) text same some = λ none. absurd (cc (same ∙ none))
+
+-- The screen failed, and a save that ends by that says nothing of what is synced.
+pub no_output : {P : Type 0} → true ≡ false → P
+no_output is = absurd (cc is)

@@ -61,7 +61,7 @@ impl<S: Durable> Journal<'_, S> {
     pub(crate) fn append(&mut self, line: &[u8], syncs: bool) -> Result<(), WriteFault>
         ensures ok { OnOk result (Appends (S.contents (journal_stream self.old))
             (S.contents (journal_stream self.new)) line.now) }
-        ensures synced { syncs ≡ true → OnOk result (S.synced (journal_stream self.new)
+        ensures synced { OnOk result (syncs ≡ true → S.synced (journal_stream self.new)
             ≡ S.contents (journal_stream self.new)) }
         ensures err { OnErr result (AppendsPrefix (S.contents (journal_stream self.old))
             (S.contents (journal_stream self.new)) line.now) }
@@ -80,7 +80,7 @@ impl<S: Durable> Journal<'_, S> {
 /// Writes a line to the screen and flushes it, and syncs it if `syncs` says so.
 fn put<S: Durable>(screen: &mut S, line: &[u8], syncs: bool) -> Result<(), WriteFault>
     ensures ok { OnOk result (Appends (S.contents screen.old) (S.contents screen.new) line.now) }
-    ensures synced { syncs ≡ true → OnOk result (S.synced screen.new ≡ S.contents screen.new) }
+    ensures synced { OnOk result (syncs ≡ true → S.synced screen.new ≡ S.contents screen.new) }
     ensures err { OnErr result (AppendsPrefix (S.contents screen.old)
         (S.contents screen.new) line.now) }
 {

@@ -448,7 +448,7 @@ impl Saver {
         ensures page { OnOk result (self.new.page ≡ []) }
         ensures ok { OnOk result (Appends (S.contents (journal_stream screen.old))
             (S.contents (journal_stream screen.new)) self.old.page) }
-        ensures synced { syncs ≡ true → OnOk result (S.synced (journal_stream screen.new)
+        ensures synced { OnOk result (syncs ≡ true → S.synced (journal_stream screen.new)
             ≡ S.contents (journal_stream screen.new)) }
         ensures err { OnErr result (AppendsPrefix (S.contents (journal_stream screen.old))
             (S.contents (journal_stream screen.new)) self.old.page) }

@@ -1,7 +1,7 @@
-use Rattle.std.proofs.Common.{refl, ◌∙◌}
+use Rattle.std.proofs.Common.{inl, inr, refl, ◌∙◌}
 use Rattle.std.proofs.lemmas.Result.{err_from_is_err_and}
 use Rattle.sysv_clients.proofs.SaveLemmas.{breaks_off, fails_at, fails_first, finishes, goes_on, no_hello, opens}
-use Rattle.sysv_clients.proofs.SaveLemmas.{first_synced, short, still_synced}
+use Rattle.sysv_clients.proofs.SaveLemmas.{first_synced, no_output, short, still_synced}
 use Rattle.sysv_clients.proofs.saving.Saver.save_each.Goals as goal
 
 pub returns-in_err-welcome-clause-saves : goal.returns-in_err-welcome-clause-saves
@@ -10,6 +10,14 @@ returns-in_err-welcome-clause-saves g c =
     rw (p.1, p.2)
     (no_hello c.args.saving.now c.in_err-welcome.field-0.0 c.exchange_in.new.given c.args.self.now.text _ _ _ _ _
     c.args.refusals.now.items c.requires.text c.in_err-welcome.ensures.exchanges)
+
+pub returns-in_err-welcome-clause-synced : goal.returns-in_err-welcome-clause-synced
+returns-in_err-welcome-clause-synced g c = λ on fine. inl refl
+
+pub returns-in_err-show-clause-synced : goal.returns-in_err-show-clause-synced
+returns-in_err-show-clause-synced g c =
+    let p = err_from_is_err_and c.from_residual-in_err-show.result c.from_residual-in_err-show.ensures.1 in
+    rw (p.1, p.2) (λ on fine. no_output fine)
 
 pub returns-in_err-show-clause-saves : goal.returns-in_err-show-clause-saves
 returns-in_err-show-clause-saves g c =
@@ -40,6 +48,14 @@ returns-in_err-answer-clause-saves g c =
     c.exchange_in-outcome.new.given c.loop-ask.self.text _ _ _ _ _ _ _ _ c.args.refusals.now.items
     c.loop-ask.refusals.items c.tried.new.refusals.items c.loop-ask.stage c.loop-ask.invariant.saves
     c.in-Some.ensures.ask c.loop-ask.invariant.text c.exchange_in-outcome.ensures.exchanges c.in_err-answer.ensures)
+
+pub returns-in_err-answer-clause-synced : goal.returns-in_err-answer-clause-synced
+returns-in_err-answer-clause-synced g c = λ on fine. inr (c.loop-ask.invariant.synced on)
+
+pub returns-in_err-show-2-clause-synced : goal.returns-in_err-show-2-clause-synced
+returns-in_err-show-2-clause-synced g c =
+    let p = err_from_is_err_and c.from_residual-in_err-show-2.result c.from_residual-in_err-show-2.ensures.1 in
+    rw (p.1, p.2) (λ on fine. no_output fine)
 
 pub returns-in_err-show-2-clause-saves : goal.returns-in_err-show-2-clause-saves
 returns-in_err-show-2-clause-saves g c =
@@ -75,6 +91,9 @@ pub returns-clause-saves : goal.returns-clause-saves
 returns-clause-saves g c =
     finishes c.args.saving.now _ _ _ _ _ _ _ c.args.refusals.now.items c.loop-ask.refusals.items c.loop-ask.stage
     c.loop-ask.invariant.saves c.in_default.ensures.ask
+
+pub returns-clause-synced : goal.returns-clause-synced
+returns-clause-synced g c = λ on fine. inr (c.loop-ask.invariant.synced on)
 
 pub show-requires-in-Some-clause-given : goal.show-requires-in-Some-clause-given
 show-requires-in-Some-clause-given g c =
