@@ -21,7 +21,8 @@ use Rattle.sysv_engine.specs.declared.terms.Ended.{Ended}
 use Rattle.sysv_server.specs.Accepts.{Accepts, HasEnded}
 use Rattle.sysv_server.specs.Doors.{Came, FailedSince}
 use Rattle.sysv_server.proofs.Came.{came_on, came_still, failed_since}
-use Rattle.sysv_server.specs.Listening.{IsOver, added}
+use Rattle.sysv_server.proofs.Hearing.{heard_on, heard_still, over_since, over_some}
+use Rattle.sysv_server.specs.Listening.{HeardBy, IsOverBy, added}
 use Rattle.sysv_engine.specs.Added.{capped, one_session}
 use Rattle.sysv_seats.specs.declared.socket_stream.SocketStream.{SocketStream}
 use Rattle.sysv_service.specs.Seats.{Gates}
@@ -67,14 +68,14 @@ module _ {A : Type 0} where
 module _ {L I : Type 0} (reads : I → ℕ → Result ℕ Error → I → Type 0) (fails : L → Error → L → Type 0)
     (steps : L → Option SocketStream → L → Type 0) where
   -- Why a source may have ended before its last sessions, which are served alone.
-  abbrev EndsEarly : (alone input : Bool) → L → Option Reason → Type 0
+  abbrev EndsEarly : (alone : Bool) → (input : Option I) → L → Option Reason → Type 0
   EndsEarly alone input start None = ⊥
   EndsEarly alone input start (Some Full) = ⊥
-  EndsEarly alone input start (Some InputOver) = (input ≡ true) × IsOver reads
+  EndsEarly alone input start (Some InputOver) = IsOverBy reads input
   EndsEarly alone input start (Some (NoSocket why)) = alone ≡ true
   EndsEarly alone input start (Some (Accept why)) = FailedSince steps fails start why
 
-  early_cause : (alone input : Bool) (m sessions : ℕ) (start : L) (reason : Option Reason) →
+  early_cause : (alone : Bool) (input : Option I) (m sessions : ℕ) (start : L) (reason : Option Reason) →
       EndsEarly alone input start reason → HasCause reads fails steps alone input m sessions start reason
   early_cause alone input m sessions start None early = early
   early_cause alone input m sessions start (Some Full) early = absurd early
@@ -82,13 +83,14 @@ module _ {L I : Type 0} (reads : I → ℕ → Result ℕ Error → I → Type 0
   early_cause alone input m sessions start (Some (NoSocket why)) early = λ off. absurd (true≢false (sym early ∙ off))
   early_cause alone input m sessions start (Some (Accept why)) early = early
 
-  early_since : (alone input : Bool) (a b : L) (xs : List SocketStream) (reason : Option Reason) → Came steps a xs b →
-      EndsEarly alone input b reason → EndsEarly alone input a reason
-  early_since alone input a b xs None came early = early
-  early_since alone input a b xs (Some Full) came early = early
-  early_since alone input a b xs (Some InputOver) came early = early
-  early_since alone input a b xs (Some (NoSocket why)) came early = early
-  early_since alone input a b xs (Some (Accept why)) came early = failed_since steps fails a b xs why came early
+  early_since : (alone : Bool) (input later : Option I) (a b : L) (xs : List SocketStream) (reason : Option Reason) →
+      HeardBy reads input later → Came steps a xs b → EndsEarly alone later b reason → EndsEarly alone input a reason
+  early_since alone input later a b xs None heard came early = early
+  early_since alone input later a b xs (Some Full) heard came early = early
+  early_since alone input later a b xs (Some InputOver) heard came early = over_since reads input later heard early
+  early_since alone input later a b xs (Some (NoSocket why)) heard came early = early
+  early_since alone input later a b xs (Some (Accept why)) heard came early =
+      failed_since steps fails a b xs why came early
 
 -- ---- the connections of a listener
 
@@ -128,20 +130,24 @@ module _ {L I H : Type 0} (told : L → Option (List SocketStream)) (listens : L
 
   -- while connections are given, not more are counted than were given
   stays : (items : List SocketStream) (s s' : Accepting L I H) → Given items s s'
-      → (s'.most ≡ s.most) × (s'.accepted ≤ s.accepted + length items) × (is_some s'.input ≡ is_some s.input)
+      → (s'.most ≡ s.most) × (s'.accepted ≤ s.accepted + length items) × HeardBy reads s.input s'.input
       × (s'.alone ≡ s.alone)
-  stays [] s s' h = rw h (refl, omega arith, refl, refl)
+  stays [] s s' h = rw h (refl, omega arith, heard_still reads s'.input, refl)
   stays (x ∷ items) s s' h =
       let step = h.1 in
       let rest = stays items h.0 s' h.2 in
       let low = rest.1 in
-      let more = step.2 in
-      (rest.0 ∙ step.0, omega arith, rest.2 ∙ step.5, rest.3 ∙ step.11)
+      let more = step.2 in (
+        rest.0 ∙ step.0,
+        omega arith,
+        heard_on reads s.input h.0.input s'.input step.5 rest.2,
+        rest.3 ∙ step.11,
+      )
 
   -- A source that gives one more has not reached its limit.
   ends_early : (s : Accepting L I H) (reason : Option Reason) → s.alone ≡ true
       → (s.most ≢ 0 → s.accepted < s.most) → IsSomeAnd reason (HasEnded listens reads fails steps s)
-      → EndsEarly reads fails steps s.alone (is_some s.input) s.listener.now reason
+      → EndsEarly reads fails steps s.alone s.input s.listener.now reason
   ends_early s None alone low why = why
   ends_early s (Some Full) alone low full =
       let below_it = low full.0 in
@@ -153,21 +159,20 @@ module _ {L I H : Type 0} (told : L → Option (List SocketStream)) (listens : L
 
   -- while connections are given, the source has ended for no reason, or before its last sessions
   keeps : (items : List SocketStream) (s s' : Accepting L I H) → Given items s s'
-      → (s'.reason ≡ s.reason) ⊎ EndsEarly reads fails steps s.alone (is_some s.input) s.listener.now s'.reason
+      → (s'.reason ≡ s.reason) ⊎ EndsEarly reads fails steps s.alone s.input s.listener.now s'.reason
   keeps [] s s' h = inl (sym (ap (λ (t : Accepting L I H). t.reason) h))
   keeps (x ∷ items) s s' h =
       let step = h.1 in
       elim (keeps items h.0 s' h.2) [
         | inr early ↦
-            inr (early_since reads fails steps s.alone (is_some s.input) s.listener.now h.0.listener.now (x ∷ [])
-            s'.reason step.10
-            (subst (λ b. EndsEarly reads fails steps b (is_some s.input) h.0.listener.now s'.reason) step.11
-            (subst (λ b. EndsEarly reads fails steps h.0.alone b h.0.listener.now s'.reason) step.5 early)))
+            inr (early_since reads fails steps s.alone s.input h.0.input s.listener.now h.0.listener.now (x ∷ [])
+            s'.reason step.5 step.10
+            (subst (λ b. EndsEarly reads fails steps b h.0.input h.0.listener.now s'.reason) step.11 early))
         | inl kept ↦
             elim step.4 [
               | inl same ↦ inl (kept ∙ same)
               | inr ended ↦
-                  inr (subst (λ r. EndsEarly reads fails steps s.alone (is_some s.input) s.listener.now r) (sym kept)
+                  inr (subst (λ r. EndsEarly reads fails steps s.alone s.input s.listener.now r) (sym kept)
                   (ends_early s h.0.reason ended.0 step.1 ended.2))
             ]
       ]
@@ -249,9 +254,9 @@ module _ {L I H : Type 0} (told : L → Option (List SocketStream)) (listens : L
   gave_hold items s s' (inl all) = all_hold items s s' all
   gave_hold items s s' (inr none) = ap (λ (t : Accepting L I H). t.listener.ghost_name) none.1
 
-  has_cause : (m sessions : ℕ) (s last s' : Accepting L I H) (items : List SocketStream) (alone input : Bool)
-      (reason : Option Reason)
-      → s.accepted ≡ 0 → s.most ≡ m → m ≤ 2 ^ 64 - 1 → s.alone ≡ alone → is_some s.input ≡ input
+  has_cause : (m sessions : ℕ) (s last s' : Accepting L I H) (items : List SocketStream) (alone : Bool)
+      (input : Option I) (reason : Option Reason)
+      → s.accepted ≡ 0 → s.most ≡ m → m ≤ 2 ^ 64 - 1 → s.alone ≡ alone → s.input ≡ input
       → Given items s last → GivesAll Gives s items s' → sessions ≡ capped (length items)
       → IsSomeAnd reason (HasEnded listens reads fails steps last)
       → HasCause reads fails steps alone input m sessions s.listener.now reason
@@ -268,7 +273,7 @@ module _ {L I H : Type 0} (told : L → Option (List SocketStream)) (listens : L
       (λ z. some (same ∙ z), count ∙ (ap capped many ∙ below m small))
   has_cause m sessions s last s' items alone input (Some InputOver) none same small of_alone of_input gave all count
       over =
-      (sym of_input ∙ (sym (stays items s last gave).2 ∙ over.0), over.1)
+      subst (IsOverBy reads) of_input (over_since reads s.input last.input (stays items s last gave).2 over)
   has_cause m sessions s last s' items alone input (Some (NoSocket why)) none same small of_alone of_input gave all
       count unopened =
       λ off.
@@ -354,9 +359,9 @@ module _ {L I H : Type 0} (told : L → Option (List SocketStream)) (listens : L
 
   -- the reason why no more connections were accepted tells how many sessions there were
   pub ends_for : (shows : Bool) (blocks m : ℕ) (s s' : Accepting L I H) (books books' : List ⊤)
-      (ended : Ended) (alone input : Bool) (reason : Option Reason)
+      (ended : Ended) (alone : Bool) (input : Option I) (reason : Option Reason)
       → s.accepted ≡ 0 → s.most ≡ m → m ≤ 2 ^ 64 - 1 → s.reason ≡ None → s.alone ≡ alone
-      → is_some s.input ≡ input → s'.reason ≡ reason → Serves shows blocks s books ended s' books'
+      → s.input ≡ input → s'.reason ≡ reason → Serves shows blocks s books ended s' books'
       → HasCause reads fails steps alone input m ended.sums.sessions s.listener.now reason
   ends_for shows blocks m s s' books books' ended alone input reason none same small unended of_alone of_input
       of_reason served =
@@ -462,8 +467,8 @@ module _ {L I H : Type 0} (told : L → Option (List SocketStream)) (listens : L
               (subst (λ k. FailsFrom told shows blocks workers m s.listener.now why k) after
               (fails_from shows blocks workers m s s' books books' why none same small counted left)))
 
-    pub all_for : (l : L) (alone input : Bool) (reason : Option Reason) → s.listener.now ≡ l → s.reason ≡ None →
-        s.alone ≡ alone → is_some s.input ≡ input → s'.reason ≡ reason →
+    pub all_for : (l : L) (alone : Bool) (input : Option I) (reason : Option Reason) → s.listener.now ≡ l →
+        s.reason ≡ None → s.alone ≡ alone → s.input ≡ input → s'.reason ≡ reason →
         IfOk result (λ ended. HasCause reads fails steps alone input m ended.sums.sessions l reason)
     all_for l alone input reason before unended of_alone of_input of_reason = of result ok
       where
@@ -488,16 +493,17 @@ err_so P Q (Err e) so p = so e p
 
 module _ {L I : Type 0} (reads : I → ℕ → Result ℕ Error → I → Type 0) (fails : L → Error → L → Type 0)
     (steps : L → Option SocketStream → L → Type 0) where
-  has_reason : (alone input : Bool) (m sessions : ℕ) (start : L) (reason : Option Reason)
-      → HasCause reads fails steps alone input m sessions start reason → HasReason alone input m sessions reason
+  has_reason : (alone : Bool) (input : Option I) (m sessions : ℕ) (start : L) (reason : Option Reason)
+      → HasCause reads fails steps alone input m sessions start reason
+      → HasReason alone (is_some input) m sessions reason
   has_reason alone input m sessions start None cause = cause
   has_reason alone input m sessions start (Some Full) cause = cause
-  has_reason alone input m sessions start (Some InputOver) cause = cause.0
+  has_reason alone input m sessions start (Some InputOver) cause = over_some reads input cause
   has_reason alone input m sessions start (Some (NoSocket why)) cause = cause
   has_reason alone input m sessions start (Some (Accept why)) cause = tt
 
-  pub reason_so : (alone input input' : Bool) (m : ℕ) (start : L) (reason : Option Reason)
-      (result : Result Ended ServeFault) → input' ≡ input
+  pub reason_so : (alone input : Bool) (input' : Option I) (m : ℕ) (start : L) (reason : Option Reason)
+      (result : Result Ended ServeFault) → is_some input' ≡ input
       → IfOk result (λ ended. HasCause reads fails steps alone input' m ended.sums.sessions start reason)
       → IfOk result (λ ended. HasReason alone input m ended.sums.sessions reason)
   reason_so alone input input' m start reason (Ok ended) same cause =

@@ -8,7 +8,7 @@ use Rattle.sysv_seats.specs.declared.socket_stream.SocketStream.{SocketStream}
 use Rattle.sysv_server.proofs.Came.{came_on}
 use Rattle.sysv_server.specs.Accepts.{Accepts, AcceptsLast, HasEnded}
 use Rattle.sysv_server.specs.Doors.{Came}
-use Rattle.sysv_server.specs.Listening.{added}
+use Rattle.sysv_server.specs.Listening.{HeardBy, added}
 use Rattle.sysv_server.specs.declared.accepting.Accepting.{Accepting}
 
 -- Without a value there is none.
@@ -25,7 +25,7 @@ module _ {L I H : Type 0} (told : L → Option (List SocketStream)) (listens : L
     pub accepted : mid.accepted ≡ old.accepted
     pub limits : mid.limits ≡ old.limits
     pub alone : mid.alone ≡ old.alone
-    pub input : is_some mid.input ≡ is_some old.input
+    pub input : HeardBy reads old.input mid.input
     pub same : told mid.listener.now ≡ told old.listener.now
     pub lent : mid.listener.ghost_name ≡ old.listener.ghost_name
     pub came : Came steps old.listener.now [] mid.listener.now
@@ -55,7 +55,7 @@ module _ {L I H : Type 0} (told : L → Option (List SocketStream)) (listens : L
       ended.unended,
       subst (λ r. IsSomeAnd r (HasEnded listens reads fails steps old)) (sym last.4) ended.why,
     ),
-    last.6 ∙ ended.input,
+    subst (λ o. HeardBy reads old.input o) (sym last.6) ended.input,
     last.7 ∙ ap (λ o. added o (stream ∷ [])) ended.same,
     last.8 ∙ ended.lent,
     last.9 ∙ ended.limits,

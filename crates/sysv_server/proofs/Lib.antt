@@ -1,4 +1,5 @@
 pub mod Came
+pub mod Hearing
 pub mod LetIn
 pub mod AnyOpen
 pub mod Last

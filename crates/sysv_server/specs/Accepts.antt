@@ -8,7 +8,7 @@ use Rattle.sysv_server.specs.declared.accepting.Accepting.{Accepting}
 use Rattle.sysv_server.specs.declared.host.Reason.{Reason}
 use Rattle.sysv_server.specs.declared.host.Reason.TheVariants.{Full, InputOver, NoSocket, Accept}
 use Rattle.sysv_server.specs.Doors.{Came, FailedSince}
-use Rattle.sysv_server.specs.Listening.{IsOver, added}
+use Rattle.sysv_server.specs.Listening.{HeardBy, IsOverBy, added}
 use Rattle.sysv_engine.specs.Added.{capped}
 
 -- The number of connections is limited, and the limit is reached.
@@ -17,14 +17,14 @@ IsFull most accepted = (most ≢ 0) × (most ≤ accepted)
 
 module _ {L I : Type 0} (reads : I → ℕ → Result ℕ Error → I → Type 0) (fails : L → Error → L → Type 0)
     (steps : L → Option SocketStream → L → Type 0) where
-  -- While a source with an input, or without one, waited for a connection, this ended it. Its listener was in this
+  -- While a source with this input, or without one, waited for a connection, this ended it. Its listener was in this
   -- state before. `reads` are the reads of the input, `fails` the accepts of the listener that may fail, and `steps`
   -- its steps.
-  abbrev pub EndsWait : Bool → L → Reason → Type 0
-  EndsWait has_input start Full = ⊥
-  EndsWait has_input start InputOver = (has_input ≡ true) × IsOver reads
-  EndsWait has_input start (NoSocket why) = ⊥
-  EndsWait has_input start (Accept why) = FailedSince steps fails start why
+  abbrev pub EndsWait : Option I → L → Reason → Type 0
+  EndsWait input start Full = ⊥
+  EndsWait input start InputOver = IsOverBy reads input
+  EndsWait input start (NoSocket why) = ⊥
+  EndsWait input start (Accept why) = FailedSince steps fails start why
 
 module _ {L I H : Type 0} (listens : L → Bool) (reads : I → ℕ → Result ℕ Error → I → Type 0)
     (fails : L → Error → L → Type 0) (steps : L → Option SocketStream → L → Type 0) where
@@ -37,7 +37,7 @@ module _ {L I H : Type 0} (listens : L → Bool) (reads : I → ℕ → Result �
   -- be opened, or an accept of its listener has failed with this error since.
   abbrev pub HasEnded : Accepting L I H → Reason → Type 0
   HasEnded source Full = IsFull source.most source.accepted
-  HasEnded source InputOver = (is_some source.input ≡ true) × IsOver reads
+  HasEnded source InputOver = IsOverBy reads source.input
   HasEnded source (NoSocket why) = IsNotOpen source
   HasEnded source (Accept why) = FailedSince steps fails source.listener.now why
 
@@ -68,7 +68,7 @@ module _ {L I H : Type 0} (told : L → Option (List SocketStream)) (listens : L
   Accepts old (Some stream) new =
       (new.most ≡ old.most) × (old.most ≢ 0 → old.accepted < old.most) × (new.accepted ≡ capped (old.accepted + 1))
       × (listens new.listener.now ≡ true) × KeepsReason listens reads fails steps old new
-      × (is_some new.input ≡ is_some old.input)
+      × HeardBy reads old.input new.input
       × (told new.listener.now ≡ added (told old.listener.now) (stream ∷ []))
       × (new.listener.ghost_name ≡ old.listener.ghost_name)
       × (limits_of stream ≡ old.limits) × (new.limits ≡ old.limits)
@@ -86,7 +86,7 @@ module _ {L I H : Type 0} (told : L → Option (List SocketStream)) (listens : L
   AcceptsLast old (Some stream) new =
       (new.most ≡ old.most) × (old.most ≢ 0 → old.accepted < old.most) × (new.accepted ≡ capped (old.accepted + 1))
       × (listens new.listener.now ≡ true) × (new.reason ≡ old.reason) × (old.has_last ≡ true)
-      × (is_some new.input ≡ is_some old.input)
+      × (new.input ≡ old.input)
       × (told new.listener.now ≡ added (told old.listener.now) (stream ∷ []))
       × (new.listener.ghost_name ≡ old.listener.ghost_name)
       × (limits_of stream ≡ old.limits) × (new.limits ≡ old.limits) × (new.alone ≡ old.alone)

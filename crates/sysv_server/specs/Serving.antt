@@ -2,7 +2,7 @@
 -- of places, all at one service. Each place has a pass of its own and serves one client after another,
 -- and there is one session for each connection.
 use Rattle.std.specs.Prelude.{◌≡◌, ◌≢◌, ◌≤◌, ◌+◌, ◌^◌, ◌||◌, ⊤, ℕ, Bool, true, false, List, [], Option, Some, None}
-use Rattle.std.specs.Prelude.{Result, length, min}
+use Rattle.std.specs.Prelude.{Result, is_some, length, min}
 use Rattle.std.specs.declared.io.Error.{Error}
 use Rattle.std.specs.List.{AllByRecursion}
 use Rattle.std.specs.List.Sorted.{IsPermutation}
@@ -26,7 +26,7 @@ use Rattle.sysv_engine.specs.OneRun.{Lived}
 use Rattle.sysv_engine.specs.Serving.{HasLived, LeavesBooks, RunsWith}
 use Rattle.sysv_workers.specs.declared.workers.TheConstants.{MAX_WORKERS}
 use Rattle.sysv_server.specs.Doors.{Came, FailedSince}
-use Rattle.sysv_server.specs.Listening.{IsOver, added}
+use Rattle.sysv_server.specs.Listening.{IsOverBy, added}
 use Rattle.sysv_server.specs.declared.host.Reason.{Reason}
 use Rattle.sysv_server.specs.declared.terms.Terms.{Terms}
 use Rattle.sysv_server.specs.declared.host.Reason.TheVariants.{Full, InputOver, NoSocket, Accept}
@@ -131,13 +131,14 @@ HasReason alone has_input most sessions (Some (Accept why)) = ⊤
 
 module _ {L I : Type 0} (reads : I → ℕ → Result ℕ Error → I → Type 0) (fails : L → Error → L → Type 0)
     (steps : L → Option SocketStream → L → Type 0) where
-  -- The same, and an input that is over was read to its end, or could not be read, and an accept of the listener,
+  -- The same, and the input was read to its end if it is over, or could not be read, and an accept of the listener,
   -- which was in the state `start` before, has failed with the error that is told. `reads` are the reads of the input,
   -- `fails` the accepts of the listener that may fail, and `steps` its steps.
-  abbrev pub HasCause : (alone has_input : Bool) → (most sessions : ℕ) → (start : L) → Option Reason → Type 0
-  HasCause alone has_input most sessions start (Some InputOver) = (has_input ≡ true) × IsOver reads
-  HasCause alone has_input most sessions start (Some (Accept why)) = FailedSince steps fails start why
-  HasCause alone has_input most sessions start reason = HasReason alone has_input most sessions reason
+  abbrev pub HasCause : (alone : Bool) → (input : Option I) → (most sessions : ℕ) → (start : L) → Option Reason →
+      Type 0
+  HasCause alone input most sessions start (Some InputOver) = IsOverBy reads input
+  HasCause alone input most sessions start (Some (Accept why)) = FailedSince steps fails start why
+  HasCause alone input most sessions start reason = HasReason alone (is_some input) most sessions reason
 
 module _ {L : Type 0} (told : L → Option (List SocketStream)) where
   -- A server served the connections of a listener, which went from the one state to the other and is

@@ -1,10 +1,10 @@
 //! A source of accepted connections.
-ghost use Rattle.std.specs.Prelude.{◌≡◌, ◌≢◌, ◌<◌, ◌≤◌, ◌-◌, ◌^◌, ◌∷◌, [], true, false, is_some, None, Some, IfErr, IfOk, IfSome, MatchOption, MatchResult, OnErr, OnOk};
+ghost use Rattle.std.specs.Prelude.{◌≡◌, ◌≢◌, ◌<◌, ◌≤◌, ◌-◌, ◌^◌, ◌∷◌, [], true, false, None, Some, IfErr, IfOk, IfSome, MatchOption, MatchResult, OnErr, OnOk};
 ghost use Rattle.sysv_engine.specs.Looks.{Looks};
 ghost use Rattle.sysv_seats.specs.Untold.{limits_of};
 ghost use Rattle.sysv_server.specs.Accepts.{AcceptsLast, EndsWait, HasEnded, IsFull};
 ghost use Rattle.sysv_server.specs.Doors.{Came};
-ghost use Rattle.sysv_server.specs.Listening.{added, IsOver};
+ghost use Rattle.sysv_server.specs.Listening.{added, Heard, HeardBy, IsOver, IsOverBy};
 
 use crate::desk::Desk;
 use crate::host::{Host, Notice, Reason};
@@ -166,7 +166,7 @@ impl<'a, L: Listens, I: Input + Drop, H: Host> Accepting<'a, L, I, H> {
         ensures same { (self.new.most ≡ self.old.most) × (self.new.accepted ≡ self.old.accepted)
             × (self.new.reason ≡ self.old.reason) × (self.new.limits ≡ self.old.limits)
             × (self.new.alone ≡ self.old.alone) }
-        ensures input { is_some self.new.input ≡ is_some self.old.input }
+        ensures input { self.new.input ≡ self.old.input }
         ensures ok { OnOk result (L.listens self.new.listener.now ≡ true) }
         ensures err { OnErr result
             (L.listens self.new.listener.now ≡ L.listens self.old.listener.now) }
@@ -192,12 +192,12 @@ impl<'a, L: Listens, I: Input + Drop, H: Host> Accepting<'a, L, I, H> {
     }
 
     /// Accepts the next connection. The error is why no more connections are to be accepted.
-    #[tactic(auto, using(sysv_engine::proofs::Looking::looks_stay, crate::proofs::Came::came_on, crate::proofs::Came::came_once, crate::proofs::Came::came_quiet, crate::proofs::Came::came_still, crate::proofs::Came::failed_since))]
+    #[tactic(auto, using(sysv_engine::proofs::Looking::looks_stay, crate::proofs::Came::came_on, crate::proofs::Came::came_once, crate::proofs::Came::came_quiet, crate::proofs::Came::came_still, crate::proofs::Came::failed_since, crate::proofs::Hearing::heard_on, crate::proofs::Hearing::heard_still, crate::proofs::Hearing::over_since))]
     fn accept<R: Wait>(&mut self, rows: &mut Rows<'_, R>) -> Result<SocketStream, Reason>
         ensures same { (self.new.most ≡ self.old.most) × (self.new.accepted ≡ self.old.accepted)
             × (self.new.reason ≡ self.old.reason) × (self.new.limits ≡ self.old.limits)
             × (self.new.alone ≡ self.old.alone) }
-        ensures input { is_some self.new.input ≡ is_some self.old.input }
+        ensures input { HeardBy I.reads self.old.input self.new.input }
         ensures bounded { IfOk result (λ _. self.old.most ≢ 0 →
             self.old.accepted < self.old.most) }
         ensures opened { OnOk result (L.listens self.new.listener.now ≡ true) }
@@ -258,8 +258,8 @@ impl<'a, L: Listens, I: Input + Drop, H: Host> Accepting<'a, L, I, H> {
         ensures same { (self.new.most ≡ self.old.most) × (self.new.accepted ≡ self.old.accepted)
             × (self.new.reason ≡ self.old.reason) × (self.new.limits ≡ self.old.limits)
             × (self.new.alone ≡ self.old.alone) × (self.new.listener ≡ self.old.listener) }
-        ensures input { is_some self.new.input ≡ is_some self.old.input }
-        ensures ended { result ≡ false → (is_some self.old.input ≡ true) × IsOver I.reads }
+        ensures input { HeardBy I.reads self.old.input self.new.input }
+        ensures ended { result ≡ false → IsOverBy I.reads self.old.input }
     {
         self.server.await_turn(true);
         let is_over = await_byte(
@@ -278,7 +278,7 @@ impl<'a, L: Listens, I: Input + Drop, H: Host> Accepting<'a, L, I, H> {
     fn end_for(&mut self, why: Reason)
         ensures same { (self.new.most ≡ self.old.most) × (self.new.accepted ≡ self.old.accepted)
             × (self.new.limits ≡ self.old.limits) × (self.new.alone ≡ self.old.alone) }
-        ensures input { is_some self.new.input ≡ is_some self.old.input }
+        ensures input { self.new.input ≡ self.old.input }
         ensures reason { self.new.reason ≡ Some why }
         ensures last { self.new.has_last ≡ true → self.old.alone ≡ true }
         ensures told { L.accepted self.new.listener.now ≡ L.accepted self.old.listener.now }
@@ -333,14 +333,15 @@ impl<'a, L: Listens, I: Input + Drop, H: Host> Accepting<'a, L, I, H> {
 
 /// Waits until the sessions of this number of connections are over and the input has had a byte, at
 /// which `goes_on` is set. Returns whether the input has ended before.
+#[tactic(auto, using(crate::proofs::Hearing::heard_on, crate::proofs::Hearing::heard_still, crate::proofs::Hearing::over_since))]
 fn await_byte<I: Input>(
     input: &mut Option<I>,
     goes_on: &mut bool,
     server: &ServerState,
     accepted: u64,
 ) -> bool
-    ensures input { is_some input.new ≡ is_some input.old }
-    ensures ended { result ≡ true → (is_some input.old ≡ true) × IsOver I.reads }
+    ensures input { HeardBy I.reads input.old input.new }
+    ensures ended { result ≡ true → IsOverBy I.reads input.old }
 {
     *goes_on = *goes_on || input.is_none();
     for _ in 0..u64::MAX {
@@ -483,7 +484,7 @@ impl<H: Host> Acceptor<'_, '_, H> {
     /// Waits for a connection and accepts it. Until it comes, serves the desk. If the server
     /// `retries`, an accept that fails for want of something is tried again; the host is told so,
     /// and when it succeeds. `goes_on` is set if the input has had a byte.
-    #[tactic(auto, using(sysv_engine::proofs::Looking::looks_stay, sysv_engine::proofs::Looking::looks_on, crate::proofs::Came::came_on, crate::proofs::Came::came_once, crate::proofs::Came::came_quiet, crate::proofs::Came::came_still))]
+    #[tactic(auto, using(sysv_engine::proofs::Looking::looks_stay, sysv_engine::proofs::Looking::looks_on, crate::proofs::Came::came_on, crate::proofs::Came::came_once, crate::proofs::Came::came_quiet, crate::proofs::Came::came_still, crate::proofs::Hearing::heard_on, crate::proofs::Hearing::heard_still, crate::proofs::Hearing::over_since))]
     fn accept_next<L: Listens, I: Input, R: Wait>(
         &self,
         listener: &mut L,
@@ -494,8 +495,8 @@ impl<H: Host> Acceptor<'_, '_, H> {
         rows: &mut Rows<'_, R>,
         retries: bool,
     ) -> Result<SocketStream, Reason>
-        ensures input { is_some input.new ≡ is_some input.old }
-        ensures ended { IfErr result (EndsWait I.reads L.fails L.steps (is_some input.old) listener.old) }
+        ensures input { HeardBy I.reads input.old input.new }
+        ensures ended { IfErr result (EndsWait I.reads L.fails L.steps input.old listener.old) }
         ensures ok { IfOk result (λ stream.
             L.accepted listener.new ≡ added (L.accepted listener.old) (stream ∷ [])) }
         ensures limits { IfOk result (λ stream. limits_of stream ≡ self.now.limits) }
@@ -632,8 +633,8 @@ pub(crate) fn is_passing(why: &io::Error) -> bool {
 /// Reads a piece of the input, which can be read and is dropped. Returns whether the input is at
 /// its end or cannot be read. `goes_on` is set if it had a byte.
 fn has_ended<I: Input>(input: &mut Option<I>, goes_on: &mut bool) -> bool
-    ensures input { is_some input.new ≡ is_some input.old }
-    ensures ended { result ≡ true → (is_some input.old ≡ true) × IsOver I.reads }
+    ensures input { HeardBy I.reads input.old input.new }
+    ensures ended { result ≡ true → IsOverBy I.reads input.old }
 {
     match input {
         Some(input) => is_over(input, goes_on),
@@ -643,8 +644,10 @@ fn has_ended<I: Input>(input: &mut Option<I>, goes_on: &mut bool) -> bool
 
 /// Reads a piece of the input. Returns whether the input is at its end or cannot be read. `goes_on` is
 /// set if it had a byte.
+#[tactic(auto, using(crate::proofs::Hearing::heard_once))]
 fn is_over<I: Input>(input: &mut I, goes_on: &mut bool) -> bool
-    ensures { result ≡ true → IsOver I.reads }
+    ensures input { Heard I.reads input.old input.new }
+    ensures ended { result ≡ true → IsOver I.reads input.old }
 {
     let mut piece = [0; INPUT_BYTES];
     match input.read(&mut piece) {

@@ -178,8 +178,8 @@ pub fn serve_from<L: Listens, I: Input + Drop, H: Host, R: Threads + Wait + Net 
     ensures ok { IfOk result (λ ended. EndsFrom L.accepted L.listens L.steps (looks_in terms)
         terms.blocks terms.at_once terms.sessions (limits_in terms) listener.old ended
         listener.new) }
-    ensures exact { IfOk result (λ ended. HasCause I.reads L.fails L.steps terms.alone
-        (is_some input) terms.sessions ended.sums.sessions listener.old reason.new) }
+    ensures exact { IfOk result (λ ended. HasCause I.reads L.fails L.steps terms.alone input
+        terms.sessions ended.sums.sessions listener.old reason.new) }
     ensures balance { IfOk result (λ ended. IsBalanced ended.sums) }
     ensures setting { IfOk result (λ ended. RanOn terms ended.setting) }
     ensures err { IfErr result (λ why. FailsFrom L.accepted (looks_in terms) terms.blocks terms.at_once
@@ -206,8 +206,8 @@ fn run<L: Listens, I: Input + Drop, H: Host, R: Threads + Wait + Net + Sync>(
     ensures ok { IfOk result (λ ended. EndsFrom L.accepted L.listens L.steps (looks_in terms)
         terms.blocks terms.at_once terms.sessions (limits_in terms) listener.old ended
         listener.new) }
-    ensures exact { IfOk result (λ ended. HasCause I.reads L.fails L.steps terms.alone
-        (is_some input) terms.sessions ended.sums.sessions listener.old reason.new) }
+    ensures exact { IfOk result (λ ended. HasCause I.reads L.fails L.steps terms.alone input
+        terms.sessions ended.sums.sessions listener.old reason.new) }
     ensures balance { IfOk result (λ ended. IsBalanced ended.sums) }
     ensures setting { IfOk result (λ ended. RanOn terms ended.setting) }
     ensures err { IfErr result (λ why. FailsFrom L.accepted (looks_in terms) terms.blocks terms.at_once

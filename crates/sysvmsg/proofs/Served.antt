@@ -1,7 +1,8 @@
 -- What a server on any listener has done, it has done on a socket, where what the listener and the input tell is
 -- left out.
-use Rattle.std.proofs.Common.{◌≡◌, ℕ, Bool, List, Option, None, Some, map, subst}
+use Rattle.std.proofs.Common.{◌≡◌, ℕ, Bool, List, Option, None, Some, true, false, map, refl, subst}
 use Rattle.std.specs.Prelude.{IfErr, IfOk, Result, Ok, Err}
+use Rattle.std.specs.Bool.{then_some}
 use Rattle.std.specs.declared.io.Error.{Error}
 use Rattle.std.specs.declared.process.ExitCode.{ExitCode}
 use Rattle.sysv_engine.specs.declared.fault.ServeFault.{ServeFault}
@@ -38,34 +39,37 @@ module _ {L I : Type 0} (told : L → Option (List SocketStream)) (listens : L �
   failed limit terms before now (Ok ended) from = from
   failed limit terms before now (Err why) from = from.0
 
-  has_reason : (alone has_input : Bool) (most sessions : ℕ) (start : L) (reason : Option Reason) →
-      HasCause reads fails steps alone has_input most sessions start reason →
+  has_reason : (alone has_input : Bool) (input : I) (most sessions : ℕ) (start : L) (reason : Option Reason) →
+      HasCause reads fails steps alone (then_some has_input input) most sessions start reason →
       HasReason alone has_input most sessions reason
-  has_reason alone has_input most sessions start None cause = cause
-  has_reason alone has_input most sessions start (Some Full) cause = cause
-  has_reason alone has_input most sessions start (Some InputOver) cause = cause.0
-  has_reason alone has_input most sessions start (Some (NoSocket why)) cause = cause
-  has_reason alone has_input most sessions start (Some (Accept why)) cause = tt
+  has_reason alone has_input input most sessions start None cause = cause
+  has_reason alone has_input input most sessions start (Some Full) cause = cause
+  has_reason alone true input most sessions start (Some InputOver) cause = refl
+  has_reason alone false input most sessions start (Some InputOver) cause = absurd cause
+  has_reason alone has_input input most sessions start (Some (NoSocket why)) cause = cause
+  has_reason alone has_input input most sessions start (Some (Accept why)) cause = tt
 
-  meant : (alone has_input : Bool) (most : ℕ) (start : L) (reason : Option Reason)
+  meant : (alone has_input : Bool) (input : I) (most : ℕ) (start : L) (reason : Option Reason)
       (outcome : Result Ended ServeFault) →
-      IfOk outcome (λ ended. HasCause reads fails steps alone has_input most ended.sums.sessions start reason) →
+      IfOk outcome (λ ended. HasCause reads fails steps alone (then_some has_input input) most ended.sums.sessions start
+      reason) →
       IfOk outcome (λ ended. HasReason alone has_input most ended.sums.sessions reason)
-  meant alone has_input most start reason (Ok ended) cause =
-      has_reason alone has_input most ended.sums.sessions start reason cause
-  meant alone has_input most start reason (Err why) cause = cause
+  meant alone has_input input most start reason (Ok ended) cause =
+      has_reason alone has_input input most ended.sums.sessions start reason cause
+  meant alone has_input input most start reason (Err why) cause = cause
 
   -- Which callers the connections let in follows from the steps of the listener.
-  pub told_less : (limit : Option ℕ) (has_input : Bool) (terms : Terms) (callers : List Callers) (exit : ExitCode)
+  pub told_less : (limit : Option ℕ) (has_input : Bool) (input : I) (terms : Terms) (callers : List Callers) (exit : ExitCode)
       (shown after : Option (List ℕ)) (before now : L) →
       ((accepted : List SocketStream) → Came steps before accepted now → EachLetsInOneOf callers accepted) →
-      HasServedFrom told listens reads fails steps limit has_input terms exit shown after before now →
+      HasServedFrom told listens reads fails steps limit has_input input terms exit shown after before now →
       HasServedAll limit has_input terms callers exit shown after
-  told_less limit has_input terms callers exit shown after before now let_in served = record {
+  told_less limit has_input input terms callers exit shown after before now let_in served = record {
     outcome = served.outcome;
     ends = ends limit terms callers before now served.outcome.ended let_in served.ends;
     setting = served.setting;
-    meant = meant terms.alone has_input terms.sessions before served.outcome.reason served.outcome.ended served.meant;
+    meant = meant terms.alone has_input input terms.sessions before served.outcome.reason served.outcome.ended
+        served.meant;
     fails = failed limit terms before now served.outcome.ended served.failed;
     reports = served.reports;
   }
@@ -74,13 +78,13 @@ module _ {L I : Type 0} (told : L → Option (List SocketStream)) (listens : L �
 module _ {H I : Type 0} (told : Doors (Hosted H) H → Option (List SocketStream)) (listens : Doors (Hosted H) H → Bool)
     (reads : I → ℕ → Result ℕ Error → I → Type 0)
     (fails : Doors (Hosted H) H → Error → Doors (Hosted H) H → Type 0) where
-  pub doors_served : (limit : Option ℕ) (has_input : Bool) (terms : Terms) (exit : ExitCode)
+  pub doors_served : (limit : Option ℕ) (has_input : Bool) (input : I) (terms : Terms) (exit : ExitCode)
       (shown after : Option (List ℕ)) (before now : Doors (Hosted H) H) (sockets : List (Hosted H)) →
       EachConnectionIsLetIn H → sockets_at before ≡ sockets →
-      HasServedFrom told listens reads fails DoorsSteps limit has_input terms exit shown after before now →
+      HasServedFrom told listens reads fails DoorsSteps limit has_input input terms exit shown after before now →
       HasServedAll limit has_input terms (map callers_at sockets) exit shown after
-  doors_served limit has_input terms exit shown after before now sockets law are served =
-      told_less told listens reads fails DoorsSteps limit has_input terms (map callers_at sockets) exit shown after
+  doors_served limit has_input input terms exit shown after before now sockets law are served =
+      told_less told listens reads fails DoorsSteps limit has_input input terms (map callers_at sockets) exit shown after
       before now
       (λ accepted came. subst (λ (l : List (Hosted H)). EachLetsInOneOf (map callers_at l) accepted) are
       (law before now accepted came)) served

@@ -1,6 +1,7 @@
 -- How a server ends (this project's programs).
 use Rattle.std.specs.Prelude.{◌≡◌, ⊤, ℕ, Bool, true, false, List, [], ◌∷◌, ◌++◌, codes, Option, None, Some, min}
 use Rattle.std.specs.Prelude.{IfErr, IfOk, IsOkAnd, Result}
+use Rattle.std.specs.Bool.{then_some}
 use Rattle.std.specs.declared.io.Error.{Error}
 use Rattle.std.specs.declared.process.ExitCode.{ExitCode}
 use Rattle.std.specs.Fmt.{decimal}
@@ -129,14 +130,14 @@ module _ {L I : Type 0} (told : L → Option (List SocketStream)) (listens : L �
   -- The same of a server on this listener, which went from the one state to the other. The sessions were on
   -- the connections that it has accepted. An input that is over was read to its end, or could not be read,
   -- and an accept of this listener that is told as failed has failed.
-  pub record HasServedFrom (limit : Option ℕ) (has_input : Bool) (terms : Terms) (exit : ExitCode)
+  pub record HasServedFrom (limit : Option ℕ) (has_input : Bool) (input : I) (terms : Terms) (exit : ExitCode)
       (shown after : Option (List ℕ)) (before now : L) : Type 0 where
     pub outcome : Outcome
     pub ends : IfOk outcome.ended (λ ended. EndsFrom told listens steps (looks_in terms) terms.blocks
         (places_of limit terms) terms.sessions (limits_in terms) before ended now)
     pub setting : IfOk outcome.ended (λ ended. RanWithin limit terms ended.setting)
-    pub meant : IfOk outcome.ended (λ ended. HasCause reads fails steps terms.alone has_input terms.sessions
-        ended.sums.sessions before outcome.reason)
+    pub meant : IfOk outcome.ended (λ ended. HasCause reads fails steps terms.alone (then_some has_input input)
+        terms.sessions ended.sums.sessions before outcome.reason)
     pub failed : IfErr outcome.ended (λ why. FailsFrom told (looks_in terms) terms.blocks (places_of limit terms)
         terms.sessions before why now)
     pub reports : Reports exit has_input outcome shown after

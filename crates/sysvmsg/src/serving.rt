@@ -1,4 +1,5 @@
 //! The server.
+ghost use Rattle.std.specs.Bool.{then_some};
 ghost use Rattle.std.specs.Prelude.{◌≡◌, ◌∷◌, ◌++◌, [], codes, IfErr, IfOk, IfSome, map};
 ghost use Rattle.std.specs.Fmt.{decimal};
 ghost use Rattle.std.specs.Io.KnownBytes.{Appends};
@@ -333,7 +334,7 @@ fn serve_at<
 ) -> ExitCode
     requires { HasLimits serving.now }
     ensures { HasServedFrom L.accepted L.listens I.reads L.fails L.steps limit
-        serving.now.until_eof serving.now.terms result (S.contents screen.old) (S.contents screen.new)
+        serving.now.until_eof input serving.now.terms result (S.contents screen.old) (S.contents screen.new)
         listener.old listener.new }
 {
     let mut reason = None;
@@ -363,8 +364,8 @@ fn run_server<L: Listens, H: Host, I: Input + Drop, R: Net + Threads + Wait + Sy
         serving.now.terms.sessions (limits_in serving.now.terms) listener.old ended listener.new) }
     ensures setting { IfOk result (λ ended. RanWithin limit serving.now.terms ended.setting) }
     ensures meant { IfOk result (λ ended. HasCause I.reads L.fails L.steps serving.now.terms.alone
-        serving.now.until_eof serving.now.terms.sessions ended.sums.sessions listener.old
-        reason.new) }
+        (then_some serving.now.until_eof input) serving.now.terms.sessions ended.sums.sessions
+        listener.old reason.new) }
     ensures fails { IfErr result (λ why. FailsFrom L.accepted (looks_in serving.now.terms)
         serving.now.terms.blocks (places_of limit serving.now.terms) serving.now.terms.sessions
         listener.old why listener.new) }

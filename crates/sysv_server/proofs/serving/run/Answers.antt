@@ -1,7 +1,6 @@
 -- The listener that the source leaves is the one that it was lent. What it has accepted is what the
 -- sessions were on.
-use Rattle.std.proofs.Common.{◌≡◌, ◌∙◌, length, ap, sym, arith}
-use Rattle.std.specs.Prelude.{is_some}
+use Rattle.std.proofs.Common.{◌≡◌, ◌∙◌, length, sym, arith}
 use Rattle.sysv_server.proofs.Accepted.{all_end, all_fail, all_for, still_holds}
 use Rattle.sysv_server.specs.Serving.{limits_in, looks_in}
 use Rattle.sysv_server.proofs.serving.run.Goals as goal
@@ -40,7 +39,7 @@ returns-clause-exact g c =
     (let same = c.new-source.ensures.begun.0 in let fits = c.new-source.ensures.range in omega arith)
     c.serve_arrivals-outcome.ensures.ok c.serve_arrivals-outcome.ensures.err _ _ _ _ c.new-source.ensures.listener
     c.new-source.ensures.begun.2
-    c.new-source.ensures.alone (ap is_some c.new-source.ensures.input) (sym c.into_parts-left.ensures.reason)
+    c.new-source.ensures.alone c.new-source.ensures.input (sym c.into_parts-left.ensures.reason)
 
 pub returns-clause-err : goal.returns-clause-err
 returns-clause-err g c =

@@ -4,6 +4,7 @@ use Rattle.std.specs.Prelude.{IsSomeAnd}
 use Rattle.sysv_server.proofs.Came.{came_on}
 use Rattle.sysv_server.proofs.Last.{gives_last, none_is}
 use Rattle.sysv_server.specs.Accepts.{HasEnded}
+use Rattle.sysv_server.specs.Listening.{HeardBy}
 use Rattle.sysv_server.proofs.accepting.AcceptingArrivalsSocketStream.next.Goals as goal
 
 pub returns-in-Err-clause-gives : goal.returns-in-Err-clause-gives
@@ -20,7 +21,7 @@ returns-in-Err-clause-gives g c =
       accepted = ends.same.1 ∙ told.same.1;
       limits = ends.same.2 ∙ told.same.3;
       alone = ends.same.3 ∙ told.same.4;
-      input = ends.input ∙ told.input;
+      input = subst (λ o. HeardBy g.I.Input.reads old.input o) (sym ends.input) told.input;
       same = ends.told ∙ told.err;
       lent = ends.same_reference ∙ told.same_reference;
       came = came_on steps old.listener.now c.accept.new.self.listener.now ended.listener.now [] [] told.came ends.came;

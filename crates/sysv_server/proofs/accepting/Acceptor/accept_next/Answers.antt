@@ -1,8 +1,9 @@
 -- The steps that the listener made in the rounds before, and that of the last accept.
-use Rattle.std.proofs.Common.{[], ◌∷◌, ◌∙◌, ap}
-use Rattle.std.specs.Prelude.{is_some}
+use Rattle.std.proofs.Common.{[], ◌∷◌, ◌∙◌, subst, sym}
 use Rattle.sysv_engine.proofs.Looking.{looks_on}
 use Rattle.sysv_server.proofs.Came.{came_on, came_once, came_quiet}
+use Rattle.sysv_server.proofs.Hearing.{heard_on}
+use Rattle.sysv_server.specs.Listening.{HeardBy}
 use Rattle.sysv_server.proofs.accepting.Acceptor.accept_next.Goals as goal
 use Rattle.sysv_server.proofs.accepting.Acceptor.accept_next.Goals.{else-arrived-via-else-arrived}
 use Rattle.sysv_server.proofs.accepting.Acceptor.accept_next.Goals.{else-arrived-via-then-arrived+else-has_ended}
@@ -33,8 +34,10 @@ loop-preserved g c =
     let steps = g.L.Listens.steps in (
       elim c.else-arrived.branch [
         | else-arrived-via-then-arrived+else-has_ended w ↦
-            ap is_some w.input-is ∙ (w.has_ended.ensures.input ∙ c.loop.invariant.0)
-        | else-arrived-via-else-arrived w ↦ ap is_some w.input-is ∙ c.loop.invariant.0
+            subst (λ o. HeardBy g.I.Input.reads c.args.input.now o) (sym w.input-is)
+            (heard_on g.I.Input.reads _ _ _ c.loop.invariant.0 w.has_ended.ensures.input)
+        | else-arrived-via-else-arrived w ↦
+            subst (λ o. HeardBy g.I.Input.reads c.args.input.now o) (sym w.input-is) c.loop.invariant.0
       ],
       c.in-Err.ensures.err ∙ c.loop.invariant.1,
       c.in-Err.ensures.same ∙ c.loop.invariant.2,
