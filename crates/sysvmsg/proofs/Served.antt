@@ -59,8 +59,8 @@ module _ {L I : Type 0} (told : L → Option (List SocketStream)) (listens : L �
   meant alone has_input input most start reason (Err why) cause = cause
 
   -- Which callers the connections let in follows from the steps of the listener.
-  pub told_less : (limit : Option ℕ) (has_input : Bool) (input : I) (terms : Terms) (callers : List Callers) (exit : ExitCode)
-      (shown after : Option (List ℕ)) (before now : L) →
+  pub told_less : (limit : Option ℕ) (has_input : Bool) (input : I) (terms : Terms) (callers : List Callers)
+      (exit : ExitCode) (shown after : Option (List ℕ)) (before now : L) →
       ((accepted : List SocketStream) → Came steps before accepted now → EachLetsInOneOf callers accepted) →
       HasServedFrom told listens reads fails steps limit has_input input terms exit shown after before now →
       HasServedAll limit has_input terms callers exit shown after
@@ -84,8 +84,8 @@ module _ {H I : Type 0} (told : Doors (Hosted H) H → Option (List SocketStream
       HasServedFrom told listens reads fails DoorsSteps limit has_input input terms exit shown after before now →
       HasServedAll limit has_input terms (map callers_at sockets) exit shown after
   doors_served limit has_input input terms exit shown after before now sockets law are served =
-      told_less told listens reads fails DoorsSteps limit has_input input terms (map callers_at sockets) exit shown after
-      before now
+      told_less told listens reads fails DoorsSteps limit has_input input terms (map callers_at sockets) exit shown
+      after before now
       (λ accepted came. subst (λ (l : List (Hosted H)). EachLetsInOneOf (map callers_at l) accepted) are
       (law before now accepted came)) served
 
