@@ -26,3 +26,5 @@ pub mod ReadsRows
 pub mod Crossing
 pub mod Telling
 pub mod Lining
+pub mod Tables
+pub mod Reaching

@@ -18,3 +18,4 @@ pub mod Heeding
 pub mod Waking
 pub mod Marking
 pub mod Lining
+pub mod Contacts

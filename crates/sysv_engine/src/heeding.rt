@@ -3,10 +3,12 @@
 ghost use Rattle.std.specs.Prelude.{◌≡◌, ◌⊎◌, ◌<◌, ℕ, None, Some, true, false, map};
 ghost use Rattle.std.specs.List.{Contains};
 ghost use Rattle.sysv_parking.specs.Agenda.{HeedsChange, IsHeedful, KeepsWork, TakesFirst, TakesNews};
+ghost use Rattle.sysv_parking.specs.declared.changes.Change.TheVariants.{Anything};
 ghost use Rattle.sysv_parking.specs.Changes.{Holds, IsThere};
 ghost use Rattle.sysv_parking.specs.Lines.{Takes};
 ghost use Rattle.sysv_parking.specs.Parking.{AreInLines, MovesOnly, key_at, parked_at};
 ghost use Rattle.sysv_seats.specs.Notification.{notifications_in};
+ghost use Rattle.sysv_engine.specs.Contacts.{GoOn, Sent, Told};
 ghost use Rattle.sysv_engine.specs.Heeding.{StaysTold, news_of as tells};
 ghost use Rattle.sysv_engine.specs.Places.{KeepsAll};
 
@@ -25,14 +27,15 @@ impl<'a, 'c, R: Wait, T: NonBlocking, W: Watch<T>> Tells<Serving<'a, 'c, R>>
     ghost use Rattle.std.specs.Prelude.{⊤};
 
     ghost keeps = { λ old new. KeepsAll T.incoming T.outgoing T.closes old.places.items
-        new.places.items × StaysTold old.tools new.tools };
+        new.places.items × StaysTold old.tools new.tools × GoOn old.rest.contacts
+        new.rest.contacts };
 
     ghost agenda = { λ worker. worker.agenda };
 
-    // (what was told and read is not kept)
-    ghost told = { λ worker change. ⊤ };
+    ghost told = { λ worker to change. Told worker.rest.contacts to change };
 
-    ghost read = { λ word workers. ⊤ };
+    // (what was read is not kept)
+    ghost read = { λ worker word workers. ⊤ };
 
     ghost news = { λ worker. map tells (notifications_in worker.tools) };
 
@@ -42,11 +45,19 @@ impl<'a, 'c, R: Wait, T: NonBlocking, W: Watch<T>> Tells<Serving<'a, 'c, R>>
         self.agenda.number()
     }
 
-    fn tell(&self, by: &Serving<'a, 'c, R>, to: usize, change: Change) {
-        by.server.tell(to, change);
+    fn tell(&mut self, by: &Serving<'a, 'c, R>, to: usize, change: Change)
+        ensures told { Told self.new.rest.contacts to change }
+        ensures same { self.new.agenda ≡ self.old.agenda }
+        ensures news { map tells (notifications_in self.new.tools)
+            ≡ map tells (notifications_in self.old.tools) }
+        ensures keeps { KeepsAll T.incoming T.outgoing T.closes self.old.places.items
+            self.new.places.items × StaysTold self.old.tools self.new.tools
+            × GoOn self.old.rest.contacts self.new.rest.contacts }
+    {
+        self.rest.contacts.tell(to, change);
     }
 
-    fn word(&self, by: &Serving<'a, 'c, R>, word: usize) -> u64 {
+    fn word(&mut self, by: &Serving<'a, 'c, R>, word: usize) -> u64 {
         by.server.word(word)
     }
 
@@ -75,14 +86,15 @@ impl<'a, 'c, R: Wait, T: NonBlocking, W: Watch<T>> Tells<Serving<'a, 'c, R>>
         ensures news { map tells (notifications_in self.new.tools)
             ≡ map tells (notifications_in self.old.tools) }
         ensures keeps { KeepsAll T.incoming T.outgoing T.closes self.old.places.items
-            self.new.places.items × StaysTold self.old.tools self.new.tools }
+            self.new.places.items × StaysTold self.old.tools self.new.tools
+            × GoOn self.old.rest.contacts self.new.rest.contacts }
     {
         self.agenda.add_change(change);
     }
 
     fn keep(&mut self, by: &Serving<'a, 'c, R>, envelope: Envelope) {
         if !self.agenda.keep(envelope) {
-            by.server.tell_everyone();
+            self.rest.contacts.tell_everyone();
         }
     }
 
@@ -91,34 +103,46 @@ impl<'a, 'c, R: Wait, T: NonBlocking, W: Watch<T>> Tells<Serving<'a, 'c, R>>
         ensures news { map tells (notifications_in self.new.tools)
             ≡ map tells (notifications_in self.old.tools) }
         ensures keeps { KeepsAll T.incoming T.outgoing T.closes self.old.places.items
-            self.new.places.items × StaysTold self.old.tools self.new.tools }
+            self.new.places.items × StaysTold self.old.tools self.new.tools
+            × GoOn self.old.rest.contacts self.new.rest.contacts }
     {
         self.is_last_to_heed()
     }
 
-    ghost keeps_itself = { λ worker. (λ gates standings each. each, λ told. told) };
+    ghost keeps_itself = { λ worker. (
+      (λ gates standings each. each),
+      (λ told. told),
+      ((λ to change told. told), (λ to envelope sent. sent)),
+    ) };
 
     ghost keeps_on = { λ x y z first then. (
-      λ gates standings each.
-          then.0 gates standings (first.0 gates standings each),
-      λ told. then.1 (first.1 told),
+      (λ gates standings each. then.0 gates standings (first.0 gates standings each)),
+      (λ told. then.1 (first.1 told)),
+      (
+        (λ to change told. then.2.0 to change (first.2.0 to change told)),
+        (λ to envelope sent. then.2.1 to envelope (first.2.1 to envelope sent)),
+      ),
     ) };
+
+    ghost told_on = { λ x y keeps to change told. keeps.2.0 to change told };
+
+    ghost read_on = { λ x y keeps word workers read. read };
 }
 
 impl<'a, 'c, R: Wait, T: NonBlocking, W: Watch<T>> Calls<Serving<'a, 'c, R>>
     for Worker<'a, R, T, W> {
     ghost use Rattle.std.specs.Prelude.{⊤};
 
-    // (what was looked at and sent is not kept)
+    // (what was looked at is not kept)
     ghost looked = { λ place key found. ⊤ };
 
     ghost had = { λ parking. ⊤ };
 
-    ghost sent = { λ worker envelope. ⊤ };
+    ghost sent = { λ worker to envelope. Sent worker.rest.contacts to envelope };
 
-    ghost emptied = { ⊤ };
+    ghost emptied = { λ worker. ⊤ };
 
-    ghost awake = { ⊤ };
+    ghost awake = { λ worker. ⊤ };
 
     fn lines(&self) -> &Lines
         ensures lines { result.now ≡ self.now.agenda.parking }
@@ -132,7 +156,8 @@ impl<'a, 'c, R: Wait, T: NonBlocking, W: Watch<T>> Calls<Serving<'a, 'c, R>>
         ensures rest { self.new.agenda
             ≡ record self.old.agenda { parking = self.new.agenda.parking } }
         ensures keeps { KeepsAll T.incoming T.outgoing T.closes self.old.places.items
-            self.new.places.items × StaysTold self.old.tools self.new.tools }
+            self.new.places.items × StaysTold self.old.tools self.new.tools
+            × GoOn self.old.rest.contacts self.new.rest.contacts }
     {
         self.agenda.take_due()
     }
@@ -161,14 +186,15 @@ impl<'a, 'c, R: Wait, T: NonBlocking, W: Watch<T>> Calls<Serving<'a, 'c, R>>
         ensures rest { self.new.agenda
             ≡ record self.old.agenda { envelopes = self.new.agenda.envelopes } }
         ensures keeps { KeepsAll T.incoming T.outgoing T.closes self.old.places.items
-            self.new.places.items × StaysTold self.old.tools self.new.tools }
+            self.new.places.items × StaysTold self.old.tools self.new.tools
+            × GoOn self.old.rest.contacts self.new.rest.contacts }
     {
         self.agenda.take_envelope()
     }
 
     fn put_off(&mut self, by: &Serving<'a, 'c, R>, envelope: Envelope) {
         if !self.agenda.put_off(envelope) {
-            by.server.tell_everyone();
+            self.rest.contacts.tell_everyone();
         }
     }
 
@@ -176,8 +202,15 @@ impl<'a, 'c, R: Wait, T: NonBlocking, W: Watch<T>> Calls<Serving<'a, 'c, R>>
         self.next_first()?.checked_rem(by.server.workers())
     }
 
-    fn send(&self, by: &Serving<'a, 'c, R>, to: usize, envelope: Envelope) -> bool {
-        by.server.send(by.rt, to, envelope)
+    fn send(&mut self, by: &Serving<'a, 'c, R>, to: usize, envelope: Envelope) -> bool
+        ensures sent { result ≡ true → Sent self.new.rest.contacts to envelope }
+        ensures told { result ≡ false → Told self.new.rest.contacts to Anything }
+        ensures same { self.new.agenda ≡ self.old.agenda }
+        ensures keeps { KeepsAll T.incoming T.outgoing T.closes self.old.places.items
+            self.new.places.items × StaysTold self.old.tools self.new.tools
+            × GoOn self.old.rest.contacts self.new.rest.contacts }
+    {
+        self.rest.contacts.send(by.rt, to, envelope)
     }
 
     fn unmark(&self, by: &Serving<'a, 'c, R>, word: usize) {
@@ -185,11 +218,11 @@ impl<'a, 'c, R: Wait, T: NonBlocking, W: Watch<T>> Calls<Serving<'a, 'c, R>>
     }
 
     fn read_envelope(&mut self, by: &Serving<'a, 'c, R>) -> bool {
-        let Some(envelope) = by.server.envelope(by.rt, self.agenda.number()) else {
+        let Some(envelope) = self.rest.take_envelope(by.rt) else {
             return false;
         };
         if !self.agenda.keep(envelope) {
-            by.server.tell_everyone();
+            self.rest.contacts.tell_everyone();
         }
         true
     }
@@ -198,9 +231,12 @@ impl<'a, 'c, R: Wait, T: NonBlocking, W: Watch<T>> Calls<Serving<'a, 'c, R>>
         self.agenda.is_laden()
     }
 
-    fn stay_awake(&self, by: &Serving<'a, 'c, R>) {
-        by.server.stay_awake(self.agenda.number());
+    fn stay_awake(&mut self, by: &Serving<'a, 'c, R>) {
+        let number = self.agenda.number();
+        self.rest.contacts.ring(number);
     }
+
+    ghost sent_on = { λ x y keeps to envelope sent. keeps.2.1 to envelope sent };
 }
 
 impl<'a, 'c, R: Wait> Serving<'a, 'c, R> {

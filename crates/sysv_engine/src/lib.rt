@@ -15,6 +15,7 @@ mod alarm;
 mod arrivals;
 mod awaited;
 mod connections;
+mod contacts;
 mod counter;
 mod counts;
 mod dealing;

@@ -4,6 +4,7 @@ ghost use Rattle.std.specs.List.{list_any};
 ghost use Rattle.sysv_parking.specs.Agenda.{IsAtRest, KeepsWork};
 ghost use Rattle.sysv_parking.specs.Parking.{AreInLines, MovesOnly, key_at};
 ghost use Rattle.sysv_seats.specs.Notification.{is_taken, notifications_in};
+ghost use Rattle.sysv_engine.specs.Contacts.{GoOn};
 ghost use Rattle.sysv_engine.specs.Heeding.{IsAllTold, StaysTold, ended_by};
 ghost use Rattle.sysv_engine.specs.Lining.{IsLined};
 ghost use Rattle.sysv_engine.specs.Marking.{IsMarked, IsParked};
@@ -129,7 +130,7 @@ impl<'a, 'c, R: Wait> Serving<'a, 'c, R> {
         self.note_ready(worker);
         worker.begin_looks();
         if has_come {
-            read_envelopes(self, worker);
+            self.read_mail(worker);
         }
         self.spread(worker);
         self.serve_ready(worker);
@@ -264,6 +265,7 @@ impl<'a, 'c, R: Wait> Serving<'a, 'c, R> {
         ensures keeps { KeepsAll T.incoming T.outgoing T.closes worker.old.places.items
             worker.new.places.items }
         ensures agenda { worker.new.agenda ≡ worker.old.agenda }
+        ensures words { worker.new.rest ≡ worker.old.rest }
     {
         let before = worker.blocks_in_use(place);
         worker.go_on(place);
@@ -289,6 +291,7 @@ impl<'a, 'c, R: Wait> Serving<'a, 'c, R> {
         ensures moves { MovesOnly place worker.old.agenda.parking worker.new.agenda.parking }
         ensures rest { worker.new.agenda
             ≡ record worker.old.agenda { parking = worker.new.agenda.parking } }
+        ensures words { worker.new.rest ≡ worker.old.rest }
     {
         self.line_up(worker, place);
         self.await_room(worker, place);
@@ -305,6 +308,7 @@ impl<'a, 'c, R: Wait> Serving<'a, 'c, R> {
         ensures keeps { KeepsAll T.incoming T.outgoing T.closes worker.old.places.items
             worker.new.places.items }
         ensures agenda { worker.new.agenda ≡ worker.old.agenda }
+        ensures words { worker.new.rest ≡ worker.old.rest }
     {
         if self.server.may_hold() {
             let returns = worker.take_returns(place);
@@ -324,6 +328,7 @@ impl<'a, 'c, R: Wait> Serving<'a, 'c, R> {
         ensures keeps { KeepsAll T.incoming T.outgoing T.closes worker.old.places.items
             worker.new.places.items }
         ensures agenda { worker.new.agenda ≡ worker.old.agenda }
+        ensures words { worker.new.rest ≡ worker.old.rest }
     {
         if !worker.is_over(place) && !worker.await_room(place) {
             self.server.miss();
@@ -341,6 +346,7 @@ impl<'a, 'c, R: Wait> Serving<'a, 'c, R> {
         ensures moves { MovesOnly place worker.old.agenda.parking worker.new.agenda.parking }
         ensures rest { worker.new.agenda
             ≡ record worker.old.agenda { parking = worker.new.agenda.parking } }
+        ensures words { worker.new.rest ≡ worker.old.rest }
     {
         if worker.is_over(place) {
             self.close(worker, place);
@@ -356,6 +362,7 @@ impl<'a, 'c, R: Wait> Serving<'a, 'c, R> {
         ensures keeps { KeepsAll T.incoming T.outgoing T.closes worker.old.places.items
             worker.new.places.items }
         ensures agenda { worker.new.agenda ≡ worker.old.agenda }
+        ensures words { worker.new.rest ≡ worker.old.rest }
     {
         if worker.has_given_back(place) {
             self.server.count_return(false);
@@ -372,6 +379,7 @@ impl<'a, 'c, R: Wait> Serving<'a, 'c, R> {
         ensures keeps { KeepsAll T.incoming T.outgoing T.closes worker.old.places.items
             worker.new.places.items }
         ensures agenda { worker.new.agenda ≡ worker.old.agenda }
+        ensures words { worker.new.rest ≡ worker.old.rest }
     {
         worker.await_turn(place);
         worker.set_time(place, self.server.patience());
@@ -388,6 +396,7 @@ impl<'a, 'c, R: Wait> Serving<'a, 'c, R> {
         ensures moves { MovesOnly place worker.old.agenda.parking worker.new.agenda.parking }
         ensures rest { worker.new.agenda
             ≡ record worker.old.agenda { parking = worker.new.agenda.parking } }
+        ensures words { worker.new.rest ≡ worker.old.rest }
     {
         for _ in self.rt.forever() {
             if self.enter_line(worker, place).is_none() {
@@ -415,6 +424,7 @@ impl<'a, 'c, R: Wait> Serving<'a, 'c, R> {
         ensures moves { MovesOnly place worker.old.agenda.parking worker.new.agenda.parking }
         ensures rest { worker.new.agenda
             ≡ record worker.old.agenda { parking = worker.new.agenda.parking } }
+        ensures words { worker.new.rest ≡ worker.old.rest }
     {
         let key = worker.key(place);
         if is_at(worker.agenda.lines().key(place), key) {
@@ -445,6 +455,7 @@ impl<'a, 'c, R: Wait> Serving<'a, 'c, R> {
         ensures keeps { KeepsAll T.incoming T.outgoing T.closes worker.old.places.items
             worker.new.places.items }
         ensures agenda { worker.new.agenda ≡ worker.old.agenda }
+        ensures words { worker.new.rest ≡ worker.old.rest }
     {
         let before = worker.blocks_in_use(place);
         let looked = worker.go_on_marked(place, mark);
@@ -465,6 +476,7 @@ impl<'a, 'c, R: Wait> Serving<'a, 'c, R> {
         ensures moves { MovesOnly place worker.old.agenda.parking worker.new.agenda.parking }
         ensures rest { worker.new.agenda
             ≡ record worker.old.agenda { parking = worker.new.agenda.parking } }
+        ensures words { worker.new.rest ≡ worker.old.rest }
     {
         let Some(key) = worker.agenda.lines().key(place) else {
             return;
@@ -486,6 +498,7 @@ impl<'a, 'c, R: Wait> Serving<'a, 'c, R> {
         ensures moves { MovesOnly place worker.old.agenda.parking worker.new.agenda.parking }
         ensures rest { worker.new.agenda
             ≡ record worker.old.agenda { parking = worker.new.agenda.parking } }
+        ensures words { worker.new.rest ≡ worker.old.rest }
     {
         self.leave_line(worker, place);
         let Some(served) = worker.close(place) else {
@@ -506,6 +519,7 @@ impl<'a, 'c, R: Wait> Serving<'a, 'c, R> {
         ensures moves { MovesOnly place worker.old.agenda.parking worker.new.agenda.parking }
         ensures rest { worker.new.agenda
             ≡ record worker.old.agenda { parking = worker.new.agenda.parking } }
+        ensures words { worker.new.rest ≡ worker.old.rest }
     {
         let returns = worker.has_message(place);
         if returns {
@@ -524,6 +538,7 @@ impl<'a, 'c, R: Wait> Serving<'a, 'c, R> {
         ensures moves { MovesOnly place worker.old.agenda.parking worker.new.agenda.parking }
         ensures rest { worker.new.agenda
             ≡ record worker.old.agenda { parking = worker.new.agenda.parking } }
+        ensures words { worker.new.rest ≡ worker.old.rest }
     {
         let before = worker.blocks_in_use(place);
         worker.give_back(place);
@@ -533,12 +548,22 @@ impl<'a, 'c, R: Wait> Serving<'a, 'c, R> {
 
     /// Takes note that a place is vacant.
     fn vacate<T: NonBlocking, W: Watch<T>>(&self, worker: &mut Worker<'a, R, T, W>, place: usize)
-        ensures { (worker.new.places ≡ worker.old.places) × (worker.new.agenda ≡ worker.old.agenda) }
+        ensures { (worker.new.places ≡ worker.old.places) × (worker.new.agenda ≡ worker.old.agenda)
+            × (worker.new.rest ≡ worker.old.rest) }
     {
         if worker.free.len() < worker.free.capacity() {
             worker.free.push_reserved(place);
         }
         self.server.vacate(worker.agenda.number());
+    }
+
+    /// Reads the envelopes that were sent to the worker, as far as it keeps them.
+    fn read_mail<T: NonBlocking, W: Watch<T>>(&self, worker: &mut Worker<'a, R, T, W>)
+        ensures keeps { KeepsAll T.incoming T.outgoing T.closes worker.old.places.items
+            worker.new.places.items }
+        ensures told { StaysTold worker.old.tools worker.new.tools }
+    {
+        read_envelopes(self, worker);
     }
 
     /// Heeds what has changed, here and in other workers, as far as the worker's share of looks
@@ -571,6 +596,7 @@ impl<'a, 'c, R: Wait> Serving<'a, 'c, R> {
         ensures over { (result ≡ Found.Message) ⊎ (result ≡ Found.Over)
             → key_at worker.new.agenda.parking place ≡ None }
         ensures work { KeepsWork worker.old.agenda worker.new.agenda }
+        ensures reached { GoOn worker.old.rest.contacts worker.new.rest.contacts }
     {
         let before = worker.agenda.lines().key(place);
         self.go_on(worker, place);
@@ -600,6 +626,7 @@ impl<'a, 'c, R: Wait> Serving<'a, 'c, R> {
             → key_at worker.old.agenda.parking place ≡ None }
         ensures ended { key_at worker.old.agenda.parking place ≡ None → result
             ≡ ended_by (list_any (is_taken mtype) (notifications_in worker.old.tools)) }
+        ensures reached { GoOn worker.old.rest.contacts worker.new.rest.contacts }
         ensures work { KeepsWork worker.old.agenda worker.new.agenda }
     {
         let after = worker.agenda.lines().key(place);

@@ -1,24 +1,25 @@
 //! What the workers of a server share with one another and with the thread that accepts
 //! connections.
 ghost use Rattle.std.specs.Prelude.{◌≡◌, ◌≤◌, IfSome, vec_len};
+ghost use Rattle.std.specs.Arc.{arc_value};
 ghost use Rattle.sysv_keys.specs.declared.identifier.TheConstants.{SLOTS as slot_count};
 ghost use Rattle.sysv_parking.specs.Parking.{parked_at};
+ghost use Rattle.sysv_engine.specs.Contacts.{tables};
 ghost use Rattle.sysv_engine.specs.Counting.{IsCounted, IsNothing};
 ghost use Rattle.sysv_engine.specs.Handled.{newest_of};
 ghost use Rattle.sysv_engine.specs.Serving.{RunsWith};
 ghost use Rattle.sysv_engine.specs.declared.counter.Kind.TheVariants.{CutOff, Unwatched};
 
-use crate::alarm::{Alarm, Rest};
+use crate::alarm::{Alarm, Rest, acquaint};
 use crate::counter::{Added, Counter, Kind};
 use crate::counts::{Counted, Counts, Moved, SlotCounts, Totals, zeros};
 use crate::moment::{Moment, await_doorbell};
 use crate::terms::{Patience, Setting};
-use crossbeam_queue::ArrayQueue;
 use std::alloc::Global;
 use std::sync::Wait;
 use std::sync::atomic::{AtomicBool, AtomicU64, Ordering};
 use sysv_keys::SLOTS;
-use sysv_parking::{Agenda, Change, Envelope, WORDS};
+use sysv_parking::{Agenda, WORDS};
 use sysv_queue::Tally;
 use sysv_seats::Returned;
 use sysv_system::{Doorbell, Watched};
@@ -26,9 +27,6 @@ use sysv_wire::Version;
 
 /// The number of bits in a word, and so of workers that a word can name.
 const BITS: usize = 64;
-
-/// The number of envelopes that a worker's mailbox holds.
-const ENVELOPES: usize = 512;
 
 /// The number of clients with which each of them, and the worker that serves it, may well have a
 /// processor of its own.
@@ -42,7 +40,6 @@ const BACK_MILLIS: u32 = 100;
 #[derive(Drop)]
 struct Post {
     alarm: Alarm,
-    envelopes: ArrayQueue<Envelope>,
     /// The number of connections that the worker was told to take.
     coming: AtomicU64,
     /// The number of clients of the worker that were closed.
@@ -60,7 +57,7 @@ pub(crate) struct Marked {
 
 /// What the workers share.
 ///
-/// A worker that is not there has no doorbell and no envelopes, and nothing comes for it.
+/// A worker that is not there has no doorbell, and nothing comes for it.
 #[derive(Drop)]
 pub struct ServerState {
     posts: Vec<Post>,
@@ -116,6 +113,8 @@ impl ServerState {
     ) -> Option<(ServerState, Vec<Rest>)>
         ensures workers { IfSome result (λ both. vec_len both.0.posts ≡ workers) }
         ensures rests { IfSome result (λ both. vec_len both.1 ≡ workers) }
+        ensures words { IfSome result (λ both. tables (λ p. arc_value p.alarm.bells) both.0.posts.items
+            ≡ tables (λ r. r.seat.table) both.1.items) }
         ensures at_once { IfSome result (λ both. both.0.at_once ≡ at_once) }
         ensures cut { IfSome result (λ both. both.0.cut_calls.kind ≡ CutOff) }
         ensures unwatched { IfSome result (λ both. both.0.unwatched.kind ≡ Unwatched) }
@@ -124,7 +123,8 @@ impl ServerState {
         ensures holds { IfSome result (λ both. both.0.holds ≡ holds) }
     {
         let turn = Doorbell::open()?;
-        let (posts, rests) = open_posts(alloc, workers)?;
+        let (posts, mut rests) = open_posts(alloc, workers)?;
+        acquaint(alloc, &mut rests)?;
         let words = zeros(alloc, WORDS)?;
         let server = ServerState {
             posts,
@@ -215,43 +215,9 @@ impl ServerState {
         }
     }
 
-    /// Says that a worker may have more to look at.
-    pub(crate) fn stay_awake(&self, worker: usize) {
-        self.ring(worker);
-    }
-
     /// Returns all workers, a bit for each.
     pub(crate) fn everyone(&self) -> u64 {
         bit(self.posts.len()).wrapping_sub(1)
-    }
-
-    /// Returns the next envelope of a worker.
-    pub(crate) fn envelope(&self, rt: &impl Wait, worker: usize) -> Option<Envelope> {
-        self.posts.get(worker)?.envelopes.pop(rt)
-    }
-
-    /// Gives a worker an envelope. If its mailbox is full, it looks at all its parked calls, and
-    /// the result is `false`: the envelope is still to be passed on. So is one to a worker that is
-    /// not there.
-    pub(crate) fn send(&self, rt: &impl Wait, worker: usize, envelope: Envelope) -> bool {
-        match self.posts.get(worker) {
-            Some(post) => post.send(rt, envelope),
-            None => false,
-        }
-    }
-
-    /// Tells all workers that anything may have happened.
-    pub(crate) fn tell_everyone(&self) {
-        for post in &self.posts {
-            post.alarm.tell(Change::Anything);
-        }
-    }
-
-    /// Tells a worker of a change.
-    pub(crate) fn tell(&self, worker: usize, change: Change) {
-        if let Some(post) = self.posts.get(worker) {
-            post.alarm.tell(change);
-        }
     }
 
     /// Returns which workers have calls parked under this word.
@@ -616,11 +582,12 @@ impl ServerState {
 impl Post {
     /// Opens the post of a worker, and what it rests with. Returns `None` if memory or a descriptor
     /// is refused.
-    fn open(alloc: Global) -> Option<(Post, Rest)> {
+    fn open(alloc: Global) -> Option<(Post, Rest)>
+        ensures { IfSome result (λ both. arc_value both.0.alarm.bells ≡ both.1.seat.table) }
+    {
         let (alarm, rest) = Alarm::open(alloc)?;
         let post = Post {
             alarm,
-            envelopes: ArrayQueue::new(alloc, ENVELOPES).ok()?,
             coming: AtomicU64::new(0),
             closed: AtomicU64::new(0),
             counts: Counts::open(alloc)?,
@@ -651,18 +618,6 @@ impl Post {
             self.alarm.ring();
         }
     }
-
-    /// Gives the worker an envelope. Returns whether there was room for it. If there was none, the
-    /// worker looks at all its parked calls.
-    fn send(&self, rt: &impl Wait, envelope: Envelope) -> bool {
-        let kept = self.envelopes.push(rt, envelope).is_ok();
-        if kept {
-            self.alarm.ring();
-        } else {
-            self.alarm.tell(Change::Anything);
-        }
-        kept
-    }
 }
 
 /// Opens the posts of this number of workers, and what each of them rests with. Returns `None` if
@@ -670,6 +625,8 @@ impl Post {
 fn open_posts(alloc: Global, workers: usize) -> Option<(Vec<Post>, Vec<Rest>)>
     ensures posts { IfSome result (λ both. vec_len both.0 ≡ workers) }
     ensures rests { IfSome result (λ both. vec_len both.1 ≡ workers) }
+    ensures words { IfSome result (λ both. tables (λ p. arc_value p.alarm.bells) both.0.items
+        ≡ tables (λ r. r.seat.table) both.1.items) }
 {
     let mut posts = Vec::with_capacity(alloc, workers).ok()?;
     let mut rests = Vec::with_capacity(alloc, workers).ok()?;

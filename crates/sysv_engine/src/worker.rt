@@ -203,7 +203,7 @@ impl<'a, R: Wait, T: NonBlocking, W: Watch<T>> Worker<'a, R, T, W> {
     /// on from turn to turn, or `None` for its own.
     pub(crate) fn next_first(&mut self) -> Option<usize>
         ensures { (self.new.places ≡ self.old.places) × (self.new.agenda ≡ self.old.agenda)
-            × (self.new.tools ≡ self.old.tools) }
+            × (self.new.tools ≡ self.old.tools) × (self.new.rest ≡ self.old.rest) }
     {
         self.messages = self.messages.wrapping_add(1);
         turn(self.messages, SHARE_OF_MESSAGES)
@@ -212,7 +212,7 @@ impl<'a, R: Wait, T: NonBlocking, W: Watch<T>> Worker<'a, R, T, W> {
     /// Counts a change that this worker heeds. Returns whether other workers heed it first.
     pub(crate) fn is_last_to_heed(&mut self) -> bool
         ensures { (self.new.places ≡ self.old.places) × (self.new.agenda ≡ self.old.agenda)
-            × (self.new.tools ≡ self.old.tools) }
+            × (self.new.tools ≡ self.old.tools) × (self.new.rest ≡ self.old.rest) }
     {
         self.changed = self.changed.wrapping_add(1);
         turn(self.changed, SHARE_OF_CHANGES).is_some()
@@ -330,6 +330,7 @@ impl<'a, R: Wait, T: NonBlocking, W: Watch<T>> Worker<'a, R, T, W> {
         ensures keeps { KeepsAll T.incoming T.outgoing T.closes self.old.places.items
             self.new.places.items }
         ensures agenda { self.new.agenda ≡ self.old.agenda }
+        ensures rest { self.new.rest ≡ self.old.rest }
     {
         if let Some(there) = self.places.get_mut(place) {
             there.give_back(&mut self.tools);
@@ -343,6 +344,7 @@ impl<'a, R: Wait, T: NonBlocking, W: Watch<T>> Worker<'a, R, T, W> {
         ensures keeps { KeepsAll T.incoming T.outgoing T.closes self.old.places.items
             self.new.places.items }
         ensures agenda { self.new.agenda ≡ self.old.agenda }
+        ensures rest { self.new.rest ≡ self.old.rest }
     {
         match self.places.get_mut(place) {
             Some(there) => there.has_given_back(),
@@ -373,6 +375,7 @@ impl<'a, R: Wait, T: NonBlocking, W: Watch<T>> Worker<'a, R, T, W> {
         ensures keeps { KeepsAll T.incoming T.outgoing T.closes self.old.places.items
             self.new.places.items }
         ensures agenda { self.new.agenda ≡ self.old.agenda }
+        ensures rest { self.new.rest ≡ self.old.rest }
     {
         match self.places.get_mut(place) {
             Some(there) => there.take_returns(),
@@ -421,6 +424,7 @@ impl<'a, R: Wait, T: NonBlocking, W: Watch<T>> Worker<'a, R, T, W> {
         ensures keeps { KeepsAll T.incoming T.outgoing T.closes self.old.places.items
             self.new.places.items }
         ensures agenda { self.new.agenda ≡ self.old.agenda }
+        ensures rest { self.new.rest ≡ self.old.rest }
     {
         if let Some(there) = self.places.get_mut(place) {
             there.lapse(&mut self.tools);
@@ -434,6 +438,7 @@ impl<'a, R: Wait, T: NonBlocking, W: Watch<T>> Worker<'a, R, T, W> {
             self.new.places.items }
         ensures tools { self.new.tools ≡ self.old.tools }
         ensures agenda { self.new.agenda ≡ self.old.agenda }
+        ensures rest { self.new.rest ≡ self.old.rest }
     {
         if let Some(there) = self.places.get_mut(ready.place) {
             there.note(ready);
@@ -457,6 +462,7 @@ impl<'a, R: Wait, T: NonBlocking, W: Watch<T>> Worker<'a, R, T, W> {
         ensures keeps { KeepsAll T.incoming T.outgoing T.closes self.old.places.items
             self.new.places.items }
         ensures agenda { self.new.agenda ≡ self.old.agenda }
+        ensures rest { self.new.rest ≡ self.old.rest }
     {
         if let Some(there) = self.places.get_mut(place) {
             there.go_on(&mut self.tools);
@@ -475,6 +481,7 @@ impl<'a, R: Wait, T: NonBlocking, W: Watch<T>> Worker<'a, R, T, W> {
         ensures keeps { KeepsAll T.incoming T.outgoing T.closes self.old.places.items
             self.new.places.items }
         ensures agenda { self.new.agenda ≡ self.old.agenda }
+        ensures rest { self.new.rest ≡ self.old.rest }
     {
         self.go_on(place);
         Rechecked { place, mark }
@@ -486,6 +493,7 @@ impl<'a, R: Wait, T: NonBlocking, W: Watch<T>> Worker<'a, R, T, W> {
         ensures keeps { KeepsAll T.incoming T.outgoing T.closes self.old.places.items
             self.new.places.items }
         ensures agenda { self.new.agenda ≡ self.old.agenda }
+        ensures rest { self.new.rest ≡ self.old.rest }
     {
         if let Some(there) = self.places.get_mut(place) {
             there.drain();
@@ -498,6 +506,7 @@ impl<'a, R: Wait, T: NonBlocking, W: Watch<T>> Worker<'a, R, T, W> {
         ensures keeps { KeepsAll T.incoming T.outgoing T.closes self.old.places.items
             self.new.places.items }
         ensures agenda { self.new.agenda ≡ self.old.agenda }
+        ensures rest { self.new.rest ≡ self.old.rest }
     {
         if let Some(there) = self.places.get_mut(place) {
             there.cut(limit);
@@ -510,6 +519,7 @@ impl<'a, R: Wait, T: NonBlocking, W: Watch<T>> Worker<'a, R, T, W> {
         ensures keeps { KeepsAll T.incoming T.outgoing T.closes self.old.places.items
             self.new.places.items }
         ensures agenda { self.new.agenda ≡ self.old.agenda }
+        ensures rest { self.new.rest ≡ self.old.rest }
     {
         if let Some(there) = self.places.get_mut(place) {
             there.cut_idle();
@@ -522,6 +532,7 @@ impl<'a, R: Wait, T: NonBlocking, W: Watch<T>> Worker<'a, R, T, W> {
         ensures keeps { KeepsAll T.incoming T.outgoing T.closes self.old.places.items
             self.new.places.items }
         ensures agenda { self.new.agenda ≡ self.old.agenda }
+        ensures rest { self.new.rest ≡ self.old.rest }
     {
         if let Some(there) = self.places.get_mut(place) {
             there.cut_late();
@@ -534,6 +545,7 @@ impl<'a, R: Wait, T: NonBlocking, W: Watch<T>> Worker<'a, R, T, W> {
         ensures keeps { KeepsAll T.incoming T.outgoing T.closes self.old.places.items
             self.new.places.items }
         ensures agenda { self.new.agenda ≡ self.old.agenda }
+        ensures rest { self.new.rest ≡ self.old.rest }
     {
         let Some(there) = self.places.get_mut(place) else {
             return None;
@@ -548,6 +560,7 @@ impl<'a, R: Wait, T: NonBlocking, W: Watch<T>> Worker<'a, R, T, W> {
         ensures keeps { KeepsAll T.incoming T.outgoing T.closes self.old.places.items
             self.new.places.items }
         ensures agenda { self.new.agenda ≡ self.old.agenda }
+        ensures rest { self.new.rest ≡ self.old.rest }
     {
         match self.places.get_mut(place) {
             Some(there) => there.await_room(&mut self.watch, place),
@@ -561,6 +574,7 @@ impl<'a, R: Wait, T: NonBlocking, W: Watch<T>> Worker<'a, R, T, W> {
         ensures keeps { KeepsAll T.incoming T.outgoing T.closes self.old.places.items
             self.new.places.items }
         ensures agenda { self.new.agenda ≡ self.old.agenda }
+        ensures rest { self.new.rest ≡ self.old.rest }
     {
         let Some(there) = self.places.get_mut(place) else {
             return;
@@ -595,7 +609,8 @@ impl<'a, R: Wait, T: NonBlocking, W: Watch<T>> Worker<'a, R, T, W> {
     /// Has the worker look soon whether the client has more bytes to read, if it may have some that
     /// nothing reports.
     pub(crate) fn look_again(&mut self, place: usize)
-        ensures { (self.new.places ≡ self.old.places) × (self.new.agenda ≡ self.old.agenda) }
+        ensures { (self.new.places ≡ self.old.places) × (self.new.agenda ≡ self.old.agenda)
+            × (self.new.rest ≡ self.old.rest) }
     {
         if self.again.is_none() && self.may_hold_more(place) {
             self.again = Some(Moment::now().plus_millis(AGAIN_MILLIS));
@@ -609,6 +624,7 @@ impl<'a, R: Wait, T: NonBlocking, W: Watch<T>> Worker<'a, R, T, W> {
         ensures keeps { KeepsAll T.incoming T.outgoing T.closes self.old.places.items
             self.new.places.items }
         ensures agenda { self.new.agenda ≡ self.old.agenda }
+        ensures rest { self.new.rest ≡ self.old.rest }
     {
         if let Some(there) = self.places.get_mut(place) {
             let due = there.limit(patience);

@@ -8,3 +8,4 @@ pub mod Places
 pub mod Told
 pub mod Walking
 pub mod Working
+pub mod Mailing

@@ -1,5 +1,5 @@
 -- What becomes of the work of a worker, step by step.
-use Rattle.std.proofs.Common.{◌≡◌, ◌≢◌, ◌∙◌, ◌⊎◌, ℕ, Option, None, Some, Bool, true, false, inl, inr, List}
+use Rattle.std.proofs.Common.{◌≡◌, ◌≢◌, ◌∙◌, ◌⊎◌, ℕ, ℤ, Option, None, Some, Bool, true, false, inl, inr, List}
 use Rattle.std.proofs.Common.{sym, ap, subst, refl}
 use Rattle.std.specs.Prelude.{◌||◌, slice_index_or}
 use Rattle.std.specs.List.{Contains}
@@ -12,7 +12,7 @@ use Rattle.sysv_parking.specs.declared.due.Why.{Why}
 use Rattle.sysv_parking.specs.declared.envelope.Envelope.{Envelope}
 use Rattle.sysv_parking.specs.declared.found.Found.{Found}
 use Rattle.sysv_parking.specs.declared.key.Key.{Key}
-use Rattle.sysv_parking.specs.Agenda.{Agenda, Heeded, HeedsChange, IsSettled, IsSpent, KeepsWork, Owes}
+use Rattle.sysv_parking.specs.Agenda.{Agenda, Heeded, HeedsChange, IsSettled, IsSpent, IsTold, KeepsWork, Owes}
 use Rattle.sysv_parking.specs.Barriers.{IsStopped}
 use Rattle.sysv_parking.specs.Changes.{Concerns, Heeds, Holds, IsWithin}
 use Rattle.sysv_parking.specs.Due.{both, by_raise, not_due, why_changed}
@@ -136,6 +136,11 @@ module _ {Looked : ℕ → Option Key → Found → Type 0} {Had : Parking → T
     owed = λ place key why owes. inl owes;
     envelopes = λ envelope is. inl is;
   }
+
+  -- The agenda is the same.
+  pub heeds_equal : (old new : Agenda) → new ≡ old → Heeded Looked Had Sent Told old new
+  heeds_equal old new same =
+      subst (λ (agenda : Agenda). Heeded Looked Had Sent Told old agenda) (sym same) (heeds_none old)
 
   pub heeds_on : (one two three : Agenda) → Heeded Looked Had Sent Told one two →
       Heeded Looked Had Sent Told two three →
@@ -285,3 +290,45 @@ module _ {Looked : ℕ → Option Key → Found → Type 0} {Had : Parking → T
                 (ap (λ (agenda : Agenda). agenda.number) rest) spent)
           ];
     }
+
+-- What was sent and told stays so.
+module _ {Looked : ℕ → Option Key → Found → Type 0} {Had : Parking → Type 0} {Sent Sent' : ℕ → Envelope → Type 0}
+    {Told Told' : ℕ → Change → Type 0}
+    (sent_on : (to : ℕ) (envelope : Envelope) → Sent to envelope → Sent' to envelope)
+    (told_on : (to : ℕ) (change : Change) → Told to change → Told' to change) where
+  pub told_later : (slot : ℕ) (mtype : ℤ) (worker : ℕ) → IsTold Looked Had Sent Told slot mtype worker →
+      IsTold Looked Had Sent' Told' slot mtype worker
+  told_later slot mtype worker is = elim is [
+    | inl told ↦ inl (told.0, told.1, told_on told.0 Anything told.2)
+    | inr sent ↦ inr (sent.0, sent.1, sent_on sent.0 _ sent.2, sent.3)
+  ]
+
+  pub spent_later : (number : ℕ) (envelope : Envelope) → IsSpent Looked Had Sent Told number envelope →
+      IsSpent Looked Had Sent' Told' number envelope
+  spent_later number envelope spent = elim spent [
+    | inl taken ↦ inl taken
+    | inr more ↦ inr (elim more [
+      | inl gone ↦ inl gone
+      | inr passed ↦ inr (λ worker low is. elim (passed worker low is) [
+        | inl own ↦ inl own
+        | inr told ↦ inr (told_later envelope.slot envelope.mtype worker told)
+      ])
+    ])
+  ]
+
+  pub heeds_then : (one two three : Agenda) → Heeded Looked Had Sent Told one two →
+      Heeded Looked Had Sent' Told' two three → Heeded Looked Had Sent' Told' one three
+  heeds_then one two three first second = record {
+    number = second.number ∙ first.number;
+    owed = λ place key why owes. elim (first.owed place key why owes) [
+      | inl still ↦ second.owed place key why still
+      | inr settled ↦ inr settled
+    ];
+    envelopes = λ envelope is. elim (first.envelopes envelope is) [
+      | inl still ↦ elim (second.envelopes envelope still) [
+        | inl kept ↦ inl kept
+        | inr spent ↦ inr (subst (λ (n : ℕ). IsSpent Looked Had Sent' Told' n envelope) first.number spent)
+      ]
+      | inr spent ↦ inr (spent_later one.number envelope spent)
+    ];
+  }

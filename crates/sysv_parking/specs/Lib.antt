@@ -7,3 +7,4 @@ pub mod Lines
 pub mod Changes
 pub mod Looks
 pub mod Agenda
+pub mod Mailboxes

@@ -34,11 +34,11 @@ pub trait Tells<B> {
     /// What the worker has still to do for its parked calls.
     ghost agenda: { Self → Agenda };
 
-    /// The worker of this number was told of this change.
-    ghost told: { ℕ → Change → Type 0 };
+    /// This worker has told the worker of this number of this change.
+    ghost told: { Self → ℕ → Change → Type 0 };
 
-    /// This word was read, and these were the workers with calls parked under it.
-    ghost read: { ℕ → ℕ → Type 0 };
+    /// This worker has read this word, and these were the workers with calls parked under it.
+    ghost read: { Self → ℕ → ℕ → Type 0 };
 
     /// What calls of the worker have changed, and was not told yet.
     ghost news: { Self → List News };
@@ -48,12 +48,18 @@ pub trait Tells<B> {
         ensures { result ≡ (agenda self.now).number };
 
     /// Tells a worker of a change.
-    fn tell(&self, by: &B, to: usize, change: Change)
-        ensures { told to change };
+    fn tell(&mut self, by: &B, to: usize, change: Change)
+        ensures told { told self.new to change }
+        ensures same { agenda self.new ≡ agenda self.old }
+        ensures news { news self.new ≡ news self.old }
+        ensures keeps { keeps self.old self.new };
 
     /// Returns which workers have calls parked under this word.
-    fn word(&self, by: &B, word: usize) -> u64
-        ensures { read word result };
+    fn word(&mut self, by: &B, word: usize) -> u64
+        ensures read { read self.new word result }
+        ensures same { agenda self.new ≡ agenda self.old }
+        ensures news { news self.new ≡ news self.old }
+        ensures keeps { keeps self.old self.new };
 
     /// Returns all workers.
     fn everyone(&self, by: &B) -> u64;
@@ -76,7 +82,7 @@ pub trait Tells<B> {
     /// may have happened.
     fn keep(&mut self, by: &B, envelope: Envelope)
         ensures one { Contains (agenda self.new).envelopes envelope
-            ⊎ ((worker : ℕ) → worker < 64 → told worker Anything) }
+            ⊎ ((worker : ℕ) → worker < 64 → told self.new worker Anything) }
         ensures work { KeepsWork (agenda self.old) (agenda self.new) }
         ensures parking { (agenda self.new).parking ≡ (agenda self.old).parking }
         ensures news { news self.new ≡ news self.old }
@@ -91,6 +97,12 @@ pub trait Tells<B> {
     ghost keeps_itself: { (x : Self) → keeps x x };
 
     ghost keeps_on: { (x y z : Self) → keeps x y → keeps y z → keeps x z };
+
+    ghost told_on: { (x y : Self) → keeps x y → (to : ℕ) (change : Change)
+        → told x to change → told y to change };
+
+    ghost read_on: { (x y : Self) → keeps x y → (word workers : ℕ)
+        → read x word workers → read y word workers };
 }
 
 /// A worker, as those see it that decide which of its parked calls are looked at.
@@ -106,14 +118,14 @@ pub trait Calls<B>: Tells<B> {
     /// The worker's calls were parked so at one moment.
     ghost had: { Parking → Type 0 };
 
-    /// The worker of this number was sent this envelope.
-    ghost sent: { ℕ → Envelope → Type 0 };
+    /// This worker has sent the worker of this number this envelope.
+    ghost sent: { Self → ℕ → Envelope → Type 0 };
 
-    /// There was no envelope for the worker at one moment.
-    ghost emptied: { Type 0 };
+    /// This worker has looked for an envelope when there was none.
+    ghost emptied: { Self → Type 0 };
 
-    /// The worker looks for envelopes before it sleeps.
-    ghost awake: { Type 0 };
+    /// This worker has rung itself: it looks for envelopes before it sleeps.
+    ghost awake: { Self → Type 0 };
 
     /// Returns the lines of the parked calls.
     fn lines(&self) -> &Lines
@@ -164,7 +176,7 @@ pub trait Calls<B>: Tells<B> {
     /// anything may have happened.
     fn put_off(&mut self, by: &B, envelope: Envelope)
         ensures one { Contains (Self.agenda self.new).envelopes envelope
-            ⊎ ((worker : ℕ) → worker < 64 → Self.told worker Anything) }
+            ⊎ ((worker : ℕ) → worker < 64 → Self.told self.new worker Anything) }
         ensures work { KeepsWork (Self.agenda self.old) (Self.agenda self.new) }
         ensures parking { (Self.agenda self.new).parking ≡ (Self.agenda self.old).parking }
         ensures keeps { Self.keeps self.old self.new };
@@ -177,9 +189,11 @@ pub trait Calls<B>: Tells<B> {
 
     /// Sends an envelope to a worker. Returns whether it has it: else it was told that anything may
     /// have happened.
-    fn send(&self, by: &B, to: usize, envelope: Envelope) -> bool
-        ensures sent { result ≡ true → sent to envelope }
-        ensures told { result ≡ false → Self.told to Anything };
+    fn send(&mut self, by: &B, to: usize, envelope: Envelope) -> bool
+        ensures sent { result ≡ true → sent self.new to envelope }
+        ensures told { result ≡ false → Self.told self.new to Anything }
+        ensures same { Self.agenda self.new ≡ Self.agenda self.old }
+        ensures keeps { Self.keeps self.old self.new };
 
     /// Has it be known that no calls of this worker are parked under a word.
     fn unmark(&self, by: &B, word: usize)
@@ -188,7 +202,7 @@ pub trait Calls<B>: Tells<B> {
     /// Keeps the next envelope that was sent to this worker, after all others. Returns whether there
     /// was one.
     fn read_envelope(&mut self, by: &B) -> bool
-        ensures none { result ≡ false → emptied }
+        ensures none { result ≡ false → emptied self.new }
         ensures work { KeepsWork (Self.agenda self.old) (Self.agenda self.new) }
         ensures parking { (Self.agenda self.new).parking ≡ (Self.agenda self.old).parking }
         ensures keeps { Self.keeps self.old self.new };
@@ -197,8 +211,13 @@ pub trait Calls<B>: Tells<B> {
     fn is_laden(&self) -> bool;
 
     /// Has the worker look for envelopes before it sleeps.
-    fn stay_awake(&self, by: &B)
-        ensures { awake };
+    fn stay_awake(&mut self, by: &B)
+        ensures awake { awake self.new }
+        ensures same { Self.agenda self.new ≡ Self.agenda self.old }
+        ensures keeps { Self.keeps self.old self.new };
+
+    ghost sent_on: { (x y : Self) → Self.keeps x y → (to : ℕ) (envelope : Envelope)
+        → sent x to envelope → sent y to envelope };
 }
 
 /// Looks at the calls that are due, except those that would still wait, as looks at others have
@@ -206,7 +225,8 @@ pub trait Calls<B>: Tells<B> {
 pub fn look_at_due<B, C: Calls<B>>(by: &B, calls: &mut C)
     ensures heeded { (place : ℕ) → is_due (why_at (C.agenda calls.old).parking place) ≡ true →
         IsHeeded C.looked (C.agenda calls.old).parking (C.agenda calls.new).parking place }
-    ensures work { Heeded C.looked C.had C.sent C.told (C.agenda calls.old) (C.agenda calls.new) }
+    ensures work { Heeded C.looked C.had (C.sent calls.new) (C.told calls.new)
+        (C.agenda calls.old) (C.agenda calls.new) }
     ensures keeps { C.keeps calls.old calls.new }
 {
     let mut barriers = Barriers::new();
@@ -231,8 +251,8 @@ fn look_unless<B, C: Calls<B>>(
 )
     ensures step { IsStep C.looked (C.agenda calls.old).parking (C.agenda calls.new).parking
         barriers.old barriers.new place why }
-    ensures heeded { Heeded C.looked C.had C.sent C.told (C.agenda calls.old)
-        (C.agenda calls.new) }
+    ensures heeded { Heeded C.looked C.had (C.sent calls.new) (C.told calls.new)
+        (C.agenda calls.old) (C.agenda calls.new) }
     ensures keeps { C.keeps calls.old calls.new }
 {
     let key = calls.lines().key(place);
@@ -272,7 +292,8 @@ pub fn look_for_message<B, C: Calls<B>>(by: &B, calls: &mut C, slot: usize, mtyp
     ensures unwanted { result ≡ LookedFor.Unwanted →
         IsUnwanted (C.agenda calls.new).parking slot mtype }
     ensures had { result ≡ LookedFor.Unwanted → C.had (C.agenda calls.new).parking }
-    ensures work { Heeded C.looked C.had C.sent C.told (C.agenda calls.old) (C.agenda calls.new) }
+    ensures work { Heeded C.looked C.had (C.sent calls.new) (C.told calls.new)
+        (C.agenda calls.old) (C.agenda calls.new) }
     ensures keeps { C.keeps calls.old calls.new }
 {
     match look_along(by, calls, exact_line(slot, mtype), slot, mtype) {
@@ -307,7 +328,8 @@ fn look_along<B, C: Calls<B>>(
     ensures ends { result ≡ LookedFor.Unwanted →
         OnlyEnds (C.agenda calls.old).parking (C.agenda calls.new).parking }
     ensures had { result ≡ LookedFor.Unwanted → C.had (C.agenda calls.new).parking }
-    ensures work { Heeded C.looked C.had C.sent C.told (C.agenda calls.old) (C.agenda calls.new) }
+    ensures work { Heeded C.looked C.had (C.sent calls.new) (C.told calls.new)
+        (C.agenda calls.old) (C.agenda calls.new) }
     ensures keeps { C.keeps calls.old calls.new }
 {
     let mut index: usize = 0;

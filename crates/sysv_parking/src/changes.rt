@@ -1,5 +1,5 @@
 //! What has changed for parked calls, apart from messages that have arrived. Equal changes are one.
-ghost use Rattle.std.specs.Prelude.{◌≡◌, ◌⊎◌, ◌^◌, ◌%◌, ◌<◌, None, Some, true, List, slice_index, bit_or};
+ghost use Rattle.std.specs.Prelude.{◌≡◌, ◌⊎◌, ◌^◌, ◌/◌, ◌%◌, ◌<◌, None, Some, IfSome, true, List, slice_index, bit_or};
 ghost use Rattle.sysv_bells.specs.declared.view.Stage.TheVariants.{Awake};
 ghost use Rattle.sysv_bells.specs.declared.view.Taking.{Taking};
 ghost use Rattle.sysv_bells.specs.Seats.{joined, read_to};
@@ -58,6 +58,7 @@ impl Change {
     /// Returns the number of the change, if its slot exists: its bit among those of all words.
     pub fn number(self) -> Option<usize>
         ensures there { IsThere self → result ≡ Some (number_of self) }
+        ensures within { IfSome result (λ number. number / 64 < CHANGE_WORDS) }
     {
         match self {
             Change::Queue { slot } if slot < SLOTS => Some(slot),

@@ -16,8 +16,8 @@ const BITS: usize = 64;
 /// Heeds all that has changed, and all messages that have arrived, as far as the worker's share of
 /// looks goes. What is left is heeded in the next round.
 pub fn heed_all<B, C: Calls<B>>(rt: &impl Wait, by: &B, calls: &mut C)
-    ensures heeded { Heeded C.looked C.had C.sent C.told (C.agenda calls.old)
-        (C.agenda calls.new) }
+    ensures heeded { Heeded C.looked C.had (C.sent calls.new) (C.told calls.new)
+        (C.agenda calls.old) (C.agenda calls.new) }
     ensures rest { ((C.agenda calls.new).looks ≡ 0) ⊎ IsAtRest (C.agenda calls.new) }
     ensures keeps { C.keeps calls.old calls.new }
 {
@@ -38,8 +38,8 @@ pub fn heed_all<B, C: Calls<B>>(rt: &impl Wait, by: &B, calls: &mut C)
 
 /// Makes the parked calls due that changes may end.
 fn heed_changes<B, C: Calls<B>>(rt: &impl Wait, by: &B, calls: &mut C)
-    ensures heeded { Heeded C.looked C.had C.sent C.told (C.agenda calls.old)
-        (C.agenda calls.new) }
+    ensures heeded { Heeded C.looked C.had (C.sent calls.new) (C.told calls.new)
+        (C.agenda calls.old) (C.agenda calls.new) }
     ensures none { IsHeedful (C.agenda calls.new) }
     ensures keeps { C.keeps calls.old calls.new }
 {
@@ -53,8 +53,8 @@ fn heed_changes<B, C: Calls<B>>(rt: &impl Wait, by: &B, calls: &mut C)
 /// Looks at the receives that may take the message of an envelope, here first or, in turn, in
 /// another worker first: else the clients of one worker might have all, and those of the others wait.
 fn send_off<B, C: Calls<B>>(rt: &impl Wait, by: &B, calls: &mut C, envelope: Envelope)
-    ensures heeds { HeedsOne C.looked C.had C.sent C.told envelope (C.agenda calls.old)
-        (C.agenda calls.new) }
+    ensures heeds { HeedsOne C.looked C.had (C.sent calls.new) (C.told calls.new) envelope
+        (C.agenda calls.old) (C.agenda calls.new) }
     ensures keeps { C.keeps calls.old calls.new }
 {
     let turn = calls.turn_of_others(by);
@@ -70,8 +70,8 @@ fn send_off<B, C: Calls<B>>(rt: &impl Wait, by: &B, calls: &mut C, envelope: Env
 /// Looks at the receives of this worker that may take the message of an envelope, and passes it on
 /// unless one took it. If the worker's share of looks is used up, it keeps the envelope.
 fn heed<B, C: Calls<B>>(rt: &impl Wait, by: &B, calls: &mut C, envelope: Envelope)
-    ensures heeds { HeedsOne C.looked C.had C.sent C.told envelope (C.agenda calls.old)
-        (C.agenda calls.new) }
+    ensures heeds { HeedsOne C.looked C.had (C.sent calls.new) (C.told calls.new) envelope
+        (C.agenda calls.old) (C.agenda calls.new) }
     ensures keeps { C.keeps calls.old calls.new }
 {
     let own = bit(calls.number());
@@ -87,12 +87,16 @@ fn heed<B, C: Calls<B>>(rt: &impl Wait, by: &B, calls: &mut C, envelope: Envelop
     }
     let mut left = envelope;
     left.rest &= !own;
-    pass_on(rt, by, calls, calls.number().wrapping_add(1), left);
+    let next = calls.number().wrapping_add(1);
+    pass_on(rt, by, calls, next, left);
 }
 
 /// Gives an envelope to the first worker that has not had it, from the one of this number on.
-fn pass_on<B, C: Calls<B>>(rt: &impl Wait, by: &B, calls: &C, from: usize, envelope: Envelope)
-    ensures { ArePassed C.looked C.had C.sent C.told envelope.slot envelope.mtype envelope.rest }
+fn pass_on<B, C: Calls<B>>(rt: &impl Wait, by: &B, calls: &mut C, from: usize, envelope: Envelope)
+    ensures passed { ArePassed C.looked C.had (C.sent calls.new) (C.told calls.new) envelope.slot
+        envelope.mtype envelope.rest }
+    ensures same { C.agenda calls.new ≡ C.agenda calls.old }
+    ensures keeps { C.keeps calls.old calls.new }
 {
     let mut left = envelope;
     for _ in rt.forever() {
@@ -116,9 +120,9 @@ fn unmark<B, C: Calls<B>>(by: &B, calls: &C, word: usize) {
 
 /// Reads the envelopes that were sent to this worker, as far as it keeps them.
 pub fn read_envelopes<B, C: Calls<B>>(by: &B, calls: &mut C)
-    ensures heeded { Heeded C.looked C.had C.sent C.told (C.agenda calls.old)
-        (C.agenda calls.new) }
-    ensures read { C.emptied ⊎ C.awake }
+    ensures heeded { Heeded C.looked C.had (C.sent calls.new) (C.told calls.new)
+        (C.agenda calls.old) (C.agenda calls.new) }
+    ensures read { C.emptied calls.new ⊎ C.awake calls.new }
     ensures keeps { C.keeps calls.old calls.new }
 {
     for _ in 0..MOST_READ {

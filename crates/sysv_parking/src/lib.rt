@@ -15,6 +15,7 @@ mod found;
 mod heeding;
 mod key;
 mod lines;
+mod mailbox;
 mod telling;
 
 pub use agenda::Agenda;
@@ -26,4 +27,5 @@ pub use found::{Found, LookedFor};
 pub use heeding::{heed_all, read_envelopes};
 pub use key::{BLOCKS_WORD, Caller, Key, SETTLED_WORD, WORDS, room_word};
 pub use lines::Lines;
+pub use mailbox::{Mail, MailPass, Mailbox};
 pub use telling::collect;

@@ -3,6 +3,7 @@ ghost use Rattle.std.specs.Prelude.{◌≡◌, []};
 ghost use Rattle.std.specs.List.{Contains};
 ghost use Rattle.sysv_parking.specs.declared.envelope.News.{News};
 ghost use Rattle.sysv_parking.specs.declared.changes.Change.{Change};
+ghost use Rattle.sysv_parking.specs.declared.changes.Change.TheVariants.{Queue};
 ghost use Rattle.sysv_parking.specs.Agenda.{AreParkedFor, AreTold, HearOf, IsAnnounced, IsPosted, IsSpread, IsTaken, KeepsWork};
 ghost use Rattle.sysv_parking.specs.Changes.{Holds, IsThere};
 
@@ -17,7 +18,7 @@ use std::sync::Wait;
 /// Nothing is left to tell then.
 pub fn collect<B, C: Tells<B>>(rt: &impl Wait, by: &B, calls: &mut C)
     ensures announced { (news : News) → Contains (C.news calls.old) news
-        → IsAnnounced C.told C.read news (C.agenda calls.new) }
+        → IsAnnounced (C.told calls.new) (C.read calls.new) news (C.agenda calls.new) }
     ensures news { C.news calls.new ≡ [] }
     ensures work { KeepsWork (C.agenda calls.old) (C.agenda calls.new) }
     ensures parking { (C.agenda calls.new).parking ≡ (C.agenda calls.old).parking }
@@ -32,7 +33,7 @@ pub fn collect<B, C: Tells<B>>(rt: &impl Wait, by: &B, calls: &mut C)
 /// other change is added to those that are to be told.
 fn take_all<B, C: Tells<B>>(rt: &impl Wait, by: &B, calls: &mut C, changes: &mut Changes)
     ensures taken { (news : News) → Contains (C.news calls.old) news
-        → IsTaken C.told C.read news changes.new (C.agenda calls.new) }
+        → IsTaken (C.told calls.new) (C.read calls.new) news changes.new (C.agenda calls.new) }
     ensures news { C.news calls.new ≡ [] }
     ensures work { KeepsWork (C.agenda calls.old) (C.agenda calls.new) }
     ensures parking { (C.agenda calls.new).parking ≡ (C.agenda calls.old).parking }
@@ -49,7 +50,8 @@ fn take_all<B, C: Tells<B>>(rt: &impl Wait, by: &B, calls: &mut C, changes: &mut
 
 /// Keeps an envelope of a message that has arrived, if receives are parked at its queue.
 fn post<B, C: Tells<B>>(by: &B, calls: &mut C, slot: usize, mtype: i64)
-    ensures posted { IsPosted C.told C.read slot mtype (C.agenda calls.new) }
+    ensures posted { IsPosted (C.told calls.new) (C.read calls.new) slot mtype
+        (C.agenda calls.new) }
     ensures work { KeepsWork (C.agenda calls.old) (C.agenda calls.new) }
     ensures parking { (C.agenda calls.new).parking ≡ (C.agenda calls.old).parking }
     ensures news { C.news calls.new ≡ C.news calls.old }
@@ -64,7 +66,7 @@ fn post<B, C: Tells<B>>(by: &B, calls: &mut C, slot: usize, mtype: i64)
 /// Tells of all these changes each worker that has calls parked which they may end.
 fn tell_all<B, C: Tells<B>>(rt: &impl Wait, by: &B, calls: &mut C, changes: &mut Changes)
     ensures spread { (change : Change) → IsThere change → Holds changes.old change
-        → IsSpread C.told C.read change (C.agenda calls.new) }
+        → IsSpread (C.told calls.new) (C.read calls.new) change (C.agenda calls.new) }
     ensures news { C.news calls.new ≡ C.news calls.old }
     ensures work { KeepsWork (C.agenda calls.old) (C.agenda calls.new) }
     ensures parking { (C.agenda calls.new).parking ≡ (C.agenda calls.old).parking }
@@ -80,13 +82,14 @@ fn tell_all<B, C: Tells<B>>(rt: &impl Wait, by: &B, calls: &mut C, changes: &mut
 }
 
 /// Returns which workers have parked calls that such a change may end.
-fn parked_for<B, C: Tells<B>>(by: &B, calls: &C, change: Change) -> u64
-    ensures { AreParkedFor C.told C.read change result }
+fn parked_for<B, C: Tells<B>>(by: &B, calls: &mut C, change: Change) -> u64
+    ensures parked { AreParkedFor (C.told calls.new) (C.read calls.new) change result }
+    ensures same { C.agenda calls.new ≡ C.agenda calls.old }
+    ensures news { C.news calls.new ≡ C.news calls.old }
+    ensures keeps { C.keeps calls.old calls.new }
 {
     match change {
-        Change::Queue { slot } => calls.word(by, slot)
-            | calls.word(by, room_word(slot))
-            | calls.word(by, BLOCKS_WORD),
+        Change::Queue { slot } => parked_at(by, calls, slot),
         Change::Room { slot } => calls.word(by, room_word(slot)),
         Change::Blocks => calls.word(by, BLOCKS_WORD),
         Change::Settled => calls.word(by, SETTLED_WORD),
@@ -94,11 +97,24 @@ fn parked_for<B, C: Tells<B>>(by: &B, calls: &C, change: Change) -> u64
     }
 }
 
+/// Returns which workers have calls parked at a queue, or sends that wait for blocks.
+fn parked_at<B, C: Tells<B>>(by: &B, calls: &mut C, slot: usize) -> u64
+    ensures parked { AreParkedFor (C.told calls.new) (C.read calls.new) (Queue slot) result }
+    ensures same { C.agenda calls.new ≡ C.agenda calls.old }
+    ensures news { C.news calls.new ≡ C.news calls.old }
+    ensures keeps { C.keeps calls.old calls.new }
+{
+    let receives = calls.word(by, slot);
+    let sends = calls.word(by, room_word(slot));
+    let for_blocks = calls.word(by, BLOCKS_WORD);
+    receives | sends | for_blocks
+}
+
 /// Tells each of these workers of a change. This one heeds it at once or, in turn, after the others:
 /// else its own clients might have all that becomes free.
 fn tell_each<B, C: Tells<B>>(rt: &impl Wait, by: &B, calls: &mut C, workers: u64, change: Change)
     ensures heard { IsThere change
-        → HearOf C.told C.read change workers (C.agenda calls.new) }
+        → HearOf (C.told calls.new) (C.read calls.new) change workers (C.agenda calls.new) }
     ensures news { C.news calls.new ≡ C.news calls.old }
     ensures work { KeepsWork (C.agenda calls.old) (C.agenda calls.new) }
     ensures parking { (C.agenda calls.new).parking ≡ (C.agenda calls.old).parking }
@@ -110,15 +126,19 @@ fn tell_each<B, C: Tells<B>>(rt: &impl Wait, by: &B, calls: &mut C, workers: u64
         return;
     }
     if workers != own && calls.is_last() {
-        calls.tell(by, calls.number(), change);
+        let number = calls.number();
+        calls.tell(by, number, change);
     } else {
         calls.add_change(change);
     }
 }
 
 /// Tells each of these workers of a change.
-fn tell_others<B, C: Tells<B>>(rt: &impl Wait, by: &B, calls: &C, workers: u64, change: Change)
-    ensures { AreTold C.told C.read change workers }
+fn tell_others<B, C: Tells<B>>(rt: &impl Wait, by: &B, calls: &mut C, workers: u64, change: Change)
+    ensures told { AreTold (C.told calls.new) (C.read calls.new) change workers }
+    ensures same { C.agenda calls.new ≡ C.agenda calls.old }
+    ensures news { C.news calls.new ≡ C.news calls.old }
+    ensures keeps { C.keeps calls.old calls.new }
 {
     let mut rest = workers;
     for _ in rt.forever() {

@@ -7,7 +7,7 @@ use Rattle.sysv_parking.specs.Keys.{line_of}
 use Rattle.sysv_parking.specs.Looks.{IsNaming, IsUnwantedIn}
 use Rattle.sysv_parking.specs.Parking.{AreInLines, Parking, item_at, key_at, line_at}
 use Rattle.sysv_parking.proofs.Walking.{ends_after, none_left, passed_after, passed_more}
-use Rattle.sysv_parking.proofs.Working.{heeds_on, look_heeds}
+use Rattle.sysv_parking.proofs.Working.{heeds_then, look_heeds}
 use Rattle.sysv_parking.proofs.calls.look_along.Goals as goal
 
 pub returns-in_default-clause-unwanted : goal.returns-in_default-clause-unwanted
@@ -58,8 +58,9 @@ loop-preserved g c =
     let over : key_at after c.in-Some.place ≡ None = c.look.ensures.over (inr c.in-Over.is) in
     record {
       keeps = g.met.C.Tells.keeps_on _ _ _ c.loop.invariant.keeps c.look.ensures.keeps;
-      work = heeds_on _ _ _ c.loop.invariant.work (look_heeds _ _ _ _ _ c.look.ensures.look c.look.ensures.moves
-          c.look.ensures.work);
+      work = heeds_then (g.met.C.Calls.sent_on _ _ c.look.ensures.keeps)
+          (g.met.C.Tells.told_on _ _ c.look.ensures.keeps) _ _ _ c.loop.invariant.work
+          (look_heeds _ _ _ _ _ c.look.ensures.look c.look.ensures.moves c.look.ensures.work);
       ends = ends_after now c.args.line c.args.slot m c.loop.index c.in-Some.place there c.loop.invariant.passed after
           naming c.look.ensures.moves over c.look.ensures.in_lines (g.C.Tells.agenda c.args.calls.now).parking
           c.loop.invariant.ends;
@@ -70,15 +71,15 @@ loop-preserved g c =
 
 pub returns-in-Nothing-clause-work : goal.returns-in-Nothing-clause-work
 returns-in-Nothing-clause-work g c =
-    heeds_on _ _ _ c.loop.invariant.work (look_heeds _ _ _ _ _ c.look.ensures.look c.look.ensures.moves
-    c.look.ensures.work)
+    heeds_then (g.met.C.Calls.sent_on _ _ c.look.ensures.keeps) (g.met.C.Tells.told_on _ _ c.look.ensures.keeps) _ _ _
+    c.loop.invariant.work (look_heeds _ _ _ _ _ c.look.ensures.look c.look.ensures.moves c.look.ensures.work)
 
 pub returns-in-Message-clause-work : goal.returns-in-Message-clause-work
 returns-in-Message-clause-work g c =
-    heeds_on _ _ _ c.loop.invariant.work (look_heeds _ _ _ _ _ c.look.ensures.look c.look.ensures.moves
-    c.look.ensures.work)
+    heeds_then (g.met.C.Calls.sent_on _ _ c.look.ensures.keeps) (g.met.C.Tells.told_on _ _ c.look.ensures.keeps) _ _ _
+    c.loop.invariant.work (look_heeds _ _ _ _ _ c.look.ensures.look c.look.ensures.moves c.look.ensures.work)
 
 pub returns-in-Else-clause-work : goal.returns-in-Else-clause-work
 returns-in-Else-clause-work g c =
-    heeds_on _ _ _ c.loop.invariant.work (look_heeds _ _ _ _ _ c.look.ensures.look c.look.ensures.moves
-    c.look.ensures.work)
+    heeds_then (g.met.C.Calls.sent_on _ _ c.look.ensures.keeps) (g.met.C.Tells.told_on _ _ c.look.ensures.keeps) _ _ _
+    c.loop.invariant.work (look_heeds _ _ _ _ _ c.look.ensures.look c.look.ensures.moves c.look.ensures.work)

@@ -13,8 +13,8 @@ invariant-loop g l =
     let now = (g.C.Tells.agenda l.calls).parking in
     record {
       keeps : g.C.Tells.keeps l.fn.calls l.calls;
-      work : Heeded g.C.Calls.looked g.C.Calls.had g.C.Calls.sent g.C.Tells.told (g.C.Tells.agenda l.fn.calls)
-          (g.C.Tells.agenda l.calls);
+      work : Heeded g.C.Calls.looked g.C.Calls.had (g.C.Calls.sent l.calls) (g.C.Tells.told l.calls)
+          (g.C.Tells.agenda l.fn.calls) (g.C.Tells.agenda l.calls);
       ends : OnlyEnds (g.C.Tells.agenda l.fn.calls).parking now;
       passed : (j : ℕ) → j < l.index → (key : Key) → key_at now (get_or (line_at now l.line) j 0) ≡ Some key →
           Names l.slot l.mtype key → ⊥;

@@ -5,7 +5,7 @@ use Rattle.sysv_parking.specs.declared.found.Found.{Found}
 use Rattle.sysv_parking.specs.declared.key.Key.{Key}
 use Rattle.sysv_parking.specs.Lines.{Takes}
 use Rattle.sysv_parking.proofs.Shown.{all_heeded, all_keys, still_shown}
-use Rattle.sysv_parking.proofs.Working.{due_heeds, heeds_on, heeds_same}
+use Rattle.sysv_parking.proofs.Working.{due_heeds, heeds_same, heeds_then}
 use Rattle.sysv_parking.proofs.calls.look_at_due.Goals as goal
 
 pub loop-preserved : goal.loop-preserved
@@ -22,10 +22,11 @@ loop-preserved g c =
     let kept : (p : ℕ) (k : Option Key) (f : Found) → g.C.Calls.looked p k f →
     g.C.Calls.looked p k f =
     λ p k f l. l in
+    let keeps = g.met.C.Tells.keeps_on _ _ _ c.take_due.ensures.keeps c.look_unless.ensures.keeps in
     record {
-      keeps = g.met.C.Tells.keeps_on _ _ _ c.loop.invariant.keeps
-          (g.met.C.Tells.keeps_on _ _ _ c.take_due.ensures.keeps c.look_unless.ensures.keeps);
-      work = heeds_on _ _ _ c.loop.invariant.work (due_heeds (g.C.Tells.agenda c.loop.calls)
+      keeps = g.met.C.Tells.keeps_on _ _ _ c.loop.invariant.keeps keeps;
+      work = heeds_then (g.met.C.Calls.sent_on _ _ keeps) (g.met.C.Tells.told_on _ _ keeps) _ _ _
+          c.loop.invariant.work (due_heeds (g.C.Tells.agenda c.loop.calls)
           (g.C.Tells.agenda c.take_due.new.self) (g.C.Tells.agenda c.look_unless.new.calls) c.in-Some.place
           c.in-Some.why
           c.loop.barriers c.look_unless.new.barriers takes c.take_due.ensures.rest step shown
@@ -43,6 +44,7 @@ returns-in_default-clause-work g c =
     let none : Takes None (g.C.Tells.agenda c.loop.calls).parking (g.C.Tells.agenda c.take_due.new.self).parking =
     subst (λ (t : Option (ℕ × Why)). Takes t (g.C.Tells.agenda c.loop.calls).parking
     (g.C.Tells.agenda c.take_due.new.self).parking) c.in_default.is c.take_due.ensures.takes in
-    heeds_on _ _ _ c.loop.invariant.work
+    let keeps = c.take_due.ensures.keeps in
+    heeds_then (g.met.C.Calls.sent_on _ _ keeps) (g.met.C.Tells.told_on _ _ keeps) _ _ _ c.loop.invariant.work
     (heeds_same (g.C.Tells.agenda c.loop.calls) (g.C.Tells.agenda c.take_due.new.self)
     c.take_due.ensures.rest none.1)

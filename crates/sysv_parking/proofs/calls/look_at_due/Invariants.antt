@@ -14,8 +14,8 @@ invariant-loop g l =
     let now = (g.C.Tells.agenda l.calls).parking in
     record {
       keeps : g.C.Tells.keeps l.fn.calls l.calls;
-      work : Heeded Looked g.C.Calls.had g.C.Calls.sent g.C.Tells.told (g.C.Tells.agenda l.fn.calls)
-          (g.C.Tells.agenda l.calls);
+      work : Heeded Looked g.C.Calls.had (g.C.Calls.sent l.calls) (g.C.Tells.told l.calls)
+          (g.C.Tells.agenda l.fn.calls) (g.C.Tells.agenda l.calls);
       heeded : (place : ℕ) → is_due (why_at was place) ≡ true → IsHeeded Looked was now place;
       keys : (place : ℕ) → WasLookedAt Looked place ⊎ (key_at now place ≡ key_at was place);
       shown : AreShown (StillWaits Looked) l.barriers;

@@ -5,8 +5,20 @@ use Rattle.sysv_parking.specs.declared.found.Found.TheVariants as found
 use Rattle.sysv_parking.specs.Keys.{line_of}
 use Rattle.sysv_parking.specs.Looks.{AnAskerFound, IsUnwanted, IsUnwantedIn}
 use Rattle.sysv_parking.proofs.Walking.{unwanted_in_all}
-use Rattle.sysv_parking.proofs.Working.{heeds_on}
+use Rattle.sysv_parking.proofs.Working.{heeds_then}
+use Rattle.sysv_parking.specs.Agenda.{Agenda, Heeded}
+use Rattle.sysv_parking.proofs.calls.look_for_message.Given as given
 use Rattle.sysv_parking.proofs.calls.look_for_message.Goals as goal
+
+-- One walk after another.
+then : (g : given.Over) (start : Agenda) (middle end : g.row.C.Denot) → g.C.Tells.keeps middle end →
+    Heeded g.C.Calls.looked g.C.Calls.had (g.C.Calls.sent middle) (g.C.Tells.told middle) start
+    (g.C.Tells.agenda middle) →
+    Heeded g.C.Calls.looked g.C.Calls.had (g.C.Calls.sent end) (g.C.Tells.told end) (g.C.Tells.agenda middle)
+    (g.C.Tells.agenda end) →
+    Heeded g.C.Calls.looked g.C.Calls.had (g.C.Calls.sent end) (g.C.Tells.told end) start (g.C.Tells.agenda end)
+then g start middle end keeps first second =
+    heeds_then (g.met.C.Calls.sent_on middle end keeps) (g.met.C.Tells.told_on middle end keeps) _ _ _ first second
 
 pub returns-in_default-look_along : goal.returns-in_default-look_along
 returns-in_default-look_along g c =
@@ -17,12 +29,13 @@ returns-in_default-look_along g c =
       gone = λ is. subst (λ (t : ℤ). AnAskerFound L c.args.slot t found.Nothing) e (c.look_along-2.ensures.gone is);
       unwanted = λ is. absurd (c.in_default-look_along.not-Unwanted is);
       had = λ is. absurd (c.in_default-look_along.not-Unwanted is);
-      work = heeds_on _ _ _ c.look_along.ensures.work c.look_along-2.ensures.work;
+      work = then g _ _ _ c.look_along-2.ensures.keeps c.look_along.ensures.work c.look_along-2.ensures.work;
       keeps = g.met.C.Tells.keeps_on _ _ _ c.look_along.ensures.keeps c.look_along-2.ensures.keeps;
     }
 
 pub returns-in_default-look_along-2 : goal.returns-in_default-look_along-2
 returns-in_default-look_along-2 g c =
+    let keeps = g.met.C.Tells.keeps_on _ _ _ c.look_along-2.ensures.keeps c.look_along-3.ensures.keeps in
     let e = to_z-of_z w64 c.args.mtype c.ranges.mtype in
     let L = g.C.Calls.looked in
     record {
@@ -30,10 +43,9 @@ returns-in_default-look_along-2 g c =
       gone = λ is. subst (λ (t : ℤ). AnAskerFound L c.args.slot t found.Nothing) e (c.look_along-3.ensures.gone is);
       unwanted = λ is. absurd (c.in_default-look_along-2.not-Unwanted is);
       had = λ is. absurd (c.in_default-look_along-2.not-Unwanted is);
-      work = heeds_on _ _ _ c.look_along.ensures.work (heeds_on _ _ _ c.look_along-2.ensures.work
-          c.look_along-3.ensures.work);
-      keeps = g.met.C.Tells.keeps_on _ _ _ c.look_along.ensures.keeps
-          (g.met.C.Tells.keeps_on _ _ _ c.look_along-2.ensures.keeps c.look_along-3.ensures.keeps);
+      work = then g _ _ _ keeps c.look_along.ensures.work
+          (then g _ _ _ c.look_along-3.ensures.keeps c.look_along-2.ensures.work c.look_along-3.ensures.work);
+      keeps = g.met.C.Tells.keeps_on _ _ _ c.look_along.ensures.keeps keeps;
     }
 
 pub returns-clause-unwanted : goal.returns-clause-unwanted
@@ -59,5 +71,8 @@ returns-clause-unwanted g c =
 
 pub returns-clause-work : goal.returns-clause-work
 returns-clause-work g c =
-    heeds_on _ _ _ c.look_along.ensures.work (heeds_on _ _ _ c.look_along-2.ensures.work
-    (heeds_on _ _ _ c.look_along-3.ensures.work c.look_along-4.ensures.work))
+    let last = c.look_along-4.ensures.keeps in
+    let two = g.met.C.Tells.keeps_on _ _ _ c.look_along-3.ensures.keeps last in
+    let three = g.met.C.Tells.keeps_on _ _ _ c.look_along-2.ensures.keeps two in
+    then g _ _ _ three c.look_along.ensures.work (then g _ _ _ two c.look_along-2.ensures.work
+    (then g _ _ _ last c.look_along-3.ensures.work c.look_along-4.ensures.work))

@@ -3,27 +3,35 @@ use Rattle.std.proofs.Common.{rules, ◌≡◌, ◌∙◌, ℕ, List, [], ◌∷
 use Rattle.std.specs.Prelude.{slice_index_or}
 use Rattle.std.specs.List.{Contains}
 use Rattle.std.proofs.lemmas.List.Elements.{Contains-append_cases}
+use Rattle.sysv_parking.specs.declared.changes.Change.{Change}
 use Rattle.sysv_parking.specs.declared.due.Why.{Why}
 use Rattle.sysv_parking.specs.declared.envelope.Envelope.{Envelope}
+use Rattle.sysv_parking.specs.declared.found.Found.{Found}
+use Rattle.sysv_parking.specs.declared.key.Key.{Key}
 use Rattle.sysv_parking.specs.Agenda.{Agenda, Heeded, HeedsOne, IsAtRest, IsSpent, TakesFirst}
 use Rattle.sysv_parking.specs.Changes.{Holds, IsWithin}
 use Rattle.sysv_parking.specs.Lines.{NoneIsDue}
 use Rattle.sysv_parking.specs.Parking.{Parking, key_at, why_at}
-use Rattle.sysv_parking.proofs.heeding.heed_all.Given as given
-use Rattle.sysv_parking.proofs.Working.{heeds_on}
+use Rattle.sysv_parking.proofs.Working.{heeds_equal, heeds_then}
 use Rattle.sysv_parking.proofs.heeding.heed_all.Goals as goal
 
 pub loop-preserved-then-has_due : goal.loop-preserved-then-has_due
-loop-preserved-then-has_due g c = record {
-  runs = search rules;
-  keeps = g.met.C.Tells.keeps_on _ _ _ c.loop.invariant.keeps
-      (g.met.C.Tells.keeps_on _ _ _ c.heed_changes.ensures.keeps c.look_at_due.ensures.keeps);
-  heeded =
-      heeds_on _ _ _ c.loop.invariant.heeded (heeds_on _ _ _ c.heed_changes.ensures.heeded c.look_at_due.ensures.work);
-}
+loop-preserved-then-has_due g c =
+    let last = c.look_at_due.ensures.keeps in
+    let keeps = g.met.C.Tells.keeps_on _ _ _ c.heed_changes.ensures.keeps last in
+    record {
+      runs = search rules;
+      keeps = g.met.C.Tells.keeps_on _ _ _ c.loop.invariant.keeps keeps;
+      heeded = heeds_then (g.met.C.Calls.sent_on _ _ keeps) (g.met.C.Tells.told_on _ _ keeps) _ _ _
+          c.loop.invariant.heeded (heeds_then (g.met.C.Calls.sent_on _ _ last) (g.met.C.Tells.told_on _ _ last) _ _ _
+          c.heed_changes.ensures.heeded c.look_at_due.ensures.work);
+    }
 
 pub returns-then-not-may_look-clause-heeded : goal.returns-then-not-may_look-clause-heeded
-returns-then-not-may_look-clause-heeded g c = heeds_on _ _ _ c.loop.invariant.heeded c.heed_changes.ensures.heeded
+returns-then-not-may_look-clause-heeded g c =
+    let keeps = c.heed_changes.ensures.keeps in
+    heeds_then (g.met.C.Calls.sent_on _ _ keeps) (g.met.C.Tells.told_on _ _ keeps) _ _ _ c.loop.invariant.heeded
+    c.heed_changes.ensures.heeded
 
 contains_one : (e envelope : Envelope) → Contains (envelope ∷ []) e → e ≡ envelope
 contains_one e envelope is =
@@ -31,18 +39,19 @@ contains_one e envelope is =
     sym (subst (λ (n : ℕ). slice_index_or (envelope ∷ []) n e ≡ e) first is.2)
 
 -- The envelope that was taken is handled, and the others are kept.
-module _ (g : given.Over) (before taken after : Agenda) (envelope : Envelope)
+module _ {Looked : ℕ → Option Key → Found → Type 0} {Had : Parking → Type 0} {Sent : ℕ → Envelope → Type 0}
+    {Told : ℕ → Change → Type 0} (before taken after : Agenda) (envelope : Envelope)
     (takes : before.envelopes ≡ envelope ∷ taken.envelopes)
     (rest : taken ≡ record before { envelopes = taken.envelopes })
-    (heeds : HeedsOne g.C.Calls.looked g.C.Calls.had g.C.Calls.sent g.C.Tells.told envelope taken after) where
+    (heeds : HeedsOne Looked Had Sent Told envelope taken after) where
   number : taken.number ≡ before.number
   number = ap (λ (a : Agenda). a.number) rest
 
-  spent_before : (e : Envelope) → IsSpent g.C.Calls.looked g.C.Calls.had g.C.Calls.sent g.C.Tells.told taken.number e →
-      IsSpent g.C.Calls.looked g.C.Calls.had g.C.Calls.sent g.C.Tells.told before.number e
-  spent_before e = subst (λ (n : ℕ). IsSpent g.C.Calls.looked g.C.Calls.had g.C.Calls.sent g.C.Tells.told n e) number
+  spent_before : (e : Envelope) → IsSpent Looked Had Sent Told taken.number e →
+      IsSpent Looked Had Sent Told before.number e
+  spent_before e = subst (λ (n : ℕ). IsSpent Looked Had Sent Told n e) number
 
-  one_heeds : Heeded g.C.Calls.looked g.C.Calls.had g.C.Calls.sent g.C.Tells.told before after
+  one_heeds : Heeded Looked Had Sent Told before after
   one_heeds = record {
     number = heeds.heeded.number ∙ number;
     owed = λ place key why owes. heeds.heeded.owed place key why (
@@ -65,7 +74,7 @@ module _ (g : given.Over) (before taken after : Agenda) (envelope : Envelope)
               elim heeds.one [
                 | inl kept ↦ inl (subst (λ (x : Envelope). Contains after.envelopes x) (sym same) kept)
                 | inr spent ↦ inr (spent_before e (subst (λ (x : Envelope).
-                    IsSpent g.C.Calls.looked g.C.Calls.had g.C.Calls.sent g.C.Tells.told taken.number x) (sym same)
+                    IsSpent Looked Had Sent Told taken.number x) (sym same)
                     spent))
               ]
           | inr other ↦ elim (heeds.heeded.envelopes e other) [
@@ -83,14 +92,15 @@ loop-preserved g c =
     let takes : before.envelopes ≡ c.in-Some-take_envelope.envelope ∷ taken.envelopes =
     subst (λ (t : Option Envelope). TakesFirst t before.envelopes taken.envelopes) c.in-Some-take_envelope.is
     c.take_envelope.ensures.takes in
+    let last = g.met.C.Tells.keeps_on _ _ _ c.take_envelope.ensures.keeps c.send_off.ensures.keeps in
+    let keeps = g.met.C.Tells.keeps_on _ _ _ c.heed_changes.ensures.keeps last in
     record {
       runs = search rules;
-      keeps = g.met.C.Tells.keeps_on _ _ _ c.loop.invariant.keeps
-          (g.met.C.Tells.keeps_on _ _ _ c.heed_changes.ensures.keeps
-          (g.met.C.Tells.keeps_on _ _ _ c.take_envelope.ensures.keeps c.send_off.ensures.keeps));
-      heeded = heeds_on _ _ _ c.loop.invariant.heeded (heeds_on _ _ _ c.heed_changes.ensures.heeded
-          (one_heeds g before taken after c.in-Some-take_envelope.envelope takes c.take_envelope.ensures.rest
-          c.send_off.ensures.heeds));
+      keeps = g.met.C.Tells.keeps_on _ _ _ c.loop.invariant.keeps keeps;
+      heeded = heeds_then (g.met.C.Calls.sent_on _ _ keeps) (g.met.C.Tells.told_on _ _ keeps) _ _ _
+          c.loop.invariant.heeded (heeds_then (g.met.C.Calls.sent_on _ _ last) (g.met.C.Tells.told_on _ _ last) _ _ _
+          c.heed_changes.ensures.heeded (one_heeds before taken after c.in-Some-take_envelope.envelope takes
+          c.take_envelope.ensures.rest c.send_off.ensures.heeds));
     }
 
 none_taken : (before taken : Agenda) → TakesFirst None before.envelopes taken.envelopes →
@@ -104,9 +114,11 @@ returns-in_default-clause-heeded g c =
     let taken = g.C.Tells.agenda c.take_envelope.new.self in
     let takes = subst (λ (t : Option Envelope). TakesFirst t before.envelopes taken.envelopes) c.in_default.is
     c.take_envelope.ensures.takes in
-    subst (λ (a : Agenda). Heeded g.C.Calls.looked g.C.Calls.had g.C.Calls.sent g.C.Tells.told
-    (g.C.Tells.agenda c.args.calls.now) a) (sym (none_taken before taken takes c.take_envelope.ensures.rest))
-    (heeds_on _ _ _ c.loop.invariant.heeded c.heed_changes.ensures.heeded)
+    let last = c.take_envelope.ensures.keeps in
+    let keeps = g.met.C.Tells.keeps_on _ _ _ c.heed_changes.ensures.keeps last in
+    heeds_then (g.met.C.Calls.sent_on _ _ keeps) (g.met.C.Tells.told_on _ _ keeps) _ _ _ c.loop.invariant.heeded
+    (heeds_then (g.met.C.Calls.sent_on _ _ last) (g.met.C.Tells.told_on _ _ last) _ _ _ c.heed_changes.ensures.heeded
+    (heeds_equal before taken (none_taken before taken takes c.take_envelope.ensures.rest)))
 
 pub returns-in_default-clause-rest : goal.returns-in_default-clause-rest
 returns-in_default-clause-rest g c =

@@ -8,7 +8,9 @@ abbrev pub invariant-loop : goal.invariant-loop
 invariant-loop g l = record {
   runs : (goal.iterator-loop g).can_next l.iterator' × (goal.iterator-loop g).is_finite l.iterator';
   same : l.left ≡ record l.fn.envelope { rest = l.left.rest };
+  agenda : g.C.Tells.agenda l.calls ≡ g.C.Tells.agenda l.fn.calls;
+  keeps : g.C.Tells.keeps l.fn.calls l.calls;
   passed : (worker : ℕ) → worker < 64 → bit_at l.fn.envelope.rest worker ≡ 1 → (bit_at l.left.rest worker ≡ 1)
-      ⊎ IsTold g.C.Calls.looked g.C.Calls.had g.C.Calls.sent g.C.Tells.told l.fn.envelope.slot l.fn.envelope.mtype
-      worker;
+      ⊎ IsTold g.C.Calls.looked g.C.Calls.had (g.C.Calls.sent l.calls) (g.C.Tells.told l.calls) l.fn.envelope.slot
+      l.fn.envelope.mtype worker;
 }

@@ -9,8 +9,11 @@ pub returns-clause-announced : goal.returns-clause-announced
 returns-clause-announced g c =
     let taken = g.C.Tells.agenda c.take_all.new.calls in
     let after = g.C.Tells.agenda c.tell_all.new.calls in
+    let keeps = c.tell_all.ensures.keeps in
     λ news is. elim (c.take_all.ensures.taken news is) [
-      | inl change ↦ subst (λ (n : News). IsAnnounced g.C.Tells.told g.C.Tells.read n after) (sym change.1)
+      | inl change ↦ subst (λ (n : News). IsAnnounced (g.C.Tells.told c.tell_all.new.calls)
+          (g.C.Tells.read c.tell_all.new.calls) n after) (sym change.1)
           (λ there. c.tell_all.ensures.spread change.0 there (change.2 there))
-      | inr told ↦ announced_on g.C.Tells.told g.C.Tells.read taken after c.tell_all.ensures.work news told
+      | inr told ↦ announced_on (g.met.C.Tells.told_on _ _ keeps) (g.met.C.Tells.read_on _ _ keeps) taken after
+          c.tell_all.ensures.work news told
     ]

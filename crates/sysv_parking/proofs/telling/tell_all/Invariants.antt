@@ -9,7 +9,7 @@ abbrev pub invariant-loop : goal.invariant-loop
 invariant-loop g l = record {
   runs : (goal.iterator-loop g).can_next l.iterator' × (goal.iterator-loop g).is_finite l.iterator';
   spread : (change : Change) → IsThere change → Holds l.fn.changes change → Holds l.changes change
-      ⊎ IsSpread g.C.Tells.told g.C.Tells.read change (g.C.Tells.agenda l.calls);
+      ⊎ IsSpread (g.C.Tells.told l.calls) (g.C.Tells.read l.calls) change (g.C.Tells.agenda l.calls);
   news : g.C.Tells.news l.calls ≡ g.C.Tells.news l.fn.calls;
   work : KeepsWork (g.C.Tells.agenda l.fn.calls) (g.C.Tells.agenda l.calls);
   parking : (g.C.Tells.agenda l.calls).parking ≡ (g.C.Tells.agenda l.fn.calls).parking;

@@ -25,23 +25,27 @@ returns-then-workers-own-eq0-clause-heard g c = λ there worker low is.
           c.if-workers-own-eq0.true in let here : bit_at c.args.workers (bit_of number) ≡ 1 =
           subst (λ (k : ℕ). bit_at c.args.workers k ≡ 1) e is in omega (arith, none, here))
       | inr ne ↦
-          inl (other g.C.Tells.told g.C.Tells.read c.args.change c.args.workers c.bit-own.result (bit_of number) own
-          (omega arith) c.tell_others.ensures worker low ne is)
+          inl (other (g.C.Tells.told c.tell_others.new.calls) (g.C.Tells.read c.tell_others.new.calls) c.args.change
+          c.args.workers c.bit-own.result (bit_of number) own (omega arith) c.tell_others.ensures.told worker low ne is)
     ]
 
 pub returns-then-is_last-clause-heard : goal.returns-then-is_last-clause-heard
 returns-then-is_last-clause-heard g c = λ there worker low is.
     let number = (g.C.Tells.agenda c.args.calls.now).number in
     let own = c.bit-own.ensures ∙ ap (λ (n : ℕ). 2 ^ bit_of n) c.number.ensures in
+    let same = c.is_last.ensures.same ∙ c.tell_others.ensures.same in
+    let keeps = g.met.C.Tells.keeps_on _ _ _ c.is_last.ensures.keeps c.tell.ensures.keeps in
     elim (cases_eq worker (bit_of number)) [
       | inl e ↦ inl (
-        c.number-then-is_last.result,
-        ap bit_of (c.number-then-is_last.ensures ∙ ap (λ (a : Agenda). a.number) c.is_last.ensures.same) ∙ sym e,
-        c.tell.ensures,
+        c.number-number.result,
+        ap bit_of (c.number-number.ensures ∙ ap (λ (a : Agenda). a.number) same) ∙ sym e,
+        c.tell.ensures.told,
       )
       | inr ne ↦
-          inl (other g.C.Tells.told g.C.Tells.read c.args.change c.args.workers c.bit-own.result (bit_of number) own
-          (omega arith) c.tell_others.ensures worker low ne is)
+          let told = other (g.C.Tells.told c.tell_others.new.calls) (g.C.Tells.read c.tell_others.new.calls)
+          c.args.change c.args.workers c.bit-own.result (bit_of number) own (omega arith) c.tell_others.ensures.told
+          worker low ne is in
+          inl (told.0, told.1, g.met.C.Tells.told_on _ _ keeps told.0 c.args.change told.2)
     ]
 
 pub returns-else-workers-own-clause-heard : goal.returns-else-workers-own-clause-heard
@@ -50,15 +54,27 @@ returns-else-workers-own-clause-heard g c = λ there worker low is.
     let own = c.bit-own.ensures ∙ ap (λ (n : ℕ). 2 ^ bit_of n) c.number.ensures in
     let same : g.C.Tells.agenda c.else-workers-own.calls ≡ was =
     elim c.else-workers-own.branch [
-      | else-workers-own-via-then-workers-own+else-is_last w ↦ ap g.C.Tells.agenda w.calls-is ∙ w.is_last.ensures.same
-      | else-workers-own-via-else-workers-own w ↦ ap g.C.Tells.agenda w.calls-is
+      | else-workers-own-via-then-workers-own+else-is_last w ↦ ap g.C.Tells.agenda w.calls-is
+          ∙ w.is_last.ensures.same ∙ c.tell_others.ensures.same
+      | else-workers-own-via-else-workers-own w ↦ ap g.C.Tells.agenda w.calls-is ∙ c.tell_others.ensures.same
     ] in
+    let between : g.C.Tells.keeps c.tell_others.new.calls c.else-workers-own.calls =
+    elim c.else-workers-own.branch [
+      | else-workers-own-via-then-workers-own+else-is_last w ↦
+          subst (λ calls. g.C.Tells.keeps c.tell_others.new.calls calls) (sym w.calls-is) w.is_last.ensures.keeps
+      | else-workers-own-via-else-workers-own w ↦
+          subst (λ calls. g.C.Tells.keeps c.tell_others.new.calls calls) (sym w.calls-is)
+          (g.met.C.Tells.keeps_itself _)
+    ] in
+    let keeps = g.met.C.Tells.keeps_on _ _ _ between c.add_change.ensures.keeps in
     elim (cases_eq worker (bit_of was.number)) [
       | inl e ↦ inr (
         e ∙ sym (ap bit_of (c.add_change.ensures.work.number ∙ ap (λ (a : Agenda). a.number) same)),
         c.add_change.ensures.added there,
       )
       | inr ne ↦
-          inl (other g.C.Tells.told g.C.Tells.read c.args.change c.args.workers c.bit-own.result (bit_of was.number)
-          own (omega arith) c.tell_others.ensures worker low ne is)
+          let told = other (g.C.Tells.told c.tell_others.new.calls) (g.C.Tells.read c.tell_others.new.calls)
+          c.args.change c.args.workers c.bit-own.result (bit_of was.number) own (omega arith)
+          c.tell_others.ensures.told worker low ne is in
+          inl (told.0, told.1, g.met.C.Tells.told_on _ _ keeps told.0 c.args.change told.2)
     ]

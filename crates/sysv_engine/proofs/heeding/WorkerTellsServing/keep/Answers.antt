@@ -3,7 +3,7 @@ use Rattle.std.proofs.Common.{inl, inr}
 use Rattle.sysv_engine.proofs.heeding.WorkerTellsServing.keep.Goals as goal
 
 pub returns-then-not-keep-clause-one : goal.returns-then-not-keep-clause-one
-returns-then-not-keep-clause-one g c = inr (λ worker low. tt)
+returns-then-not-keep-clause-one g c = inr (λ worker low. c.tell_everyone.ensures.told worker)
 
 pub returns-else-not-keep-clause-one : goal.returns-else-not-keep-clause-one
 returns-else-not-keep-clause-one g c = inl (c.keep.ensures.kept c.if-not-keep.false)

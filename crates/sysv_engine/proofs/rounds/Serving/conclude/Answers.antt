@@ -7,3 +7,6 @@ returns-clause-keeps g c = c.collect.ensures.keeps.0
 
 pub returns-clause-told : goal.returns-clause-told
 returns-clause-told g c = none_told _ c.collect.ensures.news
+
+pub returns-clause-reached : goal.returns-clause-reached
+returns-clause-reached g c = c.collect.ensures.keeps.2

@@ -9,5 +9,6 @@ invariant-loop g l = record {
   keeps : KeepsAll g.T.NonBlocking.incoming g.T.NonBlocking.outgoing g.T.NonBlocking.closes l.fn.worker.places.items
       l.worker.places.items;
   moves : MovesOnly l.place l.fn.worker.agenda.parking l.worker.agenda.parking;
+  words : l.worker.rest ≡ l.fn.worker.rest;
   rest : l.worker.agenda ≡ record l.fn.worker.agenda { parking = l.worker.agenda.parking };
 }

@@ -5,6 +5,7 @@ use Rattle.sysv_parking.specs.declared.envelope.Envelope.{Envelope}
 use Rattle.sysv_parking.specs.Agenda.{Agenda, KeepsWork}
 use Rattle.sysv_parking.specs.Changes.{Holds}
 use Rattle.sysv_parking.proofs.Announcing.{work_on}
+use Rattle.sysv_engine.specs.Contacts.{ContactEnd, GoOn}
 use Rattle.sysv_engine.proofs.rounds.Serving.wake.Goals as goal
 use Rattle.sysv_engine.proofs.rounds.Serving.wake.Goals.{then-is_none, else-is_none}
 
@@ -27,3 +28,13 @@ returns-clause-work g c =
     ] in
     work_on _ _ _ (subst (λ (a : Agenda). KeepsWork a c.settle.new.worker.agenda) same
     (moved_works c.if-is_none.worker.agenda c.settle.new.worker.agenda c.settle.ensures.rest)) c.conclude.ensures.work
+
+pub returns-clause-reached : goal.returns-clause-reached
+returns-clause-reached g c =
+    let same : c.if-is_none.worker.rest ≡ c.args.worker.now.rest =
+    elim c.if-is_none.branch [
+      | then-is_none w ↦ ap (λ x. x.rest) w.worker-is ∙ w.drain.ensures.rest ∙ c.go_on.ensures.words
+      | else-is_none w ↦ ap (λ x. x.rest) w.worker-is ∙ c.go_on.ensures.words
+    ] in
+    subst (λ (contacts : List ContactEnd). GoOn contacts c.conclude.new.worker.rest.contacts)
+    (ap (λ rest. rest.contacts) (c.settle.ensures.words ∙ same)) c.conclude.ensures.reached
