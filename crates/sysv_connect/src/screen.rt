@@ -5,11 +5,12 @@ ghost use Rattle.sysv_model.specs.Writing.{AppendsPrefix};
 
 use std::io;
 use std::io::Write;
+use sysv_clients::Durable;
 use sysv_model::Instrumented;
 
 /// A writer that remembers why it failed last.
 ///
-/// Writes and flushes pass on unchanged.
+/// Writes, flushes and syncs pass on unchanged.
 #[derive(Drop)]
 pub struct Screen<S> {
     /// What is written to.
@@ -44,6 +45,18 @@ impl<S: Write> Write for Screen<S> {
 
     fn flush(&mut self) -> io::Result<()> {
         let outcome = self.writer.flush();
+        if let Err(why) = &outcome {
+            self.failure = Some(*why);
+        }
+        outcome
+    }
+}
+
+impl<S: Durable> Durable for Screen<S> {
+    ghost synced = { λ screen. S.synced screen.writer };
+
+    fn sync(&mut self) -> io::Result<()> {
+        let outcome = self.writer.sync();
         if let Err(why) = &outcome {
             self.failure = Some(*why);
         }

@@ -1,5 +1,5 @@
 -- What the program does by its words and where it runs (this project's programs). Its input had `fed`;
--- standard output had `shown` before and has `after` now.
+-- standard output had `shown` before and has `after` now, of which `synced` is synced.
 use Rattle.std.specs.Prelude.{◌≡◌, ◌⊎◌, ℕ, Bool, List, [], ◌∷◌, ◌++◌, codes, Option, Some, IfSome, bytes_eq}
 use Rattle.std.specs.Prelude.{if◌then◌else◌}
 use Rattle.std.specs.declared.io.Error.{Error}
@@ -10,6 +10,7 @@ use Rattle.clap.specs.declared.error.kind.ErrorKind.{ErrorKind}
 use Rattle.clap.specs.declared.error.kind.ErrorKind.TheVariants.{DisplayHelp, DisplayVersion}
 use Rattle.sysv_clients.specs.declared.command.Task.{Task}
 use Rattle.sysv_clients.specs.declared.loading.Loading.{Loading as Load}
+use Rattle.sysv_clients.specs.declared.saving.Saving.{Saving as ASave}
 use Rattle.sysv_connect.specs.declared.contact.Contact.{Contact}
 use Rattle.sysv_connect.specs.declared.contact.Contact.TheVariants.{Unused}
 use Rattle.sysv_connect.specs.declared.how.How.{How}
@@ -18,7 +19,7 @@ use Rattle.sysv_connect.specs.declared.how.Telling.TheVariants.{Line, Both, Sent
 use Rattle.sysv_connect.specs.declared.link.Link.{Link}
 use Rattle.sysv_connect.specs.Clients.{IsDone, IsUnmade}
 use Rattle.sysv_connect.specs.Ends.{Fails, Succeeds}
-use Rattle.sysv_connect.specs.Files.{Loads, Saves, loading_of}
+use Rattle.sysv_connect.specs.Files.{Loads, Saves, loading_of, saving_of}
 use Rattle.sysv_connect.specs.Links.{left_by, taken_by}
 use Rattle.sysv_connect.specs.Several.{way_by}
 use Rattle.sysv_connect.specs.Stats.{HasLooked}
@@ -85,7 +86,7 @@ how_in how around = record how { telling = told_by how.telling around }
 
 module _ {P R W : Type 0} (remaining : R → Option (List ℕ)) (contents : W → Option (List ℕ))
     (incoming outgoing : P → List ℕ → Option (List ℕ)) (Refuses : P → List ℕ → Error → Type 0)
-    (around : Surroundings) (place : P) where
+    (around : Surroundings) (place : P) (synced : Option (List ℕ)) where
   -- A client ran this task with these credentials at this path, over at most one connection.
   abbrev pub RunsClient : (path : List ℕ) → Cred → Task → How → ExitCode → (fed shown after : Option (List ℕ)) →
       Contact P (Link R W) → Type 0
@@ -104,13 +105,13 @@ module _ {P R W : Type 0} (remaining : R → Option (List ℕ)) (contents : W �
       (λ link. HasLooked telling json exit (incoming place path) (left_by remaining link) (outgoing place path)
       (taken_by contents link) shown after) contact
 
-  -- All queues of the server at this path were saved, over at most one connection.
-  abbrev pub SavesQueues : (path : List ℕ) → Cred → ExitCode → (shown after : Option (List ℕ)) →
+  -- Queues of the server at this path were saved, over at most one connection.
+  abbrev pub SavesQueues : (path : List ℕ) → ASave → ExitCode → (shown after : Option (List ℕ)) →
       Contact P (Link R W) → Type 0
-  SavesQueues path cred exit shown after contact =
+  SavesQueues path saving exit shown after contact =
       Visited (Refuses place path) place (λ _. Fails exit × (after ≡ shown))
-      (λ link. Saves cred exit (incoming place path) (left_by remaining link) (outgoing place path)
-      (taken_by contents link) shown after) contact
+      (λ link. Saves saving exit (incoming place path) (left_by remaining link) (outgoing place path)
+      (taken_by contents link) shown after synced) contact
 
   -- The input was loaded into the server at this path, over at most one connection. Nothing is on the screen.
   abbrev pub LoadsQueues : (path : List ℕ) → Load → ExitCode → (fed shown after : Option (List ℕ)) →
@@ -131,7 +132,7 @@ module _ {P R W : Type 0} (remaining : R → Option (List ℕ)) (contents : W �
   Answers (Look looking) exit fed shown after contact =
       ShowsState looking.path.now (told_by looking.telling around) looking.json exit shown after contact
   Answers (Save who saving) exit fed shown after contact =
-      SavesQueues saving.path.now (stated_by who around) exit shown after contact
+      SavesQueues saving.path.now (saving_of (stated_by who around) saving) exit shown after contact
   Answers (ToLoad who loading) exit fed shown after contact =
       LoadsQueues loading.path.now (loading_of (stated_by who around) loading) exit fed shown after contact
   Answers (Client path who task how) exit fed shown after contact =
@@ -164,7 +165,7 @@ module _ {P R W : Type 0} (remaining : R → Option (List ℕ)) (contents : W �
     (incoming outgoing : P → List ℕ → Option (List ℕ)) (Refuses : P → List ℕ → Error → Type 0) where
   -- The program ran in a process, which learned its words and its surroundings from the system. `Tells` is
   -- what the system may tell it.
-  abbrev pub EndsIn : (Told → Type 0) → P → ExitCode → (fed shown after : Option (List ℕ)) → Type 0
-  EndsIn Tells place exit fed shown after =
+  abbrev pub EndsIn : (Told → Type 0) → P → ExitCode → (fed shown after synced : Option (List ℕ)) → Type 0
+  EndsIn Tells place exit fed shown after synced =
       (around : Surroundings) × AreTold Tells around × (contact : Contact P (Link R W))
-      × AnswersTold remaining contents incoming outgoing Refuses around place Tells exit fed shown after contact
+      × AnswersTold remaining contents incoming outgoing Refuses around place synced Tells exit fed shown after contact

@@ -1,6 +1,7 @@
 //! `sysvmsg`, System V message queues from the command line.
 #![tactic(auto)]
 
+mod output;
 mod process;
 mod room;
 mod running;
@@ -8,6 +9,7 @@ mod scripts;
 mod serving;
 mod socket;
 
+use output::Output;
 use process::System;
 use running::exit_of;
 use serving::OnSockets;
@@ -23,7 +25,7 @@ use sysv_system::Watched;
 /// but by the screen.
 fn main(rt: HostRuntime) -> ExitCode {
     let _stand_ins = [stand_in(&rt), stand_in(&rt), stand_in(&rt)];
-    let (mut stream, mut screen) = (None, Screen::new(io::writer(&rt)));
+    let (mut stream, mut screen) = (None, Screen::new(Output::new(&rt, io::writer(&rt))));
     let place = Socket {
         rt: &rt,
         stream: &mut stream,

@@ -19,7 +19,7 @@ use std::process::ExitCode;
 use std::rt::Files;
 use std::sync::Wait;
 use std::thread::Threads;
-use sysv_clients::Command;
+use sysv_clients::{Command, Durable};
 use sysv_connect::{
     Contact, How, Link, Looking, Place, Progress, Screen, Telling, Visit, load_at, look_at, put,
     run_as, save_at, say,
@@ -45,7 +45,7 @@ pub(crate) fn exit_of<
     I: Read + AsRawFd + Drop,
     P: Place,
     V: Files + Net + Threads + Wait + Sync + Eprint + AllocGlobal + Clone + Drop,
-    S: Write,
+    S: Durable,
 >(
     process: &Own,
     rt: &R,
@@ -56,7 +56,8 @@ pub(crate) fn exit_of<
 ) -> ExitCode
     ensures { EndsIn P.Input.remaining P.Output.contents P.incoming P.outgoing P.refuses
         (Own.tells process.now) place result (I.remaining input)
-        (S.contents screen.old.writer) (S.contents screen.new.writer) }
+        (S.contents screen.old.writer) (S.contents screen.new.writer)
+        (S.synced screen.new.writer) }
 {
     let around = surroundings(process);
     match process.words() {
@@ -92,7 +93,7 @@ fn run<
     I: Read + AsRawFd + Drop,
     P: Place,
     V: Files + Net + Threads + Wait + Sync + Eprint + AllocGlobal + Clone + Drop,
-    S: Write,
+    S: Durable,
 >(
     rt: &R,
     words: &[String],
@@ -103,7 +104,7 @@ fn run<
     screen: &mut Screen<S>,
 ) -> Visit<P, Link<P::Input, P::Output>>
     ensures { AnswersWords P.Input.remaining P.Output.contents P.incoming P.outgoing P.refuses
-        around.now place (map string_bytes words.now) result.exit (I.remaining input)
+        around.now place (S.synced screen.new.writer) (map string_bytes words.now) result.exit (I.remaining input)
         (S.contents screen.old.writer) (S.contents screen.new.writer) result.contact }
 {
     match read_words(rt.alloc(), words) {
@@ -132,7 +133,7 @@ fn answer<
     I: Read + AsRawFd + Drop,
     P: Place,
     V: Files + Net + Threads + Wait + Sync + Eprint + AllocGlobal + Clone + Drop,
-    S: Write,
+    S: Durable,
 >(
     rt: &R,
     asked: Asked<'_, Serving<'_>>,
@@ -144,7 +145,7 @@ fn answer<
 ) -> Visit<P, Link<P::Input, P::Output>>
     requires { IsWithinLimits asked }
     ensures { Answers P.Input.remaining P.Output.contents P.incoming P.outgoing P.refuses
-        around.now place asked.entry result.exit (I.remaining input)
+        around.now place (S.synced screen.new.writer) asked.entry result.exit (I.remaining input)
         (S.contents screen.old.writer) (S.contents screen.new.writer) result.contact }
 {
     match asked {

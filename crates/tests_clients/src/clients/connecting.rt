@@ -344,7 +344,11 @@ fn a_fault_is_reported(rt: HostRuntime) {
     let mut screen = Tape::new(&rt, rt.alloc());
     let exit = say(&mut screen, "sysvmsg: no server\n");
     assert_is(&rt, exit, ExitCode::from(FAULT));
-    assert_is(&rt, screen.text() == b"sysvmsg: no server\n".as_slice(), true);
+    assert_is(
+        &rt,
+        screen.text() == b"sysvmsg: no server\n".as_slice(),
+        true,
+    );
 }
 
 #[test]

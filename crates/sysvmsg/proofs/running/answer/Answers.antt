@@ -5,7 +5,7 @@ use Rattle.std.specs.declared.process.ExitCode.{ExitCode}
 use Rattle.sysv_connect.specs.Clients.{IsDone, IsUnmade}
 use Rattle.sysv_connect.specs.declared.how.Telling.{Telling}
 use Rattle.sysv_connect.specs.Ends.{Fails}
-use Rattle.sysv_connect.specs.Files.{Loads, Saves, loading_of}
+use Rattle.sysv_connect.specs.Files.{Loads, Saves, loading_of, saving_of}
 use Rattle.sysv_connect.specs.Links.{left_by, taken_by}
 use Rattle.sysv_connect.specs.Several.{way_by}
 use Rattle.sysv_connect.specs.Stats.{HasLooked}
@@ -98,8 +98,9 @@ returns-in-Save g c =
     (subst (λ (cred : Cred).
     Visited (g.P.Place.refuses c.args.place path) c.args.place (λ _. Fails exit × (after ≡ shown))
     (λ link.
-    Saves cred exit (g.P.Place.incoming c.args.place path) (left_by g.P.Input.Read.remaining link)
-    (g.P.Place.outgoing c.args.place path) (taken_by g.P.Output.Write.contents link) shown after)
+    Saves (saving_of cred c.in-Save.saving) exit (g.P.Place.incoming c.args.place path)
+    (left_by g.P.Input.Read.remaining link) (g.P.Place.outgoing c.args.place path)
+    (taken_by g.P.Output.Write.contents link) shown after (g.S.Durable.synced c.save_at.new.screen.writer))
     c.save_at.result.contact)
     c.credentials.ensures c.save_at.ensures)
 
