@@ -1,7 +1,7 @@
 -- A save writes a file of the queues that it was given.
-use Rattle.std.proofs.Common.{◌≡◌, ◌≢◌, ◌≤◌, ◌+◌, ◌∙◌, ℕ, zero, suc, ℤ, pos, List, [], ◌∷◌, ◌++◌, flat_map, Option}
+use Rattle.std.proofs.Common.{◌≡◌, ◌≢◌, ◌≤◌, ◌∙◌, ℕ, zero, suc, ℤ, List, [], ◌∷◌, ◌++◌, flat_map, Option}
 use Rattle.std.proofs.Common.{None, Some, Result, Ok, Err, min, inl, inr, refl, sym, ap, subst, append_assoc, fold}
-use Rattle.std.proofs.Common.{true}
+use Rattle.std.proofs.Common.{false, true}
 use Rattle.std.proofs.lemmas.Bool.{cases_lt}
 use Rattle.std.proofs.lemmas.List.Sums.{fold-append}
 use Rattle.std.specs.Prelude.{⊤, slice_get}

@@ -23,8 +23,9 @@ use Rattle.sysv_clients.specs.Saved.{format_line}
 use Rattle.sysv_clients.specs.Clearing.{id_of_row}
 use Rattle.sysv_clients.specs.Dialogue.{ExchangesIn, reply_in}
 use Rattle.sysv_clients.specs.Saving.{EndsSave, IsOfQueue, IsTried, ReportsAll, SavesAll, Tries, after_hold, after_row}
-use Rattle.sysv_clients.specs.Saving.{after_stat, begun, moved, refusal_of, reported_by, reports_of, saved_by}
-use Rattle.sysv_clients.specs.Saving.{SyncsText, saved_text, saving_ask, saving_plan, text_of_call}
+use Rattle.sysv_clients.specs.Saving.{SyncsAll, SyncsText, after_find, after_stat, ask_next, begun, move, moved}
+use Rattle.sysv_clients.specs.Saving.{refusal_of, reported_by, reports_of, saved_by, saved_text, saving_ask}
+use Rattle.sysv_clients.specs.Saving.{saving_plan, text_of_call}
 use Rattle.sysv_clients.proofs.CallLemmas.{call_of, none_made_in, one_more_in}
 use Rattle.sysv_clients.proofs.ClearLemmas.{no_refusal}
 use Rattle.sysv_clients.proofs.HoldLemmas.{frame, unanswered}
@@ -35,7 +36,7 @@ use Rattle.sysv_wire.specs.declared.frame.Version.TheVariants.{Three}
 use Rattle.sysv_wire.specs.declared.reply.ReplyContent.{ReplyContent}
 use Rattle.sysv_wire.specs.declared.reply.ReplyContent.TheVariants as content
 use Rattle.sysv_wire.specs.declared.request.Ask.{Ask}
-use Rattle.sysv_wire.specs.declared.request.Ask.TheVariants.{Hello, Stat, Hold, Done}
+use Rattle.sysv_wire.specs.declared.request.Ask.TheVariants.{Hello}
 use Rattle.sysv_wire.specs.Replies.{error_number, reply_encoding}
 
 -- The hello was done, and these calls followed it.
@@ -472,6 +473,46 @@ weight (step.Stat id) = 1
 weight (step.Hold id) = 0
 weight (step.Done id) = 1
 
+find_weight : (answer : ReplyContent) → weight (after_find answer) < 2
+find_weight (content.Get id) = omega arith
+find_weight answer = omega arith
+
+row_weight : (found : Option ℤ) → weight (after_row found) < 2
+row_weight (Some id) = omega arith
+row_weight None = omega arith
+
+stat_weight : (id : ℤ) (answer : ReplyContent) → weight (after_stat id answer) < 1
+stat_weight id (content.Stat stat) = omega arith
+stat_weight id answer = omega arith
+
+hold_weight : (id : ℤ) (answer : ReplyContent) → weight (after_hold id answer) < 2
+hold_weight id (content.Hold mtype) = omega arith
+hold_weight id answer = omega arith
+
+-- How much is left to do at a stage: a stat may follow a row, and a done a hold.
+abbrev pub to_do : Stage → ℕ
+to_do stage = 2 * (MAX_ROWS - stage.slot) + (2 * stage.owed + weight stage.step)
+
+less_at : (saving : Saving) (slots slot owed : ℕ) (s : Step) (ask : Ask) (answer : ReplyContent)
+    → Some ask ≡ ask_next saving slots slot owed s → (s ≡ step.Row → slot < MAX_ROWS)
+    → to_do (move slots slot owed s answer)
+    < to_do (record { slots = slots; slot = slot; step = s; owed = owed })
+less_at saving slots slot owed (step.Find key) ask answer asked few = omega (arith, find_weight answer)
+less_at saving slots slot owed step.Row ask answer asked few =
+    omega (arith, few refl, row_weight (id_of_row answer))
+less_at saving slots slot owed (step.Stat id) ask answer asked few = omega (arith, stat_weight id answer)
+less_at saving slots slot zero (step.Hold id) ask answer asked few = absurd (cc asked)
+less_at saving slots slot (suc owed) (step.Hold id) ask answer asked few = omega (arith, hold_weight id answer)
+less_at saving slots slot owed (step.Done id) ask answer asked few = omega arith
+
+-- After a reply there is less to do.
+pub less_to_do : (saving : Saving) (stage after : Stage) (ask : Ask) (answer : ReplyContent)
+    → Some ask ≡ saving_ask saving stage → (stage.step ≡ step.Row → stage.slot < MAX_ROWS)
+    → after ≡ moved stage answer → to_do after < to_do stage
+less_to_do saving stage after ask answer asked few is =
+    subst (λ (s : Stage). to_do s < to_do stage) (sym is)
+    (less_at saving stage.slots stage.slot stage.owed stage.step ask answer asked few)
+
 -- ---- what is synced
 
 off : {P : Type 0} → false ≡ true → P
@@ -521,5 +562,6 @@ failed_at_text (Err unshown) [] text same some = absurd (omega (arith, some))
 failed_at_text (Err unshown) (byte ∷ more) text same some = λ none. absurd (cc (same ∙ none))
 
 -- The screen failed, and a save that ends by that says nothing of what is synced.
-pub no_output : {P : Type 0} → true ≡ false → P
-no_output is = absurd (cc is)
+pub no_output : (saving : Saving) (unshown : Unshown) (shown after synced : Option (List ℕ))
+    → SyncsAll saving (Err (Screen unshown)) shown after synced
+no_output saving unshown shown after synced on fine = absurd (cc fine)

@@ -1,7 +1,7 @@
 use Rattle.std.proofs.Common.{inl, inr, refl, ◌∙◌}
 use Rattle.std.proofs.lemmas.Result.{err_from_is_err_and}
 use Rattle.sysv_clients.proofs.SaveLemmas.{breaks_off, fails_at, fails_first, finishes, goes_on, no_hello, opens}
-use Rattle.sysv_clients.proofs.SaveLemmas.{first_synced, no_output, short, still_synced}
+use Rattle.sysv_clients.proofs.SaveLemmas.{first_synced, less_to_do, no_output, short, still_synced}
 use Rattle.sysv_clients.proofs.saving.Saver.save_each.Goals as goal
 
 pub returns-in_err-welcome-clause-saves : goal.returns-in_err-welcome-clause-saves
@@ -17,7 +17,7 @@ returns-in_err-welcome-clause-synced g c = λ on fine. inl refl
 pub returns-in_err-show-clause-synced : goal.returns-in_err-show-clause-synced
 returns-in_err-show-clause-synced g c =
     let p = err_from_is_err_and c.from_residual-in_err-show.result c.from_residual-in_err-show.ensures.1 in
-    rw (p.1, p.2) (λ on fine. no_output fine)
+    rw (p.1, p.2) (no_output c.args.saving.now c.in_err-show.field-0.0 _ _ _)
 
 pub returns-in_err-show-clause-saves : goal.returns-in_err-show-clause-saves
 returns-in_err-show-clause-saves g c =
@@ -55,7 +55,7 @@ returns-in_err-answer-clause-synced g c = λ on fine. inr (c.loop-ask.invariant.
 pub returns-in_err-show-2-clause-synced : goal.returns-in_err-show-2-clause-synced
 returns-in_err-show-2-clause-synced g c =
     let p = err_from_is_err_and c.from_residual-in_err-show-2.result c.from_residual-in_err-show-2.ensures.1 in
-    rw (p.1, p.2) (λ on fine. no_output fine)
+    rw (p.1, p.2) (no_output c.args.saving.now c.in_err-show-2.field-0.0 _ _ _)
 
 pub returns-in_err-show-2-clause-saves : goal.returns-in_err-show-2-clause-saves
 returns-in_err-show-2-clause-saves g c =
@@ -86,6 +86,11 @@ loop-ask-preserved g c = record {
   };
   same_writer = c.exchange_in-outcome.ensures.same_writer ∙ c.loop-ask.invariant.same_writer;
 }
+
+pub loop-ask-smaller : goal.loop-ask-smaller
+loop-ask-smaller g c =
+    less_to_do c.args.saving.now c.loop-ask.stage c.moved-stage.result c.in-Some.ask c.in_ok-answer.answer
+    c.in-Some.ensures.ask c.in-Some.ensures.few c.moved-stage.ensures
 
 pub returns-clause-saves : goal.returns-clause-saves
 returns-clause-saves g c =
