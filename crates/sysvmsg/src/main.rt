@@ -21,8 +21,8 @@ use std::rt::Files;
 use sysv_connect::{Screen, Socket};
 use sysv_system::Watched;
 
-/// Runs the program. Only this function has the whole runtime: no other can print on standard output
-/// but by the screen.
+/// Runs the program. Only this function has the whole runtime: no other can print on standard
+/// output but by the screen.
 fn main(rt: HostRuntime) -> ExitCode {
     let _stand_ins = [stand_in(&rt), stand_in(&rt), stand_in(&rt)];
     let (mut stream, mut screen) = (None, Screen::new(Output::new(&rt, io::writer(&rt))));

@@ -10,8 +10,8 @@ use sysv_system::sync_output;
 /// The name of the file on standard output.
 const OWN_OUTPUT: &str = "/proc/self/fd/1";
 
-/// A writer to standard output, which is synced if it is a regular file. A pipe or a terminal cannot
-/// be synced.
+/// A writer to standard output, which is synced if it is a regular file. A pipe or a terminal
+/// cannot be synced.
 #[derive(Drop)]
 pub(crate) struct Output<W> {
     writer: W,

@@ -3,8 +3,8 @@ ghost use Rattle.std.specs.Prelude.{◌≡◌, ◌⊎◌, map, string_bytes};
 ghost use Rattle.clap.specs.Values.{kind_of};
 ghost use Rattle.sysv_connect.specs.Ends.{Fails, Succeeds};
 ghost use Rattle.sysv_options.specs.Asked.{IsWithinLimits};
-ghost use Rattle.sysvmsg.specs.Running.{Answers, AnswersWords, EndsIn, IsHelp, ShowsText, TellsNoWords, TellsRefused};
-ghost use Rattle.sysvmsg.specs.Running.{TellsError, asked_by};
+ghost use Rattle.sysvmsg.specs.Running.{Answers, AnswersWords, EndsIn, IsHelp, asked_by};
+ghost use Rattle.sysvmsg.specs.Running.{ShowsText, TellsError, TellsNoWords, TellsRefused};
 
 use crate::scripts::answer_script;
 use crate::serving::{OnSockets, serve_on_sockets};
@@ -104,8 +104,9 @@ fn run<
     screen: &mut Screen<S>,
 ) -> Visit<P, Link<P::Input, P::Output>>
     ensures { AnswersWords P.Input.remaining P.Output.contents P.incoming P.outgoing P.refuses
-        around.now place (S.synced screen.new.writer) (map string_bytes words.now) result.exit (I.remaining input)
-        (S.contents screen.old.writer) (S.contents screen.new.writer) result.contact }
+        around.now place (S.synced screen.new.writer) (map string_bytes words.now) result.exit
+        (I.remaining input) (S.contents screen.old.writer) (S.contents screen.new.writer)
+        result.contact }
 {
     match read_words(rt.alloc(), words) {
         Ok(asked) => answer(rt, asked, around, input, place, server, screen),
