@@ -519,7 +519,7 @@ static void report_loss(struct state *state)
     size_t count = count_saved(state);
     state->has_failed = true;
     if (state->saving >= 0)
-        say("the queues were not saved whole: %s has %zu message%s, and the others are lost",
+        say("the queues were not saved whole: %s has %zu message%s, and any others are lost",
             state->next, count, plural(count));
     else
         say("the queues were not saved, and are lost");
