@@ -55,8 +55,9 @@ impl Saving<'_> {
 }
 
 /// Writes queues of the server at the path of the options to the screen, and takes their messages,
-/// each once its line is synced, unless `nosync`. Each queue that is refused is named on standard error, and the status is that of a
-/// fault then. Faults are reported there too. It makes at most one connection, and returns it.
+/// each once its line is synced, unless `nosync`. Each queue that is refused is named on standard
+/// error, and the status is that of a fault then. Faults are reported there too. It makes at most
+/// one connection, and returns it.
 pub fn save_at<P: Place, S: Durable>(
     rt: &(impl Eprint + AllocGlobal),
     place: P,
