@@ -632,7 +632,7 @@ impl<'a, R: Wait, T: NonBlocking> Place<'a, R, T> {
         ensures keeps { KeepsPlace T.incoming T.outgoing T.closes self.old self.new }
         ensures refused { result ≡ false → IsCutOff self.new.client }
     {
-        let awaits = self.has_unsent() && !self.has_more();
+        let awaits = self.needs_room();
         if awaits == self.awaits_room {
             return true;
         }
@@ -654,6 +654,11 @@ impl<'a, R: Wait, T: NonBlocking> Place<'a, R, T> {
         }
         client.cut_off();
         false
+    }
+
+    /// Returns whether replies wait for the connection, and no turn of the client comes before.
+    fn needs_room(&self) -> bool {
+        self.has_unsent() && !self.has_more()
     }
 
     /// Returns whether replies wait for the connection.
