@@ -437,7 +437,9 @@ static bool open_next(struct state *state)
 
 static void start_save(struct state *state, const struct signals *before)
 {
-    char *words[] = {"sysvmsg", "save", state->socket, "--uid", "0", "--gid", "0", NULL};
+    /* (the whole file is synced at the end) */
+    char *words[] = {"sysvmsg", "save",  state->socket, "--nosync", "--uid",
+                     "0",       "--gid", "0",           NULL};
     if (state->saves >= MOST_SAVES || !open_next(state))
         return;
     const struct tool tool = {-1, state->saving, -1};
@@ -517,7 +519,7 @@ static void report_loss(struct state *state)
     size_t count = count_saved(state);
     state->has_failed = true;
     if (state->saving >= 0)
-        say("the queues were not saved whole: %s has %zu message%s, and the others are lost",
+        say("the queues were not saved whole: %s has %zu message%s, and any others are lost",
             state->next, count, plural(count));
     else
         say("the queues were not saved, and are lost");

@@ -1,6 +1,6 @@
 /* Takes messages from a queue of a server and drops them: a consumer that is no part of sysvmsg.
  *   lines_client PATH KEY COUNT
- * It keeps up to 64 receives on their way, never more than messages are left to take, and creates the queue if there is
+ * It keeps up to 256 receives on their way, never more than messages are left to take, and creates the queue if there is
  * none. It ends once it has taken COUNT messages. The status is 1 if that failed.
  */
 #include <stdint.h>
@@ -11,7 +11,7 @@
 #include <sys/un.h>
 #include <unistd.h>
 
-#define AHEAD 64
+#define AHEAD 256
 
 static int fd;
 static char replies[65536];

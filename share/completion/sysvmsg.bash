@@ -10,7 +10,7 @@ _sysvmsg_commands="serve snd rcv ipcs ipcrm ipcmk save load stats script"
 _sysvmsg_words() {
     local credentials="--stderr --me --uid --gid --pid"
     case $1 in
-    save) echo "--wait --me --uid --gid --pid --help --version" ;;
+    save) echo "--key --type --upto --except --nosync --wait --me --uid --gid --pid --help --version" ;;
     load) echo "--from --into --adopt --nowait --wait --me --uid --gid --pid --help --version" ;;
     stats) echo "--json --wait --stderr --help --version" ;;
     script) echo "--help --version" ;;

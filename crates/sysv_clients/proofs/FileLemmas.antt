@@ -1,7 +1,7 @@
 -- A save writes a file of the queues that it was given.
-use Rattle.std.proofs.Common.{◌≡◌, ◌≢◌, ◌≤◌, ◌+◌, ◌∙◌, ℕ, zero, suc, ℤ, pos, List, [], ◌∷◌, ◌++◌, flat_map, Option}
+use Rattle.std.proofs.Common.{◌≡◌, ◌≢◌, ◌≤◌, ◌∙◌, ℕ, zero, suc, ℤ, List, [], ◌∷◌, ◌++◌, flat_map, Option}
 use Rattle.std.proofs.Common.{None, Some, Result, Ok, Err, min, inl, inr, refl, sym, ap, subst, append_assoc, fold}
-use Rattle.std.proofs.Common.{true}
+use Rattle.std.proofs.Common.{false, true}
 use Rattle.std.proofs.lemmas.Bool.{cases_lt}
 use Rattle.std.proofs.lemmas.List.Sums.{fold-append}
 use Rattle.std.specs.Prelude.{⊤, slice_get}
@@ -13,23 +13,24 @@ use Rattle.sysv_clients.specs.declared.fault.ClientFault.TheVariants as fault
 use Rattle.sysv_clients.specs.declared.holding.Unheld.{Unheld}
 use Rattle.sysv_clients.specs.declared.holding.Unheld.TheVariants.{Fault, Screen, Undone}
 use Rattle.sysv_clients.specs.declared.saving.Saving.{Saving}
+use Rattle.sysv_clients.specs.declared.saving.Stage.{Stage}
 use Rattle.sysv_clients.specs.declared.saving.Step.{Step}
 use Rattle.sysv_clients.specs.declared.saving.Step.TheVariants as step
-use Rattle.sysv_clients.specs.Asks.{flags_to_wait, row_asks}
+use Rattle.sysv_clients.specs.Asks.{flags_to_receive, row_asks}
 use Rattle.sysv_clients.specs.Calls.{Call, FollowsPlan}
 use Rattle.sysv_clients.specs.Clearing.{id_of_row}
 use Rattle.sysv_clients.specs.Copies.{Message, objects_of}
+use Rattle.sysv_clients.specs.Dialogue.{slots_after}
 use Rattle.sysv_clients.specs.Object.{object_line}
 use Rattle.sysv_clients.specs.Restored.{AreKept, AreOfServer, HasMessage, HasNothing, HasQueue, HasScreen, Opens, Part}
 use Rattle.sysv_clients.specs.Restored.{RestoresSaved, SavesFile, file_of, first_messages, kept_text, part_of, parts_of}
 use Rattle.sysv_clients.specs.Restored.{queues_in, queues_of}
 use Rattle.sysv_clients.specs.Saved.{format_line, queue_text}
-use Rattle.sysv_clients.specs.Saving.{EndsSave, IsTried, after_hold, after_row, after_stat, ask_next, begun, first_ask}
-use Rattle.sysv_clients.specs.Saving.{move, moved, saved_text, saving_plan, text_of_call}
+use Rattle.sysv_clients.specs.Saving.{EndsSave, IsTried, after_find, after_hold, after_row, after_stat, ask_next, begin}
+use Rattle.sysv_clients.specs.Saving.{begun, first_ask, key_ask, move, moved, saved_text, saving_plan, text_of_call}
 use Rattle.sysv_clients.proofs.RestoreLemmas.{restores_text}
 use Rattle.sysv_clients.proofs.RowLemmas.{row_at, row_past}
 use Rattle.sysv_model.specs.declared.attributes.Stat.{Stat as Attributes}
-use Rattle.sysv_model.specs.declared.cred.Cred.{Cred}
 use Rattle.sysv_model.specs.declared.errno.Errno.{Errno}
 use Rattle.sysv_model.specs.declared.flags.Flags.{Flags}
 use Rattle.sysv_model.specs.declared.limits.TheConstants.{MESSAGE_BYTES}
@@ -114,6 +115,7 @@ HasFit (HasMessage message) = ⊤
 
 -- The identifier of the step has 32 bits, if its attributes are next.
 abbrev IsStepFit : Step → Type 0
+IsStepFit (step.Find key) = ⊤
 IsStepFit step.Row = ⊤
 IsStepFit (step.Stat id) = FitsSigned w32 id
 IsStepFit (step.Hold id) = ⊤
@@ -121,6 +123,7 @@ IsStepFit (step.Done id) = ⊤
 
 -- No message comes before a queue, unless one is held.
 abbrev BeginsWell : Step → List Part → Type 0
+BeginsWell (step.Find key) parts = first_messages parts ≡ []
 BeginsWell step.Row parts = first_messages parts ≡ []
 BeginsWell (step.Stat id) parts = first_messages parts ≡ []
 BeginsWell (step.Hold id) parts = ⊤
@@ -133,6 +136,7 @@ record Follows (s : Step) (parts : List Part) : Type 0 where
   fits : AllByRecursion HasFit parts
 
 nothing_follows : (s : Step) → Follows s []
+nothing_follows (step.Find key) = record { later = tt; begins = refl; fits = tt }
 nothing_follows step.Row = record { later = tt; begins = refl; fits = tt }
 nothing_follows (step.Stat id) = record { later = tt; begins = refl; fits = tt }
 nothing_follows (step.Hold id) = record { later = tt; begins = tt; fits = tt }
@@ -239,95 +243,154 @@ hold_fit : (id : ℤ) (answer : ReplyContent) → IsStepFit (after_hold id answe
 hold_fit id (content.Hold held) = tt
 hold_fit id answer = tt
 
+-- After the search for a queue.
+find_begins : (answer : ReplyContent) (parts : List Part) → BeginsWell (after_find answer) parts
+    → first_messages parts ≡ []
+find_begins (content.Get id) parts begins = begins
+find_begins (content.Row row) parts begins = begins
+find_begins (content.Refused why) parts begins = begins
+find_begins content.Hello parts begins = begins
+find_begins (content.HelloSlots slots) parts begins = begins
+find_begins content.Snd parts begins = begins
+find_begins (content.Rcv mtype) parts begins = begins
+find_begins (content.Stat stat) parts begins = begins
+find_begins content.Set parts begins = begins
+find_begins content.Rm parts begins = begins
+find_begins content.Done parts begins = begins
+find_begins content.Back parts begins = begins
+find_begins (content.Hold mtype) parts begins = begins
+
+find_fits : (answer : ReplyContent) → FitsContent answer → IsStepFit (after_find answer)
+find_fits (content.Get id) fits = fits
+find_fits (content.Row row) fits = tt
+find_fits (content.Refused why) fits = tt
+find_fits content.Hello fits = tt
+find_fits (content.HelloSlots slots) fits = tt
+find_fits content.Snd fits = tt
+find_fits (content.Rcv mtype) fits = tt
+find_fits (content.Stat stat) fits = tt
+find_fits content.Set fits = tt
+find_fits content.Rm fits = tt
+find_fits content.Done fits = tt
+find_fits content.Back fits = tt
+find_fits (content.Hold mtype) fits = tt
+
 -- One more call.
-one_more : (slots slot owed : ℕ) (s : Step) (call : Call) (parts : List Part) → IsStepFit s
-    → ask_next slots slot owed s ≡ Some call.ask → IsTried call
+one_more : (saving : Saving) (slots slot owed : ℕ) (s : Step) (call : Call) (parts : List Part) → IsStepFit s
+    → ask_next saving slots slot owed s ≡ Some call.ask → IsTried call
     → Follows (move slots slot owed s call.answer).step parts
     → Follows s (part_of call.ask call.answer call.given ∷ parts)
-one_more slots slot owed step.Row call parts fit asked tried rest =
+one_more saving slots slot owed (step.Find key) call parts fit asked tried rest =
+    part_at (step.Find key) call.ask (key_ask key) call.answer call.given parts
+    (same_ask (key_ask key) call.ask asked)
+    (passes (step.Find key) (after_find call.answer) parts (find_begins call.answer parts) rest)
+one_more saving slots slot owed step.Row call parts fit asked tried rest =
     part_at step.Row call.ask (Row slot) call.answer call.given parts (row_ask slots slot call.ask asked)
     (passes step.Row (after_row (id_of_row call.answer)) parts (row_begins (id_of_row call.answer) parts) rest)
-one_more slots slot owed (step.Stat id) call parts fit asked tried rest =
+one_more saving slots slot owed (step.Stat id) call parts fit asked tried rest =
     part_at (step.Stat id) call.ask (Stat id) call.answer call.given parts (same_ask (Stat id) call.ask asked)
     (stat_follows id call.answer call.given parts fit (tried_stat call tried) rest)
-one_more slots slot zero (step.Hold id) call parts fit asked tried rest = no_ask _ call.ask asked
-one_more slots slot (suc owed) (step.Hold id) call parts fit asked tried rest =
-    part_at (step.Hold id) call.ask (first_ask id) call.answer call.given parts
-    (same_ask (first_ask id) call.ask asked)
-    (hold_follows id MESSAGE_BYTES (pos 0) (flags_to_wait true) 0 call.answer call.given parts rest)
-one_more slots slot owed (step.Done id) call parts fit asked tried rest =
+one_more saving slots slot zero (step.Hold id) call parts fit asked tried rest = no_ask _ call.ask asked
+one_more saving slots slot (suc owed) (step.Hold id) call parts fit asked tried rest =
+    part_at (step.Hold id) call.ask (first_ask saving id) call.answer call.given parts
+    (same_ask (first_ask saving id) call.ask asked)
+    (hold_follows id MESSAGE_BYTES saving.mtype (flags_to_receive true false saving.except) 0 call.answer call.given
+    parts rest)
+one_more saving slots slot owed (step.Done id) call parts fit asked tried rest =
     part_at (step.Done id) call.ask Done call.answer call.given parts (same_ask Done call.ask asked)
     (passes (step.Done id) (step.Hold id) parts (λ b. tt) rest)
 
 fit_next : (slots slot owed : ℕ) (s : Step) (call : Call) → IsTried call
     → IsStepFit (move slots slot owed s call.answer).step
+fit_next slots slot owed (step.Find key) call tried = find_fits call.answer (tried_fits call tried)
 fit_next slots slot owed step.Row call tried = row_fits call.answer (tried_fits call tried)
 fit_next slots slot owed (step.Stat id) call tried = stat_fit id call.answer
 fit_next slots slot owed (step.Hold id) call tried = hold_fit id call.answer
 fit_next slots slot owed (step.Done id) call tried = tt
 
 -- Where a save is after these calls.
-abbrev state : Call → List Call → Saving
-state first before = fold (λ (saving : Saving) (call : Call). moved saving call.answer) (begun first.answer) before
+abbrev state : Saving → Call → List Call → Stage
+state saving first before =
+    fold (λ (stage : Stage) (call : Call). moved stage call.answer) (begun saving first.answer) before
 
-follows_plan : (cred : Cred) (first : Call) (before calls : List Call) → IsStepFit (state first before).step
-    → FollowsPlan IsTried (saving_plan cred) (first ∷ before) calls
-    → Follows (state first before).step (parts_of calls)
-follows_plan cred first before [] fit plan = nothing_follows (state first before).step
-follows_plan cred first before (call ∷ more) fit (asked, tried, rest) =
-    let s = state first before in
-    let next : state first (before ++ call ∷ []) ≡ moved s call.answer =
-    fold-append (λ (saving : Saving) (one : Call). moved saving one.answer) (begun first.answer) before (call ∷ []) in
-    let later = follows_plan cred first (before ++ call ∷ []) more
-    (subst (λ (x : Saving). IsStepFit x.step) (sym next) (fit_next s.slots s.slot s.owed s.step call tried)) rest in
-    one_more s.slots s.slot s.owed s.step call (parts_of more) fit asked tried
-    (subst (λ (x : Saving). Follows x.step (parts_of more)) next later)
+follows_plan : (saving : Saving) (first : Call) (before calls : List Call) → IsStepFit (state saving first before).step
+    → FollowsPlan IsTried (saving_plan saving) (first ∷ before) calls
+    → Follows (state saving first before).step (parts_of calls)
+follows_plan saving first before [] fit plan = nothing_follows (state saving first before).step
+follows_plan saving first before (call ∷ more) fit (asked, tried, rest) =
+    let s = state saving first before in
+    let next : state saving first (before ++ call ∷ []) ≡ moved s call.answer =
+    fold-append (λ (stage : Stage) (one : Call). moved stage one.answer) (begun saving first.answer) before
+    (call ∷ []) in
+    let later = follows_plan saving first (before ++ call ∷ []) more
+    (subst (λ (x : Stage). IsStepFit x.step) (sym next) (fit_next s.slots s.slot s.owed s.step call tried)) rest in
+    one_more saving s.slots s.slot s.owed s.step call (parts_of more) fit asked tried
+    (subst (λ (x : Stage). Follows x.step (parts_of more)) next later)
 
 -- ---- the file
 
 -- What follows the hello.
-after_hello : (cred : Cred) (first : Call) (more : List Call)
-    → FollowsPlan IsTried (saving_plan cred) [] (first ∷ more) → Follows step.Row (parts_of more)
-after_hello cred first more (asked, tried, rest) = follows_plan cred first [] more tt rest
+fit_at : (key : Option ℤ) (slots : ℕ) → IsStepFit (begin key slots).step
+fit_at (Some key) slots = tt
+fit_at None slots = tt
 
-queues_after : (cred : Cred) (first : Call) (more : List Call)
-    → FollowsPlan IsTried (saving_plan cred) [] (first ∷ more)
+fit_first : (saving : Saving) (first : Call) → IsStepFit (state saving first []).step
+fit_first saving first = fit_at saving.key (slots_after 0 first.answer)
+
+begins_at : (key : Option ℤ) (slots : ℕ) (parts : List Part) → Follows (begin key slots).step parts
+    → Follows step.Row parts
+begins_at (Some key) slots parts follows =
+    record { later = follows.later; begins = follows.begins; fits = follows.fits }
+begins_at None slots parts follows = follows
+
+begins_with : (saving : Saving) (first : Call) (more : List Call)
+    → Follows (state saving first []).step (parts_of more) → Follows step.Row (parts_of more)
+begins_with saving first more follows = begins_at saving.key (slots_after 0 first.answer) (parts_of more) follows
+
+after_hello : (saving : Saving) (first : Call) (more : List Call)
+    → FollowsPlan IsTried (saving_plan saving) [] (first ∷ more) → Follows step.Row (parts_of more)
+after_hello saving first more (asked, tried, rest) =
+    begins_with saving first more (follows_plan saving first [] more (fit_first saving first) rest)
+
+queues_after : (saving : Saving) (first : Call) (more : List Call)
+    → FollowsPlan IsTried (saving_plan saving) [] (first ∷ more)
     → queues_of (first ∷ more) ≡ queues_in (parts_of more)
-queues_after cred first more (asked, tried, rest) =
+queues_after saving first more (asked, tried, rest) =
     ap (λ (a : Ask). queues_in (part_of a first.answer first.given ∷ parts_of more))
-    (sym (same_ask (Hello cred) first.ask asked))
+    (sym (same_ask (Hello saving.cred) first.ask asked))
 
-file_is : (cred : Cred) (first : Call) (more : List Call) → FollowsPlan IsTried (saving_plan cred) [] (first ∷ more)
+file_is : (saving : Saving) (first : Call) (more : List Call)
+    → FollowsPlan IsTried (saving_plan saving) [] (first ∷ more)
     → saved_text (first ∷ more) ≡ file_of (queues_of (first ∷ more))
-file_is cred first more plan =
-    let follows = after_hello cred first more plan in
+file_is saving first more plan =
+    let follows = after_hello saving first more plan in
     let queues = queues_in (parts_of more) in
     ap (λ (a : Ask). text_of_call a first.answer first.given ++ saved_text more)
-    (sym (same_ask (Hello cred) first.ask plan.0))
+    (sym (same_ask (Hello saving.cred) first.ask plan.0))
     ∙ ap (λ (l : List ℕ). format_line ++ l) (text_is more ∙ grouped (parts_of more) follows.later
     ∙ ap (λ (m : List Message). objects_of m ++ flat_map kept_text queues) follows.begins)
-    ∙ ap file_of (sym (queues_after cred first more plan))
+    ∙ ap file_of (sym (queues_after saving first more plan))
 
 -- The screen has all text.
-has_text : (cred : Cred) (ended : Result ⊤ Unheld) (calls : List Call)
+has_text : (saving : Saving) (ended : Result ⊤ Unheld) (calls : List Call)
     (left rest taken more shown after : Option (List ℕ)) → HasScreen ended
-    → EndsSave cred ended calls left rest taken more shown after → Appends shown after (saved_text calls)
-has_text cred (Ok done) calls left rest taken more shown after screen ends = ends.3
-has_text cred (Err (Screen unshown)) calls left rest taken more shown after screen ends = absurd screen
-has_text cred (Err (Undone why)) calls left rest taken more shown after screen ends = ends.1.1
-has_text cred (Err (Fault (fault.Refused error))) calls left rest taken more shown after screen ends = ends.1
-has_text cred (Err (Fault fault.NoReply)) calls left rest taken more shown after screen ends = ends.1
-has_text cred (Err (Fault fault.NoMemory)) calls left rest taken more shown after screen ends = ends.2
+    → EndsSave saving ended calls left rest taken more shown after → Appends shown after (saved_text calls)
+has_text saving (Ok done) calls left rest taken more shown after screen ends = ends.3
+has_text saving (Err (Screen unshown)) calls left rest taken more shown after screen ends = absurd screen
+has_text saving (Err (Undone why)) calls left rest taken more shown after screen ends = ends.1.1
+has_text saving (Err (Fault (fault.Refused error))) calls left rest taken more shown after screen ends = ends.1
+has_text saving (Err (Fault fault.NoReply)) calls left rest taken more shown after screen ends = ends.1
+has_text saving (Err (Fault fault.NoMemory)) calls left rest taken more shown after screen ends = ends.2
 
-file_of_calls : (cred : Cred) (calls : List Call) → calls ≢ []
-    → FollowsPlan IsTried (saving_plan cred) [] calls → saved_text calls ≡ file_of (queues_of calls)
-file_of_calls cred [] some plan = absurd (some refl)
-file_of_calls cred (first ∷ more) some plan = file_is cred first more plan
+file_of_calls : (saving : Saving) (calls : List Call) → calls ≢ []
+    → FollowsPlan IsTried (saving_plan saving) [] calls → saved_text calls ≡ file_of (queues_of calls)
+file_of_calls saving [] some plan = absurd (some refl)
+file_of_calls saving (first ∷ more) some plan = file_is saving first more plan
 
 pub saves_file : SavesFile
-saves_file cred ended left rest taken more bytes before reported save screen some =
-    has_text cred ended save.calls save.unread rest save.written more (Some []) (Some bytes) screen save.ends
-    ∙ file_of_calls cred save.calls some save.made.follows
+saves_file saving ended left rest taken more bytes before reported save screen some =
+    has_text saving ended save.calls save.unread rest save.written more (Some []) (Some bytes) screen save.ends
+    ∙ file_of_calls saving save.calls some save.made.follows
 
 -- ---- the queues
 
@@ -341,17 +404,19 @@ served (HasQueue id stat ∷ more) fits given = (
   served more fits.1 given.1,
 )
 
-are_kept : (cred : Cred) (calls : List Call) → calls ≢ [] → FollowsPlan IsTried (saving_plan cred) [] calls
+are_kept : (saving : Saving) (calls : List Call) → calls ≢ [] → FollowsPlan IsTried (saving_plan saving) [] calls
     → AreOfServer (queues_of calls) → AreKept (queues_of calls)
-are_kept cred [] some plan given = absurd (some refl)
-are_kept cred (first ∷ more) some plan given =
-    let same = queues_after cred first more plan in
+are_kept saving [] some plan given = absurd (some refl)
+are_kept saving (first ∷ more) some plan given =
+    let same = queues_after saving first more plan in
     subst AreKept (sym same)
-    (served (parts_of more) (after_hello cred first more plan).fits (subst AreOfServer same given))
+    (served (parts_of more) (after_hello saving first more plan).fits (subst AreOfServer same given))
 
 pub restores_saved : RestoresSaved
-restores_saved cred saved left rest taken more bytes before reported save screen some given loading ended unheard unread
+restores_saved saving saved left rest taken more bytes before reported save screen some given loading ended unheard
+    unread
     untaken written unfed load from =
     restores_text (queues_of save.calls) bytes
-    (saves_file cred saved left rest taken more bytes before reported save screen some)
-    (are_kept cred save.calls some save.made.follows given) loading ended unheard unread untaken written unfed load from
+    (saves_file saving saved left rest taken more bytes before reported save screen some)
+    (are_kept saving save.calls some save.made.follows given) loading ended unheard unread untaken written unfed load
+    from

@@ -18,6 +18,7 @@ pub mod Stream
 pub mod Taking
 pub mod Holding
 pub mod Feed
+pub mod Journal
 pub mod Lines
 pub mod Stated
 pub mod Sending

@@ -15,6 +15,7 @@ use Rattle.sysv_clients.specs.declared.loading.Unloaded.TheVariants.{Fault, Cut,
 use Rattle.sysv_clients.specs.declared.saved.Entry.{Entry}
 use Rattle.sysv_clients.specs.declared.saved.Entry.TheVariants as entry
 use Rattle.sysv_clients.specs.declared.saved.SavedQueue.{SavedQueue}
+use Rattle.sysv_clients.specs.declared.saving.Saving.{Saving}
 use Rattle.sysv_clients.specs.declared.stated.TheConstants.{OBJECT_BYTES}
 use Rattle.sysv_clients.specs.Calls.{Call}
 use Rattle.sysv_clients.specs.Copies.{AreMessages, Message, objects_of}
@@ -25,7 +26,6 @@ use Rattle.sysv_clients.specs.Saved.{IsQueueLine, StatesEntry, format_line, queu
 use Rattle.sysv_clients.specs.Saving.{SavesAll}
 use Rattle.sysv_clients.specs.Sending.{Sent, sent_by}
 use Rattle.sysv_model.specs.declared.attributes.Stat.{Stat as Attributes}
-use Rattle.sysv_model.specs.declared.cred.Cred.{Cred}
 use Rattle.sysv_wire.specs.declared.frame.TheConstants.{MAX_MODE}
 use Rattle.sysv_wire.specs.declared.reply.ReplyContent.{ReplyContent}
 use Rattle.sysv_wire.specs.declared.reply.ReplyContent.TheVariants as content
@@ -219,12 +219,12 @@ HasScreen (Err (unheld.Undone why)) = ⊤
 HasScreen (Ok done) = ⊤
 
 -- A save whose screen did not fail, and that had a reply to its hello, has written a file of the queues that it was
--- given.
+-- given, whether it saves all queues or a part of them.
 abbrev pub SavesFile : Type 0
 SavesFile =
-    (cred : Cred) (ended : Result ⊤ Unheld) (left rest taken more : Option (List ℕ)) (bytes : List ℕ)
+    (saving : Saving) (ended : Result ⊤ Unheld) (left rest taken more : Option (List ℕ)) (bytes : List ℕ)
     (before reported : List Refusal)
-    (save : SavesAll cred ended left rest taken more (Some []) (Some bytes) before reported) → HasScreen ended
+    (save : SavesAll saving ended left rest taken more (Some []) (Some bytes) before reported) → HasScreen ended
     → save.calls ≢ [] → bytes ≡ file_of (queues_of save.calls)
 
 -- A server has such queues: an identifier is 0 or more, and the messages are messages.
@@ -234,9 +234,9 @@ AreOfServer queues = AllByRecursion (λ kept. (pos 0 ≤ℤ kept.id) × AreMessa
 -- A load of what such a save wrote restores the queues that the save was given.
 abbrev pub RestoresSaved : Type 0
 RestoresSaved =
-    (cred : Cred) (saved : Result ⊤ Unheld) (left rest taken more : Option (List ℕ)) (bytes : List ℕ)
+    (saving : Saving) (saved : Result ⊤ Unheld) (left rest taken more : Option (List ℕ)) (bytes : List ℕ)
     (before reported : List Refusal)
-    (save : SavesAll cred saved left rest taken more (Some []) (Some bytes) before reported) → HasScreen saved
+    (save : SavesAll saving saved left rest taken more (Some []) (Some bytes) before reported) → HasScreen saved
     → save.calls ≢ [] → AreOfServer (queues_of save.calls)
     → (loading : Loading) (ended : Result ⊤ Unloaded) (unheard unread untaken written unfed : Option (List ℕ))
     (load : LoadsAll loading ended unheard unread untaken written (Some bytes) unfed) → loading.from ≤ 2

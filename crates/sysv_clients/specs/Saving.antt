@@ -1,24 +1,25 @@
--- A save of all queues (this project's programs): it requests the row of each slot, the attributes of each
--- queue that it finds there, and its messages, each by a hold. Its requests are of version 3. A message is done only
--- after its line was written whole; otherwise the server sends it to its queue again.
-use Rattle.std.specs.Prelude.{◌≡◌, ◌⊎◌, ⊤, ℕ, zero, suc, ℤ, pos, ◌+◌, ◌-◌, ◌^◌, true, List, [], ◌∷◌, ◌++◌, Option}
-use Rattle.std.specs.Prelude.{None, Some, Result, Ok, Err, flat_map, fold, slice_get}
-use Rattle.std.specs.Io.KnownBytes.{Appends, Consumes}
+-- A save (this project's programs): it requests the identifier of a key, or the row of each slot; then the attributes
+-- of each queue that it finds there, and its messages, each by a hold. Its requests are of version 3. A message is done
+-- only after its line was written whole; otherwise the server sends it to its queue again.
+use Rattle.std.specs.Prelude.{◌≡◌, ◌≢◌, ◌⊎◌, ⊤, ℕ, zero, suc, ℤ, ◌+◌, ◌-◌, ◌^◌, Bool, true, false, List, [], ◌∷◌}
+use Rattle.std.specs.Prelude.{◌++◌, Option, None, Some, Result, Ok, Err, flat_map, fold, slice_get}
+use Rattle.std.specs.Io.KnownBytes.{Appends}
 use Rattle.sysv_clients.specs.declared.clearing.Refusal.{Refusal}
 use Rattle.sysv_clients.specs.declared.fault.ClientFault.{ClientFault}
 use Rattle.sysv_clients.specs.declared.fault.ClientFault.TheVariants as fault
 use Rattle.sysv_clients.specs.declared.holding.Unheld.{Unheld}
 use Rattle.sysv_clients.specs.declared.holding.Unheld.TheVariants.{Fault, Screen, Undone}
 use Rattle.sysv_clients.specs.declared.saving.Saving.{Saving}
+use Rattle.sysv_clients.specs.declared.saving.Stage.{Stage}
 use Rattle.sysv_clients.specs.declared.saving.Step.{Step}
 use Rattle.sysv_clients.specs.declared.saving.Step.TheVariants as step
-use Rattle.sysv_clients.specs.Asks.{flags_to_wait, row_asks}
+use Rattle.sysv_clients.specs.Asks.{flags_to_receive, no_flags, row_asks}
 use Rattle.sysv_clients.specs.Calls.{BreaksPlanIn, Call, IsCallDoneIn, MadeIn, Plan}
 use Rattle.sysv_clients.specs.Clearing.{id_of_row, refusal_by}
 use Rattle.sysv_clients.specs.Dialogue.{slots_after}
+use Rattle.sysv_clients.specs.Holding.{is_of_output}
 use Rattle.sysv_clients.specs.Object.{object_line}
 use Rattle.sysv_clients.specs.Saved.{format_line, queue_text}
-use Rattle.sysv_model.specs.declared.cred.Cred.{Cred}
 use Rattle.sysv_model.specs.declared.errno.Errno.{Errno}
 use Rattle.sysv_model.specs.declared.errno.Errno.TheVariants as error
 use Rattle.sysv_model.specs.declared.flags.Flags.{Flags}
@@ -30,13 +31,41 @@ use Rattle.sysv_wire.specs.declared.reply.ReplyContent.TheVariants as content
 use Rattle.sysv_wire.specs.declared.request.Ask.{Ask}
 use Rattle.sysv_wire.specs.declared.request.Ask.TheVariants.{Hello, Get, Snd, Rcv, Stat, Set, Rm, Row, Hold, Done, Back}
 
--- The request that holds the first message of the queue with this identifier, if it has one.
-abbrev pub first_ask : ℤ → Ask
-first_ask id = Hold id MESSAGE_BYTES (pos 0) (flags_to_wait true) 0
+-- The request that finds the queue of a key.
+abbrev pub key_ask : ℤ → Ask
+key_ask key = Get key no_flags
 
--- The save after the reply to the hello, which states the number of slots.
-abbrev pub begun : ReplyContent → Saving
-begun answer = record { slots = slots_after 0 answer; slot = 0; step = step.Row; owed = 2 ^ 64 - 1 }
+-- The request that holds the first of the messages of the queue with this identifier, if it has one.
+abbrev pub first_ask : Saving → ℤ → Ask
+first_ask saving id = Hold id MESSAGE_BYTES saving.mtype (flags_to_receive true false saving.except) 0
+
+-- The save before the first row of this number of slots, at this step.
+abbrev pub stage_at : ℕ → Step → Stage
+stage_at slots step = record { slots = slots; slot = 0; step = step; owed = 2 ^ 64 - 1 }
+
+-- The save after the reply to the hello, which states the number of slots. With a key it requests no row.
+abbrev pub begin : (key : Option ℤ) → (slots : ℕ) → Stage
+begin (Some key) slots = stage_at 0 (step.Find key)
+begin None slots = stage_at slots step.Row
+
+abbrev pub begun : Saving → ReplyContent → Stage
+begun saving answer = begin saving.key (slots_after 0 answer)
+
+-- What is requested after the search for a queue: its attributes, if it was found.
+abbrev pub after_find : ReplyContent → Step
+after_find (content.Get id) = step.Stat id
+after_find (content.Refused why) = step.Row
+after_find (content.Row row) = step.Row
+after_find content.Hello = step.Row
+after_find (content.HelloSlots slots) = step.Row
+after_find content.Snd = step.Row
+after_find (content.Rcv mtype) = step.Row
+after_find (content.Stat stat) = step.Row
+after_find content.Set = step.Row
+after_find content.Rm = step.Row
+after_find content.Done = step.Row
+after_find content.Back = step.Row
+after_find (content.Hold mtype) = step.Row
 
 -- What is requested of a queue after its attributes: its messages, if they are the reply.
 abbrev pub after_stat : ℤ → ReplyContent → Step
@@ -76,7 +105,9 @@ after_row (Some id) = step.Stat id
 after_row None = step.Row
 
 -- The save after one more reply.
-abbrev pub move : (slots slot owed : ℕ) → Step → ReplyContent → Saving
+abbrev pub move : (slots slot owed : ℕ) → Step → ReplyContent → Stage
+move slots slot owed (step.Find key) answer =
+    record { slots = slots; slot = slot; step = after_find answer; owed = owed }
 move slots slot owed step.Row answer =
     record { slots = slots; slot = slot + 1; step = after_row (id_of_row answer); owed = owed }
 move slots slot owed (step.Stat id) answer =
@@ -85,24 +116,26 @@ move slots slot owed (step.Hold id) answer =
     record { slots = slots; slot = slot; step = after_hold id answer; owed = owed - 1 }
 move slots slot owed (step.Done id) answer = record { slots = slots; slot = slot; step = step.Hold id; owed = owed }
 
-abbrev pub moved : Saving → ReplyContent → Saving
-moved saving answer = move saving.slots saving.slot saving.owed saving.step answer
+abbrev pub moved : Stage → ReplyContent → Stage
+moved stage answer = move stage.slots stage.slot stage.owed stage.step answer
 
 -- What is requested next. Nothing after all slots, or after 2^64 - 1 holds.
-abbrev pub ask_next : (slots slot owed : ℕ) → Step → Option Ask
-ask_next slots slot owed step.Row = slice_get (row_asks slots) slot
-ask_next slots slot owed (step.Stat id) = Some (Stat id)
-ask_next slots slot zero (step.Hold id) = None
-ask_next slots slot (suc owed) (step.Hold id) = Some (first_ask id)
-ask_next slots slot owed (step.Done id) = Some Done
+abbrev pub ask_next : Saving → (slots slot owed : ℕ) → Step → Option Ask
+ask_next saving slots slot owed (step.Find key) = Some (key_ask key)
+ask_next saving slots slot owed step.Row = slice_get (row_asks slots) slot
+ask_next saving slots slot owed (step.Stat id) = Some (Stat id)
+ask_next saving slots slot zero (step.Hold id) = None
+ask_next saving slots slot (suc owed) (step.Hold id) = Some (first_ask saving id)
+ask_next saving slots slot owed (step.Done id) = Some Done
 
-abbrev pub saving_ask : Saving → Option Ask
-saving_ask saving = ask_next saving.slots saving.slot saving.owed saving.step
+abbrev pub saving_ask : Saving → Stage → Option Ask
+saving_ask saving stage = ask_next saving stage.slots stage.slot stage.owed stage.step
 
 -- What is requested after these calls.
-abbrev pub saving_plan : Cred → Plan
-saving_plan cred [] = Some (Hello cred)
-saving_plan cred (first ∷ more) = saving_ask (fold (λ saving call. moved saving call.answer) (begun first.answer) more)
+abbrev pub saving_plan : Saving → Plan
+saving_plan saving [] = Some (Hello saving.cred)
+saving_plan saving (first ∷ more) =
+    saving_ask saving (fold (λ stage call. moved stage call.answer) (begun saving first.answer) more)
 
 -- The request is for the attributes of the queue with this identifier, or for a message of it.
 abbrev pub IsOfQueue : ℤ → Ask → Type 0
@@ -230,19 +263,20 @@ Tries ask outcome (Err (Fault why)) before after =
 Tries ask outcome (Err (Screen unshown)) before after = ⊥
 
 -- The next request ends the save, and all lines before it were written.
-abbrev pub BreaksSave : Cred → List Call → ClientFault → (left rest taken more shown after : Option (List ℕ)) → Type 0
-BreaksSave cred calls why left rest taken more shown after =
-    BreaksPlanIn Three (saving_plan cred) calls [] why left rest taken more
+abbrev pub BreaksSave : Saving → List Call → ClientFault → (left rest taken more shown after : Option (List ℕ)) → Type 0
+BreaksSave saving calls why left rest taken more shown after =
+    BreaksPlanIn Three (saving_plan saving) calls [] why left rest taken more
     × Appends shown after (saved_text calls)
 
--- The screen failed at what is written of the last call, and has a prefix of it. Nothing was requested or read after
--- that call, so a message that it holds goes back to its queue.
+-- The screen failed at the line of the last call: it has a prefix of it, or all of it and could not flush or sync it.
+-- Nothing was requested or read after that call, so a message that it holds goes back to its queue.
 pub record FailsAtLine (calls : List Call) (left rest taken more shown after : Option (List ℕ)) : Type 0 where
   pub before : List Call
   pub last : Call
   pub split : calls ≡ before ++ last ∷ []
   pub mid : Option (List ℕ)  -- what the screen had taken of the calls before
   pub shows : Appends shown mid (saved_text before)
+  pub line : saved_by last ≢ []
   pub part : AppendsPrefix mid after (saved_by last)
   pub read : rest ≡ left
   pub wrote : more ≡ taken
@@ -255,18 +289,19 @@ LacksMemory calls left rest taken more shown after =
 
 -- How a save ends after these calls: all requests were made; or the next one ends it; or the screen failed; or a
 -- done ends it, whose message was written; or memory was refused.
-abbrev pub EndsSave : Cred → Result ⊤ Unheld → List Call → (left rest taken more shown after : Option (List ℕ)) → Type 0
-EndsSave cred (Ok done) calls left rest taken more shown after =
-    (saving_plan cred calls ≡ None) × (rest ≡ left) × (more ≡ taken) × Appends shown after (saved_text calls)
-EndsSave cred (Err (Screen unshown)) calls left rest taken more shown after =
+abbrev pub EndsSave : Saving → Result ⊤ Unheld → List Call → (left rest taken more shown after : Option (List ℕ)) →
+    Type 0
+EndsSave saving (Ok done) calls left rest taken more shown after =
+    (saving_plan saving calls ≡ None) × (rest ≡ left) × (more ≡ taken) × Appends shown after (saved_text calls)
+EndsSave saving (Err (Screen unshown)) calls left rest taken more shown after =
     FailsAtLine calls left rest taken more shown after
-EndsSave cred (Err (Undone why)) calls left rest taken more shown after =
-    (saving_plan cred calls ≡ Some Done) × BreaksSave cred calls why left rest taken more shown after
-EndsSave cred (Err (Fault (fault.Refused error))) calls left rest taken more shown after =
-    BreaksSave cred calls (fault.Refused error) left rest taken more shown after
-EndsSave cred (Err (Fault fault.NoReply)) calls left rest taken more shown after =
-    BreaksSave cred calls fault.NoReply left rest taken more shown after
-EndsSave cred (Err (Fault fault.NoMemory)) calls left rest taken more shown after =
+EndsSave saving (Err (Undone why)) calls left rest taken more shown after =
+    (saving_plan saving calls ≡ Some Done) × BreaksSave saving calls why left rest taken more shown after
+EndsSave saving (Err (Fault (fault.Refused error))) calls left rest taken more shown after =
+    BreaksSave saving calls (fault.Refused error) left rest taken more shown after
+EndsSave saving (Err (Fault fault.NoReply)) calls left rest taken more shown after =
+    BreaksSave saving calls fault.NoReply left rest taken more shown after
+EndsSave saving (Err (Fault fault.NoMemory)) calls left rest taken more shown after =
     LacksMemory calls left rest taken more shown after
 
 -- What was reported by the end. If memory was refused, it lacks what memory was wanted for.
@@ -281,11 +316,26 @@ ReportsAll (Ok done) refusals before after = after ≡ before ++ refusals
 -- A save that ended this way. Each request is the next one of the plan. What was read is the replies, and then what
 -- ended it. What is on the screen is the lines of these calls, in order, so each message that is done was written whole
 -- before its done was requested.
-pub record SavesAll (cred : Cred) (ended : Result ⊤ Unheld) (left rest taken more shown after : Option (List ℕ))
+pub record SavesAll (saving : Saving) (ended : Result ⊤ Unheld) (left rest taken more shown after : Option (List ℕ))
     (before reported : List Refusal) : Type 0 where
   pub calls : List Call
   pub unread : Option (List ℕ)  -- what the reader had left after these calls
   pub written : Option (List ℕ)  -- what the writer had taken
-  pub made : MadeIn Three IsTried (saving_plan cred) calls left unread taken written
-  pub ends : EndsSave cred ended calls unread rest written more shown after
+  pub made : MadeIn Three IsTried (saving_plan saving) calls left unread taken written
+  pub ends : EndsSave saving ended calls unread rest written more shown after
   pub reports : ReportsAll ended (reports_of calls) before reported
+
+-- ---- what is synced
+
+-- What the screen has is synced after this text, which was written and synced, if it is to be. After no text it is if
+-- it was before.
+abbrev pub SyncsText : Bool → (text : List ℕ) → (had synced shown after : Option (List ℕ)) → Type 0
+SyncsText true [] had synced shown after = had ≡ shown → synced ≡ after
+SyncsText true (byte ∷ more) had synced shown after = synced ≡ after
+SyncsText false text had synced shown after = ⊤
+
+-- Nothing was written, or all that was is synced, if it is to be and the screen did not fail. A save may end at each of
+-- its requests. So a message is synced before its done is requested, and if that fails then no done is requested.
+abbrev pub SyncsAll : Saving → Result ⊤ Unheld → (shown after synced : Option (List ℕ)) → Type 0
+SyncsAll saving ended shown after synced =
+    saving.syncs ≡ true → is_of_output ended ≡ false → (after ≡ shown) ⊎ (synced ≡ after)

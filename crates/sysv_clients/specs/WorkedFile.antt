@@ -5,7 +5,12 @@ use Rattle.sysv_clients.specs.Loading.{plain}
 use Rattle.sysv_clients.specs.Restored.{Kept, file_of, loads_of}
 use Rattle.sysv_clients.specs.Asks.{flags_to_make, no_flags}
 use Rattle.sysv_clients.specs.Sending.{Sent}
+use Rattle.sysv_model.specs.declared.limits.TheConstants.{QBYTES_AT_CREATION}
 use Rattle.sysv_wire.specs.declared.request.Ask.TheVariants.{Get, Set, Snd}
+
+-- The mode 0600.
+abbrev pub mode_600 : ℕ
+mode_600 = 384
 
 -- A queue of user and group 1000 with key 7, the message "hello" of type 5, and an empty one of type 9.
 abbrev pub first_queue : Kept
@@ -13,10 +18,10 @@ first_queue = record {
   id = pos 0;
   stat = record {
     key = pos 7;
-    perm = record { uid = 1000; gid = 1000; cuid = 1000; cgid = 1000; mode = 384 };
+    perm = record { uid = 1000; gid = 1000; cuid = 1000; cgid = 1000; mode = mode_600 };
     cbytes = 5;
     qnum = 2;
-    qbytes = 16384;
+    qbytes = QBYTES_AT_CREATION;
     lspid = 1;
     lrpid = 0;
     stime = 10;
@@ -69,8 +74,8 @@ worked_loading = record {
 -- Its requests, if the queues get these identifiers.
 abbrev pub worked_asks : (one two : ℤ) → List Sent
 worked_asks one two =
-    plain (Get (pos 7) (flags_to_make 384))
-    ∷ plain (Set one (record { uid = 1000; gid = 1000; mode = 384; qbytes = 16384 }))
+    plain (Get (pos 7) (flags_to_make mode_600))
+    ∷ plain (Set one (record { uid = 1000; gid = 1000; mode = mode_600; qbytes = QBYTES_AT_CREATION }))
     ∷ record { ask = Snd one (pos 5) no_flags; text = codes "hello" }
     ∷ record { ask = Snd one (pos 9) no_flags; text = [] }
     ∷ plain (Get (negsuc 0) (flags_to_make 416))

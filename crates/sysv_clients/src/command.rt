@@ -272,7 +272,7 @@ impl Receipt {
             id,
             size: self.size,
             mtype: self.mtype,
-            flags: receive_flags(self),
+            flags: receive_flags(self.nowait, self.noerror, self.except),
             seconds: 0,
         }
     }
@@ -285,7 +285,7 @@ impl Receipt {
             id,
             size: self.size,
             mtype: self.mtype,
-            flags: receive_flags(self),
+            flags: receive_flags(self.nowait, self.noerror, self.except),
         }
     }
 }
@@ -330,15 +330,15 @@ pub(crate) fn wait_flags(nowait: bool) -> Flags
     }
 }
 
-/// Returns those of `IPC_NOWAIT`, `MSG_NOERROR` and `MSG_EXCEPT` that the receipt has.
-fn receive_flags(receipt: &Receipt) -> Flags
-    ensures { result ≡ flags_to_receive receipt.now.nowait receipt.now.noerror receipt.now.except }
+/// Returns those of `IPC_NOWAIT`, `MSG_NOERROR` and `MSG_EXCEPT` that a receive has.
+pub(crate) fn receive_flags(nowait: bool, noerror: bool, except: bool) -> Flags
+    ensures { result ≡ flags_to_receive nowait noerror except }
 {
-    let mut flags = wait_flags(receipt.nowait);
-    if receipt.noerror {
+    let mut flags = wait_flags(nowait);
+    if noerror {
         flags = flags.union(Flags::MSG_NOERROR);
     }
-    if receipt.except {
+    if except {
         flags = flags.union(Flags::MSG_EXCEPT);
     }
     flags

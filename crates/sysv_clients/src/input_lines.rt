@@ -55,7 +55,7 @@ impl Fetched {
 }
 
 /// The number of bytes that one read of an input takes at most.
-const CHUNK_BYTES: usize = 16_384;
+const CHUNK_BYTES: usize = 65_536;
 
 /// Bytes of an input that were read and are not part of a line yet.
 #[derive(Drop)]

@@ -11,6 +11,7 @@ mod fault;
 mod feed;
 mod holding;
 mod input_lines;
+mod journal;
 mod laws;
 mod line_text;
 mod loading;
@@ -34,6 +35,7 @@ pub use command::{Command, Form, Format, Making, Receipt, Target, Task};
 pub use fault::ClientFault;
 pub use feed::Feed;
 pub use holding::{Unheld, hold_all, hold_instrumented};
+pub use journal::{Durable, Journal};
 pub use laws::{
     loaded_queues_are_the_saved_ones, loading_repeats_what_was_saved, numerals_of_commands,
     objects_read_back, queue_is_copied, saved_lines_read_back, worked_file,
@@ -41,7 +43,7 @@ pub use laws::{
 pub use loading::{Loading, Unfit, Unloaded, load_feed, load_lines};
 pub use read_ahead::ReadAhead;
 pub use saved::SavedQueue;
-pub use saving::{save_all, save_instrumented};
+pub use saving::{Saving, save_all, save_instrumented};
 pub use sending::{Cut, Sending, Unsent, Wording, send_feed, send_lines};
 pub use stated::OBJECT_BYTES;
 pub use stream::{

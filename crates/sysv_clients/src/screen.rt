@@ -19,7 +19,7 @@ pub(crate) fn show<S: Write>(screen: &mut S, text: &[u8], due: i32) -> i32
 }
 
 /// Writes `text` and flushes it.
-fn print<S: Write>(screen: &mut S, text: &[u8]) -> Result<(), WriteFault>
+pub(crate) fn print<S: Write>(screen: &mut S, text: &[u8]) -> Result<(), WriteFault>
     ensures ok { OnOk result (Appends (S.contents screen.old) (S.contents screen.new) text.now) }
     ensures err { OnErr result (AppendsPrefix (S.contents screen.old)
         (S.contents screen.new) text.now) }

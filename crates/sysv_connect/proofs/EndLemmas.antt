@@ -1,7 +1,7 @@
 -- A buffer in front of a stream, and how a client's outcome becomes that of the program.
 use Rattle.std.proofs.Common.{◌≡◌, ◌≢◌, ◌∙◌, ℕ, List, [], ◌∷◌, ◌++◌, Option, None, Some, ap, refl, subst, append-nil}
 use Rattle.std.proofs.Common.{◌<◌, ◌≤◌, ◌⊎◌, ℤ, pos, inl, inr, length, sym, append_assoc, Result, Ok, Err}
-use Rattle.std.specs.Prelude.{⊤}
+use Rattle.std.specs.Prelude.{⊤, Bool, true, false}
 use Rattle.std.specs.Borrow.{Bor}
 use Rattle.std.proofs.Common.{◌==◌, if◌then◌else◌}
 use Rattle.std.specs.declared.io.BufReader.{BufReader}
@@ -34,7 +34,10 @@ use Rattle.sysv_connect.specs.declared.link.Unlinked.TheVariants.{NoMemory, NoSe
 use Rattle.sysv_connect.specs.Bodies.{with_text}
 use Rattle.sysv_connect.specs.Clients.{EndsPage, EndsRun, HasRun, HasRunFrom, IsBodyOf, IsLeft, ShowsPart, look_text}
 use Rattle.sysv_connect.specs.Ends.{Fails, Succeeds}
-use Rattle.sysv_connect.specs.Visits.{IsUnlinked, Visited, contact_of}
+use Rattle.sysv_connect.specs.declared.how.Telling.{Telling}
+use Rattle.sysv_connect.specs.declared.how.Telling.TheVariants.{Line, Both, Sentence}
+use Rattle.sysv_connect.specs.Telling.{Tells}
+use Rattle.sysv_connect.specs.Visits.{IsUnlinked, Visited, contact_of, is_refused}
 
 prepend_nothing : (known : Option (List ℕ)) → prepend_known [] known ≡ known
 prepend_nothing None = refl
@@ -64,23 +67,25 @@ new_writer contents buffered writer is empty =
     ∙ ap contents is
 
 -- What follows of a place without a connection and what follows of a connection, follows of a visit.
-pub visited_so : {P C : Type 0} (Refuses : Error → Type 0) (place : P) (Unmade Failed : Type 0) (Did Done : C → Type 0)
-    (contact : Contact P C) → (Unmade → Failed) → ((connection : C) → Did connection → Done connection)
+pub visited_so : {P C : Type 0} (Refuses : Error → Type 0) (place : P) (Unmade Failed : Bool → Type 0)
+    (Did Done : C → Type 0) (contact : Contact P C) → ((refused : Bool) → Unmade refused → Failed refused)
+    → ((connection : C) → Did connection → Done connection)
     → Visited Refuses place Unmade Did contact → Visited Refuses place Failed Done contact
-visited_so Refuses place Unmade Failed Did Done (Unused same) f g h = (h.0, f h.1)
-visited_so Refuses place Unmade Failed Did Done (Refused why) f g h = (h.0, f h.1)
+visited_so Refuses place Unmade Failed Did Done (Unused same) f g h = (h.0, f false h.1)
+visited_so Refuses place Unmade Failed Did Done (Refused why) f g h = (h.0, f true h.1)
 visited_so Refuses place Unmade Failed Did Done (Made connection) f g h = g connection h
 
 -- A place to which there is no connection is one without a connection.
-pub not_linked : {P C : Type 0} (Refuses : Error → Type 0) (place : P) (Unmade : Type 0) (Did : C → Type 0)
+pub not_linked : {P C : Type 0} (Refuses : Error → Type 0) (place : P) (Unmade : Bool → Type 0) (Did : C → Type 0)
     (unlinked : Unlinked P) (contact : Contact P C) → contact ≡ contact_of unlinked
-    → IsUnlinked Refuses place unlinked → Unmade → Visited Refuses place Unmade Did contact
+    → IsUnlinked Refuses place unlinked → Unmade (is_refused unlinked) → Visited Refuses place Unmade Did contact
 not_linked {P} {C} Refuses place Unmade Did unlinked contact is why unmade =
-    subst (λ (c : Contact P C). Visited Refuses place Unmade Did c) (sym is) (by unlinked why)
+    subst (λ (c : Contact P C). Visited Refuses place Unmade Did c) (sym is) (by unlinked why unmade)
   where
-    by : (u : Unlinked P) → IsUnlinked Refuses place u → Visited Refuses place Unmade Did (contact_of u)
-    by (NoMemory same) w = (w, unmade)
-    by (NoServer error) w = (w, unmade)
+    by : (u : Unlinked P) → IsUnlinked Refuses place u → Unmade (is_refused u)
+        → Visited Refuses place Unmade Did (contact_of u)
+    by (NoMemory same) w so = (w, so)
+    by (NoServer error) w so = (w, so)
 
 -- Nothing was written, which is a prefix of any bytes.
 pub nothing_wrote : (known : Option (List ℕ)) (bytes : List ℕ) → AppendsPrefix known known bytes
@@ -224,10 +229,19 @@ has_run command exit status same before page text left unread rest taken written
           (subst (λ (z : ℤ). EndsPage exit command.task z text unread rest written more shown after) is ends));
     }
 
+-- A fault that was told by no more than its line has shown a prefix of that.
+line_at_most : (telling : Telling) (line : List ℕ) (shown after : Option (List ℕ)) → Tells telling line shown after
+    → AppendsPrefix shown after line
+line_at_most Line line shown after told = told
+line_at_most Both line shown after told = told
+line_at_most Sentence line shown after told =
+    subst (λ (now : Option (List ℕ)). AppendsPrefix shown now line) (sym told) (nothing_wrote shown line)
+
 -- Memory was refused before anything was requested.
-pub run_refused : (command : Command) (exit : ExitCode) (left taken shown : Option (List ℕ)) → Fails exit
-    → HasRun command exit left left taken taken shown shown
-run_refused command exit left taken shown fails = record {
+pub run_refused : (command : Command) (exit : ExitCode) (telling : Telling) (left taken shown after : Option (List ℕ))
+    → Fails exit → Tells telling (fault_line fault.NoMemory) shown after
+    → HasRun command exit left left taken taken shown after
+run_refused command exit telling left taken shown after fails told = record {
   exchanges = [];
   ended = Err fault.NoMemory;
   unread = left;
@@ -240,7 +254,11 @@ run_refused command exit left taken shown fails = record {
     writes = Appends-nil taken;
     ends = (refl, inl (refl, refl));
   };
-  ends = inr (fails, inl (refl, refl), inr (fault.NoMemory, nothing_wrote shown (fault_line fault.NoMemory)));
+  ends = inr (
+    fails,
+    inl (refl, refl),
+    inr (fault.NoMemory, line_at_most telling (fault_line fault.NoMemory) shown after told),
+  );
 }
 
 -- A client ran a task with a body from an input.

@@ -3,7 +3,7 @@
 -- had `fed` and has `unfed`; the screen had `shown` and has `after`.
 use Rattle.std.specs.Prelude.{◌≡◌, ◌≤◌, ◌<◌, ◌⊎◌, ⊤, ℕ, ℤ, pos, Bool, true, false, List, [], ◌∷◌, length, Option}
 use Rattle.std.specs.Prelude.{Result}
-use Rattle.std.specs.Prelude.{Ok}
+use Rattle.std.specs.Prelude.{Ok, Err}
 use Rattle.std.specs.Borrow.{Bor}
 use Rattle.std.specs.Io.KnownBytes.{Appends, Consumes, IsAtEnd}
 use Rattle.std.specs.declared.process.ExitCode.{ExitCode}
@@ -12,6 +12,7 @@ use Rattle.sysv_clients.specs.declared.command.Command.{Command}
 use Rattle.sysv_clients.specs.declared.command.Task.{Task}
 use Rattle.sysv_clients.specs.declared.command.Task.TheVariants.{List as Table, Show, Remove, Make, Send, Receive}
 use Rattle.sysv_clients.specs.declared.fault.ClientFault.{ClientFault}
+use Rattle.sysv_clients.specs.declared.fault.ClientFault.TheVariants as fault
 use Rattle.sysv_clients.specs.declared.holding.Unheld.{Unheld}
 use Rattle.sysv_clients.specs.declared.sending.Sending.{Sending}
 use Rattle.sysv_clients.specs.declared.sending.Unsent.{Unsent}
@@ -23,18 +24,21 @@ use Rattle.sysv_clients.specs.Dialogue.{Converses, Exchange, asks_encoding}
 use Rattle.sysv_clients.specs.Faults.{fault_line}
 use Rattle.sysv_clients.specs.Holding.{HoldsAll}
 use Rattle.sysv_clients.specs.Page.{page_text}
-use Rattle.sysv_clients.specs.Sending.{SendsAhead}
+use Rattle.sysv_clients.specs.Sending.{SendsAhead, unsent_line}
 use Rattle.sysv_clients.specs.Stream.{TakesAll}
 use Rattle.sysv_model.specs.declared.cred.Cred.{Cred}
+use Rattle.sysv_model.specs.declared.errno.Errno.TheVariants.{EAGAIN}
 use Rattle.sysv_model.specs.declared.limits.TheConstants.{BODY_ROOM}
 use Rattle.sysv_model.specs.Writing.{AppendsPrefix}
 use Rattle.sysv_wire.specs.declared.request.Ask.TheVariants.{Get, Stat}
 use Rattle.sysv_connect.specs.declared.how.How.{How}
+use Rattle.sysv_connect.specs.declared.how.Telling.{Telling}
 use Rattle.sysv_connect.specs.Bodies.{with_text}
 use Rattle.sysv_connect.specs.Ends.{Fails, Succeeds, SucceedsIf}
 use Rattle.sysv_connect.specs.declared.batches.Way.{Way}
 use Rattle.sysv_connect.specs.declared.batches.Way.TheVariants.{Stream, Purge, Hold, Lines, Clear, Once}
 use Rattle.sysv_connect.specs.Purge.{Purges}
+use Rattle.sysv_connect.specs.Telling.{Tells, TellsUnmade}
 
 -- A client received messages, and the program succeeds exactly if that had no fault.
 abbrev pub Receives : Receiving → ExitCode → (left rest taken more shown after : Option (List ℕ)) → Type 0
@@ -48,19 +52,37 @@ Holds receiving exit left rest taken more shown after =
     (ended : Result ⊤ Unheld) × HoldsAll receiving ended left rest taken more shown after
     × SucceedsIf (ended ≡ Ok tt) exit
 
+-- The line of the fault that ended sends: its own, or that of EAGAIN if there was no reply in time.
+abbrev pub IsToldAs : Unsent → List ℕ → Type 0
+IsToldAs why line =
+    (line ≡ unsent_line why)
+    ⊎ ((unsent_line why ≡ fault_line fault.NoReply) × (line ≡ fault_line (fault.Refused EAGAIN)))
+
+-- What the screen took of sends that ended like this: nothing, or the line of their fault.
+abbrev pub TellsSends : Telling → Result ⊤ Unsent → (shown after : Option (List ℕ)) → Type 0
+TellsSends telling (Ok done) shown after = after ≡ shown
+TellsSends telling (Err why) shown after =
+    (line : List ℕ) × IsToldAs why line × Tells telling line shown after
+
 -- A client sent the messages that the lines of its input state, and the program succeeds exactly if that
 -- had no fault.
-abbrev pub SendsLines : Sending → ExitCode → (left rest taken more fed unfed : Option (List ℕ)) → Type 0
-SendsLines sending exit left rest taken more fed unfed =
+abbrev pub SendsLines : Sending → Telling → ExitCode → (left rest taken more fed unfed shown after : Option (List ℕ)) →
+    Type 0
+SendsLines sending telling exit left rest taken more fed unfed shown after =
     (ended : Result ⊤ Unsent) × SendsAhead sending ended left rest taken more fed unfed
-    × SucceedsIf (ended ≡ Ok tt) exit
+    × SucceedsIf (ended ≡ Ok tt) exit × TellsSends telling ended shown after
+
+-- What the screen took of removals that ended like this: nothing, or the line of their fault.
+abbrev pub TellsRemovals : Telling → Result ⊤ ClientFault → (shown after : Option (List ℕ)) → Type 0
+TellsRemovals telling (Ok done) shown after = after ≡ shown
+TellsRemovals telling (Err why) shown after = Tells telling (fault_line why) shown after
 
 -- A client removed all queues, and the program succeeds exactly if that had no fault and no removal was
 -- refused.
-abbrev pub Clears : Cred → ExitCode → (left rest taken more : Option (List ℕ)) → Type 0
-Clears cred exit left rest taken more =
+abbrev pub Clears : Cred → Telling → ExitCode → (left rest taken more shown after : Option (List ℕ)) → Type 0
+Clears cred telling exit left rest taken more shown after =
     (ended : Result ⊤ ClientFault) × (refusals : List Refusal) × ClearsAll cred ended left rest taken more [] refusals
-    × SucceedsIf ((ended ≡ Ok tt) × (refusals ≡ [])) exit
+    × SucceedsIf ((ended ≡ Ok tt) × (refusals ≡ [])) exit × TellsRemovals telling ended shown after
 
 -- The requests by which a client looks at the queue of a key: a msgget that makes no queue, and a msgctl
 -- with IPC_STAT of an identifier.
@@ -140,18 +162,27 @@ abbrev pub IsDone : Way → Cred → Task → How → ExitCode →
 IsDone (Stream receiving) cred task how exit left rest taken more fed unfed shown after =
     Receives receiving exit left rest taken more shown after × (unfed ≡ fed)
 IsDone (Purge receiving) cred task how exit left rest taken more fed unfed shown after =
-    Purges receiving exit left rest taken more shown after × (unfed ≡ fed)
+    Purges receiving how.telling exit left rest taken more shown after × (unfed ≡ fed)
 IsDone (Hold receiving) cred task how exit left rest taken more fed unfed shown after =
     Holds receiving exit left rest taken more shown after × (unfed ≡ fed)
 IsDone (Lines sending) cred task how exit left rest taken more fed unfed shown after =
-    SendsLines sending exit left rest taken more fed unfed × (after ≡ shown)
+    SendsLines sending how.telling exit left rest taken more fed unfed shown after
 IsDone Clear cred task how exit left rest taken more fed unfed shown after =
-    Clears cred exit left rest taken more × (unfed ≡ fed) × (after ≡ shown)
+    Clears cred how.telling exit left rest taken more shown after × (unfed ≡ fed)
 IsDone Once cred task how exit left rest taken more fed unfed shown after =
     IsRun cred task how exit left rest taken more fed unfed shown after
 
--- There was no connection, and the program failed. It has shown nothing, and has read its input only for
+-- What the screen took if there was no connection: nothing if it takes messages, and else the line of a fault.
+abbrev pub ShowsUnmade : Way → Telling → (refused : Bool) → (shown after : Option (List ℕ)) → Type 0
+ShowsUnmade (Stream receiving) telling refused shown after = after ≡ shown
+ShowsUnmade (Hold receiving) telling refused shown after = after ≡ shown
+ShowsUnmade (Purge receiving) telling refused shown after = TellsUnmade telling refused shown after
+ShowsUnmade (Lines sending) telling refused shown after = TellsUnmade telling refused shown after
+ShowsUnmade Clear telling refused shown after = TellsUnmade telling refused shown after
+ShowsUnmade Once telling refused shown after = TellsUnmade telling refused shown after
+
+-- There was no connection, and the program failed. It has shown only that, and has read its input only for
 -- the body of a `snd`.
-abbrev pub IsUnmade : How → ExitCode → (fed unfed shown after : Option (List ℕ)) → Type 0
-IsUnmade how exit fed unfed shown after =
-    Fails exit × (after ≡ shown) × ByFlag how.from_input ⊤ (unfed ≡ fed)
+abbrev pub IsUnmade : Way → How → ExitCode → (refused : Bool) → (fed unfed shown after : Option (List ℕ)) → Type 0
+IsUnmade way how exit refused fed unfed shown after =
+    Fails exit × ShowsUnmade way how.telling refused shown after × ByFlag how.from_input ⊤ (unfed ≡ fed)

@@ -1,16 +1,18 @@
 //! Clients that make several calls over one connection.
-ghost use Rattle.std.specs.Prelude.{◌≡◌};
-ghost use Rattle.sysv_connect.specs.Clients.{Clears, Receives, SendsLines};
+ghost use Rattle.std.specs.Prelude.{◌≡◌, true};
+ghost use Rattle.sysv_clients.specs.Sending.{unsent_line};
+ghost use Rattle.sysv_connect.specs.Clients.{Clears, IsToldAs, Receives, SendsLines};
 ghost use Rattle.sysv_connect.specs.Ends.{Fails};
 ghost use Rattle.sysv_connect.specs.Links.{left_by, taken_by};
 ghost use Rattle.sysv_connect.specs.Several.{is_of_options, is_of_stream, receiving_of, way_by};
+ghost use Rattle.sysv_connect.specs.Telling.{TellsUnmade};
 ghost use Rattle.sysv_connect.specs.Visits.{Visited};
 
-use crate::connection::{detail_of, failed, no_link};
+use crate::connection::{detail_of, failed, no_link, no_link_said};
 use crate::contact::{Contact, Visit};
 use crate::ending::FAULT;
 use crate::how::How;
-use crate::link::{Link, Unlinked, linked};
+use crate::link::{Link, linked};
 use crate::patience::Patience;
 use crate::place::{Leave, Place};
 use crate::purge::purging;
@@ -25,9 +27,6 @@ use sysv_clients::{
     Unsent, Unshown, Wording, receive_all, remove_all, send_lines,
 };
 use sysv_model::{Cred, Errno};
-
-/// No memory for what a connection needs.
-const NO_MEMORY: ClientFault = ClientFault::NoMemory;
 
 /// No message came in time.
 const NO_MESSAGE: ClientFault = ClientFault::Refused(Errno::ENOMSG);
@@ -136,7 +135,7 @@ pub(crate) fn receive_at<P: Place, S: Write>(
     screen: &mut Screen<S>,
 ) -> Visit<P, Link<P::Input, P::Output>>
     ensures { Visited (P.refuses place teller.now.path.now) place
-        (Fails result.exit
+        (λ _. Fails result.exit
         × (S.contents screen.new.writer ≡ S.contents screen.old.writer))
         (λ link. Receives receiving.now result.exit
         (P.incoming place teller.now.path.now) (left_by P.Input.remaining link)
@@ -148,17 +147,7 @@ pub(crate) fn receive_at<P: Place, S: Write>(
             exit: receive_on(rt, &mut link, teller, receiving, screen),
             contact: Contact::Made(link),
         },
-        Err(Unlinked::NoServer(why)) => Visit {
-            exit: teller.no_server_said(rt, &why),
-            contact: Contact::Refused(why),
-        },
-        Err(Unlinked::NoMemory(place)) => {
-            teller.fault_of_stream(rt, NO_MEMORY.line(), Detail::Plain);
-            Visit {
-                exit: failed(false),
-                contact: Contact::Unused(place),
-            }
-        }
+        Err(unlinked) => no_link_said(rt, teller, unlinked),
     }
 }
 
@@ -193,7 +182,7 @@ fn receive_on<R: Leave, W: Write + Drop, S: Write>(
     };
     let is_late = fault == ClientFault::NoReply && (link.has_ended() || link.is_over());
     let fault = if is_late { NO_MESSAGE } else { fault };
-    teller.fault_of_stream(rt, fault.line(), detail_of(fault, is_late, link));
+    teller.fault_said(rt, fault.line(), detail_of(fault, is_late, link));
     failed(is_late)
 }
 
@@ -214,42 +203,48 @@ fn left_after(receiving: &Receiving, unshown: Unshown) -> Left {
 /// Connects to the server at `place` and sends the message that each line of `input` states. Each
 /// send waits as long as `patience` says. A send that is left then fails with EAGAIN. If the input
 /// cannot be read, the reason is reported on standard error.
-pub(crate) fn send_at<I: Read, P: Place>(
-    rt: &(impl Print + Eprint + AllocGlobal),
+pub(crate) fn send_at<I: Read, P: Place, S: Write>(
+    rt: &(impl Eprint + AllocGlobal),
     input: &mut I,
     place: P,
     teller: &Teller<'_>,
     sending: &Sending,
     patience: Patience,
+    screen: &mut Screen<S>,
 ) -> Visit<P, Link<P::Input, P::Output>>
     ensures { Visited (P.refuses place teller.now.path.now) place
-        (Fails result.exit × (I.remaining input.new ≡ I.remaining input.old))
-        (λ link. SendsLines sending.now result.exit
+        (λ refused. Fails result.exit × TellsUnmade teller.now.telling refused
+        (S.contents screen.old.writer) (S.contents screen.new.writer)
+        × (I.remaining input.new ≡ I.remaining input.old))
+        (λ link. SendsLines sending.now teller.now.telling result.exit
         (P.incoming place teller.now.path.now) (left_by P.Input.remaining link)
         (P.outgoing place teller.now.path.now) (taken_by P.Output.contents link)
-        (I.remaining input.old) (I.remaining input.new)) result.contact }
+        (I.remaining input.old) (I.remaining input.new)
+        (S.contents screen.old.writer) (S.contents screen.new.writer)) result.contact }
 {
     match linked(rt.alloc(), place, teller.path, patience) {
         Ok(mut link) => Visit {
-            exit: send_on(rt, input, &mut link, teller, sending),
+            exit: send_on(rt, input, &mut link, teller, sending, screen),
             contact: Contact::Made(link),
         },
-        Err(unlinked) => no_link(rt, teller, unlinked),
+        Err(unlinked) => no_link(rt, teller, unlinked, screen),
     }
 }
 
 /// Sends lines over a connection like `send_at`.
-fn send_on<I: Read, R: Leave, W: Write + Drop>(
-    rt: &(impl Print + Eprint + AllocGlobal),
+fn send_on<I: Read, R: Leave, W: Write + Drop, S: Write>(
+    rt: &(impl Eprint + AllocGlobal),
     input: &mut I,
     link: &mut Link<R, W>,
     teller: &Teller<'_>,
     sending: &Sending,
+    screen: &mut Screen<S>,
 ) -> ExitCode
-    ensures { SendsLines sending.now result
+    ensures { SendsLines sending.now teller.now.telling result
         (left_by R.remaining link.old) (left_by R.remaining link.new)
         (taken_by W.contents link.old) (taken_by W.contents link.new)
-        (I.remaining input.old) (I.remaining input.new) }
+        (I.remaining input.old) (I.remaining input.new)
+        (S.contents screen.old.writer) (S.contents screen.new.writer) }
 {
     let Err(unsent) = send_lines(
         rt.alloc(),
@@ -262,7 +257,7 @@ fn send_on<I: Read, R: Leave, W: Write + Drop>(
     };
     let (unsent, is_late) = in_time(unsent, link);
     match &unsent {
-        Unsent::Input(why) => return teller.no_input(rt, why),
+        Unsent::Input(why) => return teller.no_input(rt, screen, why),
         Unsent::Cut(cut) => explain(rt, cut),
         Unsent::Long { before } => explain_line(rt, *before, Errno::EINVAL, 0),
         Unsent::NoObject { before } => explain_line(rt, *before, BAD_LINE, 0),
@@ -270,7 +265,7 @@ fn send_on<I: Read, R: Leave, W: Write + Drop>(
         _ => {}
     }
     let detail = detail_of_unsent(&unsent, sending.wording, is_late, link);
-    teller.fault(rt, unsent.line(), detail);
+    teller.fault(rt, screen, unsent.line(), detail);
     failed(is_late)
 }
 
@@ -325,7 +320,9 @@ fn explain_line(rt: &impl Eprint, before: u64, error: impl Display + Drop, after
 }
 
 /// Returns the error of sends as it is told, and whether the time was over. Then it is EAGAIN.
-fn in_time<R: Leave, W: Write + Drop>(unsent: Unsent, link: &Link<R, W>) -> (Unsent, bool) {
+fn in_time<R: Leave, W: Write + Drop>(unsent: Unsent, link: &Link<R, W>) -> (Unsent, bool)
+    ensures { IsToldAs unsent (unsent_line result.0) }
+{
     match unsent {
         Unsent::Fault(ClientFault::NoReply) if link.is_over() => (Unsent::Fault(NO_ROOM), true),
         Unsent::Cut(cut) if is_late(&cut, link) => {
@@ -342,46 +339,52 @@ fn in_time<R: Leave, W: Write + Drop>(unsent: Unsent, link: &Link<R, W>) -> (Uns
 
 /// Returns whether sends were cut off because the time was over, so that no line from that one on
 /// was sent: its send was left, or is the only one without a reply and could not be written.
-fn is_late<R: Leave, W: Write + Drop>(cut: &Cut, link: &Link<R, W>) -> bool {
+fn is_late<R: Leave, W: Write + Drop>(cut: &Cut, link: &Link<R, W>) -> bool
+    ensures { result ≡ true → cut.now.fault ≡ ClientFault.NoReply }
+{
     cut.fault == ClientFault::NoReply && (link.has_left() || (cut.unknown == 1 && link.is_over()))
 }
 
 /// Connects to the server at `place` and removes all queues there that the caller may remove. Each
 /// other queue is named on standard error, and the status is that of a fault then. Each reply is
 /// waited for as long as `patience` says.
-pub(crate) fn remove_at<P: Place>(
-    rt: &(impl Print + Eprint + AllocGlobal),
+pub(crate) fn remove_at<P: Place, S: Write>(
+    rt: &(impl Eprint + AllocGlobal),
     place: P,
     teller: &Teller<'_>,
     cred: Cred,
     patience: Patience,
+    screen: &mut Screen<S>,
 ) -> Visit<P, Link<P::Input, P::Output>>
     ensures { Visited (P.refuses place teller.now.path.now) place
-        (Fails result.exit)
-        (λ link. Clears cred result.exit
+        (λ refused. Fails result.exit × TellsUnmade teller.now.telling refused
+        (S.contents screen.old.writer) (S.contents screen.new.writer))
+        (λ link. Clears cred teller.now.telling result.exit
         (P.incoming place teller.now.path.now) (left_by P.Input.remaining link)
-        (P.outgoing place teller.now.path.now) (taken_by P.Output.contents link))
-        result.contact }
+        (P.outgoing place teller.now.path.now) (taken_by P.Output.contents link)
+        (S.contents screen.old.writer) (S.contents screen.new.writer)) result.contact }
 {
     match linked(rt.alloc(), place, teller.path, patience) {
         Ok(mut link) => Visit {
-            exit: remove_on(rt, &mut link, teller, cred),
+            exit: remove_on(rt, &mut link, teller, cred, screen),
             contact: Contact::Made(link),
         },
-        Err(unlinked) => no_link(rt, teller, unlinked),
+        Err(unlinked) => no_link(rt, teller, unlinked, screen),
     }
 }
 
 /// Removes queues over a connection like `remove_at`.
-fn remove_on<R: Leave, W: Write + Drop>(
-    rt: &(impl Print + Eprint + AllocGlobal),
+fn remove_on<R: Leave, W: Write + Drop, S: Write>(
+    rt: &(impl Eprint + AllocGlobal),
     link: &mut Link<R, W>,
     teller: &Teller<'_>,
     cred: Cred,
+    screen: &mut Screen<S>,
 ) -> ExitCode
-    ensures { Clears cred result
+    ensures { Clears cred teller.now.telling result
         (left_by R.remaining link.old) (left_by R.remaining link.new)
-        (taken_by W.contents link.old) (taken_by W.contents link.new) }
+        (taken_by W.contents link.old) (taken_by W.contents link.new)
+        (S.contents screen.old.writer) (S.contents screen.new.writer) }
 {
     let mut refusals = Vec::new(rt.alloc());
     let outcome = remove_all(
@@ -395,9 +398,11 @@ fn remove_on<R: Leave, W: Write + Drop>(
         teller.refusal(rt, refusal);
     }
     match outcome {
-        Ok(()) if refusals.is_empty() => return ExitCode::SUCCESS,
-        Ok(()) => {}
-        Err(fault) => teller.fault(rt, fault.line(), detail_of(fault, false, link)),
+        Ok(()) if refusals.is_empty() => ExitCode::SUCCESS,
+        Ok(()) => ExitCode::from(FAULT),
+        Err(fault) => {
+            teller.fault(rt, screen, fault.line(), detail_of(fault, false, link));
+            ExitCode::from(FAULT)
+        }
     }
-    ExitCode::from(FAULT)
 }

@@ -1,15 +1,17 @@
 //! Clients over a connection.
-ghost use Rattle.std.specs.Prelude.{◌≡◌, ◌≤◌, ◌⊎◌, ℤ, pos, length};
+ghost use Rattle.std.specs.Prelude.{◌≡◌, ◌≤◌, ◌⊎◌, ⊤, ℤ, pos, length};
 ghost use Rattle.std.specs.Io.KnownBytes.{Appends};
 ghost use Rattle.sysv_clients.specs.declared.fault.ClientFault.{ClientFault as AFault};
 ghost use Rattle.sysv_clients.specs.Faults.{fault_line};
 ghost use Rattle.sysv_clients.specs.Run.{HasShortText};
 ghost use Rattle.sysv_connect.specs.Bodies.{with_text};
-ghost use Rattle.sysv_connect.specs.Clients.{EndsPage, HasRun, HasRunFrom, IsDone, IsLeft, IsRun, IsUnmade, ShowsPart};
+ghost use Rattle.sysv_connect.specs.Clients.{ByFlag, EndsPage, HasRun, HasRunFrom, IsDone, IsLeft, IsRun, IsUnmade};
+ghost use Rattle.sysv_connect.specs.Clients.{ShowsPart};
 ghost use Rattle.sysv_connect.specs.Links.{left_by, taken_by};
 ghost use Rattle.sysv_connect.specs.Several.{way_by};
 ghost use Rattle.sysv_connect.specs.Ends.{Fails, Succeeds};
-ghost use Rattle.sysv_connect.specs.Visits.{Visited, contact_of};
+ghost use Rattle.sysv_connect.specs.Telling.{Tells, TellsUnmade};
+ghost use Rattle.sysv_connect.specs.Visits.{Visited, contact_of, is_refused};
 
 use crate::batches::{Way, receive_at, remove_at, send_at, way_of};
 use crate::contact::{Contact, Visit};
@@ -57,7 +59,7 @@ const PAGE_ROOM: usize = 8_300;
 ///
 /// - The body of a `snd` has at most 8,256 bytes.
 pub fn run_as<I: Read, P: Place, S: Write>(
-    rt: &(impl Print + Eprint + AllocGlobal),
+    rt: &(impl Eprint + AllocGlobal),
     input: &mut I,
     place: P,
     path: &str,
@@ -67,7 +69,8 @@ pub fn run_as<I: Read, P: Place, S: Write>(
 ) -> Visit<P, Link<P::Input, P::Output>>
     requires { HasShortText command.now.task }
     ensures { Visited (P.refuses place path.now) place
-        (IsUnmade how.now result.exit (I.remaining input.old) (I.remaining input.new)
+        (λ refused. IsUnmade (way_by command.now.cred command.now.task how.now) how.now
+        result.exit refused (I.remaining input.old) (I.remaining input.new)
         (S.contents screen.old.writer) (S.contents screen.new.writer))
         (λ link. IsDone (way_by command.now.cred command.now.task how.now)
         command.now.cred command.now.task how.now result.exit
@@ -89,8 +92,8 @@ pub fn run_as<I: Read, P: Place, S: Write>(
             purge_at(rt, place, &teller, &receiving, patience, screen)
         }
         Way::Hold(receiving) => hold_at(rt, place, &teller, &receiving, patience, screen),
-        Way::Lines(sending) => send_at(rt, input, place, &teller, &sending, patience),
-        Way::Clear => remove_at(rt, place, &teller, command.cred, patience),
+        Way::Lines(sending) => send_at(rt, input, place, &teller, &sending, patience, screen),
+        Way::Clear => remove_at(rt, place, &teller, command.cred, patience, screen),
         Way::Once => run_one(rt, input, place, &teller, command, how, screen),
     }
 }
@@ -101,7 +104,7 @@ pub fn run_as<I: Read, P: Place, S: Write>(
 ///
 /// - The body of a `snd` has at most 8,256 bytes.
 fn run_one<I: Read, P: Place, S: Write>(
-    rt: &(impl Print + Eprint + AllocGlobal),
+    rt: &(impl Eprint + AllocGlobal),
     input: &mut I,
     place: P,
     teller: &Teller<'_>,
@@ -111,8 +114,9 @@ fn run_one<I: Read, P: Place, S: Write>(
 ) -> Visit<P, Link<P::Input, P::Output>>
     requires { HasShortText command.now.task }
     ensures { Visited (P.refuses place teller.now.path.now) place
-        (IsUnmade how.now result.exit (I.remaining input.old) (I.remaining input.new)
-        (S.contents screen.old.writer) (S.contents screen.new.writer))
+        (λ refused. Fails result.exit × TellsUnmade teller.now.telling refused
+        (S.contents screen.old.writer) (S.contents screen.new.writer)
+        × ByFlag how.now.from_input ⊤ (I.remaining input.new ≡ I.remaining input.old))
         (λ link. IsRun command.now.cred command.now.task how.now result.exit
         (P.incoming place teller.now.path.now) (left_by P.Input.remaining link)
         (P.outgoing place teller.now.path.now) (taken_by P.Output.contents link)
@@ -130,7 +134,7 @@ fn run_one<I: Read, P: Place, S: Write>(
 /// `snd`. Of a longer input, the body is the first 8,256 bytes. If a read fails, no connection is
 /// made, and the reason is reported on standard error.
 fn run_with_input<I: Read, P: Place, S: Write>(
-    rt: &(impl Print + Eprint + AllocGlobal),
+    rt: &(impl Eprint + AllocGlobal),
     input: &mut I,
     place: P,
     teller: &Teller<'_>,
@@ -139,8 +143,8 @@ fn run_with_input<I: Read, P: Place, S: Write>(
     screen: &mut Screen<S>,
 ) -> Visit<P, Link<P::Input, P::Output>>
     ensures { Visited (P.refuses place teller.now.path.now) place
-        (Fails result.exit
-        × (S.contents screen.new.writer ≡ S.contents screen.old.writer))
+        (λ refused. Fails result.exit × TellsUnmade teller.now.telling refused
+        (S.contents screen.old.writer) (S.contents screen.new.writer))
         (λ link. HasRunFrom command.now.cred command.now.task result.exit
         (P.incoming place teller.now.path.now) (left_by P.Input.remaining link)
         (P.outgoing place teller.now.path.now) (taken_by P.Output.contents link)
@@ -150,11 +154,11 @@ fn run_with_input<I: Read, P: Place, S: Write>(
     match read_body(rt.alloc(), input) {
         Ok(body) => run_at(rt, place, teller, &with_body(command, &body), wait, screen),
         Err(Unread::NoMemory) => Visit {
-            exit: no_memory(rt, teller),
+            exit: no_memory(rt, teller, screen),
             contact: Contact::Unused(place),
         },
         Err(Unread::Failed(why)) => Visit {
-            exit: teller.no_input(rt, &why),
+            exit: teller.no_input(rt, screen, &why),
             contact: Contact::Unused(place),
         },
     }
@@ -203,7 +207,7 @@ fn with_body<'a>(command: &Command<'_>, body: &'a [u8]) -> Command<'a>
 ///
 /// - The body of a `snd` has at most 8,256 bytes.
 fn run_at<P: Place, S: Write>(
-    rt: &(impl Print + Eprint + AllocGlobal),
+    rt: &(impl Eprint + AllocGlobal),
     place: P,
     teller: &Teller<'_>,
     command: &Command<'_>,
@@ -212,8 +216,8 @@ fn run_at<P: Place, S: Write>(
 ) -> Visit<P, Link<P::Input, P::Output>>
     requires { HasShortText command.now.task }
     ensures { Visited (P.refuses place teller.now.path.now) place
-        (Fails result.exit
-        × (S.contents screen.new.writer ≡ S.contents screen.old.writer))
+        (λ refused. Fails result.exit × TellsUnmade teller.now.telling refused
+        (S.contents screen.old.writer) (S.contents screen.new.writer))
         (λ link. HasRun command.now result.exit
         (P.incoming place teller.now.path.now) (left_by P.Input.remaining link)
         (P.outgoing place teller.now.path.now) (taken_by P.Output.contents link)
@@ -234,13 +238,37 @@ fn run_at<P: Place, S: Write>(
             exit: run_within(rt, &mut link, command, &teller, screen),
             contact: Contact::Made(link),
         },
-        Err(unlinked) => no_link(rt, &teller, unlinked),
+        Err(unlinked) => no_link(rt, &teller, unlinked, screen),
     }
 }
 
 /// Tells why there is no connection.
-pub(crate) fn no_link<P, C>(
-    rt: &(impl Print + Eprint + AllocGlobal),
+pub(crate) fn no_link<P, C, S: Write>(
+    rt: &(impl Eprint + AllocGlobal),
+    teller: &Teller<'_>,
+    unlinked: Unlinked<P>,
+    screen: &mut Screen<S>,
+) -> Visit<P, C>
+    ensures fails { Fails result.exit }
+    ensures contact { result.contact ≡ contact_of unlinked }
+    ensures told { TellsUnmade teller.now.telling (is_refused unlinked)
+        (S.contents screen.old.writer) (S.contents screen.new.writer) }
+{
+    match unlinked {
+        Unlinked::NoServer(why) => Visit {
+            exit: teller.no_server(rt, screen, &why),
+            contact: Contact::Refused(why),
+        },
+        Unlinked::NoMemory(place) => Visit {
+            exit: no_memory(rt, teller, screen),
+            contact: Contact::Unused(place),
+        },
+    }
+}
+
+/// Tells by a sentence why there is no connection.
+pub(crate) fn no_link_said<P, C>(
+    rt: &(impl Eprint + AllocGlobal),
     teller: &Teller<'_>,
     unlinked: Unlinked<P>,
 ) -> Visit<P, C>
@@ -249,13 +277,16 @@ pub(crate) fn no_link<P, C>(
 {
     match unlinked {
         Unlinked::NoServer(why) => Visit {
-            exit: teller.no_server(rt, &why),
+            exit: teller.no_server_said(rt, &why),
             contact: Contact::Refused(why),
         },
-        Unlinked::NoMemory(place) => Visit {
-            exit: no_memory(rt, teller),
-            contact: Contact::Unused(place),
-        },
+        Unlinked::NoMemory(place) => {
+            teller.fault_said(rt, NO_MEMORY.line(), Detail::Plain);
+            Visit {
+                exit: failed(false),
+                contact: Contact::Unused(place),
+            }
+        }
     }
 }
 
@@ -267,7 +298,7 @@ pub(crate) fn no_link<P, C>(
 ///
 /// - The body of a `snd` has at most 8,256 bytes.
 fn run_within<R: Leave, W: Write + Drop, S: Write>(
-    rt: &(impl Print + Eprint + AllocGlobal),
+    rt: &(impl Eprint + AllocGlobal),
     link: &mut Link<R, W>,
     command: &Command<'_>,
     teller: &Teller<'_>,
@@ -280,7 +311,7 @@ fn run_within<R: Leave, W: Write + Drop, S: Write>(
         (S.contents screen.new.writer) }
 {
     let Ok(mut page) = Vec::with_capacity(rt.alloc(), PAGE_ROOM) else {
-        return no_memory(rt, teller);
+        return no_memory(rt, teller, screen);
     };
     let status = run_client(
         rt.alloc(),
@@ -443,9 +474,15 @@ pub(crate) fn failed(is_late: bool) -> ExitCode
 }
 
 /// Tells that memory was refused before anything was requested.
-pub(crate) fn no_memory(rt: &(impl Print + Eprint + AllocGlobal), teller: &Teller<'_>) -> ExitCode
-    ensures { Fails result }
+pub(crate) fn no_memory<S: Write>(
+    rt: &(impl Eprint + AllocGlobal),
+    teller: &Teller<'_>,
+    screen: &mut Screen<S>,
+) -> ExitCode
+    ensures fails { Fails result }
+    ensures told { Tells teller.now.telling (fault_line ClientFault.NoMemory)
+        (S.contents screen.old.writer) (S.contents screen.new.writer) }
 {
-    teller.fault(rt, NO_MEMORY.line(), Detail::Plain);
+    teller.fault(rt, screen, NO_MEMORY.line(), Detail::Plain);
     failed(false)
 }

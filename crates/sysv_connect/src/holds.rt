@@ -5,9 +5,9 @@ ghost use Rattle.sysv_connect.specs.Ends.{Fails};
 ghost use Rattle.sysv_connect.specs.Links.{left_by, taken_by};
 ghost use Rattle.sysv_connect.specs.Visits.{Visited};
 
-use crate::connection::{detail_of, failed};
+use crate::connection::{detail_of, failed, no_link_said};
 use crate::contact::{Contact, Visit};
-use crate::link::{Link, Unlinked, linked};
+use crate::link::{Link, linked};
 use crate::patience::Patience;
 use crate::place::{Leave, Place};
 use crate::screen::Screen;
@@ -33,7 +33,7 @@ pub(crate) fn hold_at<P: Place, S: Write>(
     screen: &mut Screen<S>,
 ) -> Visit<P, Link<P::Input, P::Output>>
     ensures { Visited (P.refuses place teller.now.path.now) place
-        (Fails result.exit
+        (λ _. Fails result.exit
         × (S.contents screen.new.writer ≡ S.contents screen.old.writer))
         (λ link. Holds receiving.now result.exit
         (P.incoming place teller.now.path.now) (left_by P.Input.remaining link)
@@ -45,17 +45,7 @@ pub(crate) fn hold_at<P: Place, S: Write>(
             exit: hold_on(rt, &mut link, teller, receiving, screen),
             contact: Contact::Made(link),
         },
-        Err(Unlinked::NoServer(why)) => Visit {
-            exit: teller.no_server_said(rt, &why),
-            contact: Contact::Refused(why),
-        },
-        Err(Unlinked::NoMemory(place)) => {
-            teller.fault_of_stream(rt, ClientFault::NoMemory.line(), Detail::Plain);
-            Visit {
-                exit: failed(false),
-                contact: Contact::Unused(place),
-            }
-        }
+        Err(unlinked) => no_link_said(rt, teller, unlinked),
     }
 }
 
@@ -98,7 +88,7 @@ pub(crate) fn tell<R: Leave, W: Write + Drop, S: Write>(
         Unheld::Fault(fault) => {
             let is_late = fault == ClientFault::NoReply && link.has_left();
             let fault = if is_late { NO_MESSAGE } else { fault };
-            teller.fault_of_stream(rt, fault.line(), detail_of_hold(fault, is_late, link));
+            teller.fault_said(rt, fault.line(), detail_of_hold(fault, is_late, link));
             failed(is_late)
         }
         Unheld::Screen(Unshown { taken, shown }) => {
@@ -112,7 +102,7 @@ pub(crate) fn tell<R: Leave, W: Write + Drop, S: Write>(
             exit
         }
         Unheld::Undone(fault) => {
-            teller.fault_of_stream(rt, fault.line(), detail_of(fault, false, link));
+            teller.fault_said(rt, fault.line(), detail_of(fault, false, link));
             let _ = eprintln!(rt;
                 "sysvmsg: the last message that was shown may come back to its queue"
             );

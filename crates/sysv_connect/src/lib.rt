@@ -35,5 +35,5 @@ pub use place::{Leave, Place, Socket};
 pub use plain::complain;
 pub use progress::{Lines, Progress};
 pub use saves::{Saving, save_at};
-pub use screen::Screen;
+pub use screen::{Screen, put};
 pub use stats::{Looking, look_at};

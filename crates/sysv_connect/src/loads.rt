@@ -5,7 +5,7 @@ ghost use Rattle.sysv_connect.specs.Files.{Loads, loading_of};
 ghost use Rattle.sysv_connect.specs.Links.{left_by, taken_by};
 ghost use Rattle.sysv_connect.specs.Visits.{Visited};
 
-use crate::connection::{detail_of, failed, no_link};
+use crate::connection::{detail_of, failed, no_link_said};
 use crate::contact::{Contact, Visit};
 use crate::how::Telling;
 use crate::link::{Link, linked};
@@ -69,14 +69,14 @@ impl Loading<'_> {
 /// path of the options. The line that ends it is named on standard error, and so are faults. It
 /// makes at most one connection, and returns it.
 pub fn load_at<I: Read, P: Place>(
-    rt: &(impl Print + Eprint + AllocGlobal),
+    rt: &(impl Eprint + AllocGlobal),
     input: &mut I,
     place: P,
     cred: Cred,
     loading: &Loading<'_>,
 ) -> Visit<P, Link<P::Input, P::Output>>
     ensures { Visited (P.refuses place loading.now.path.now) place
-        (Fails result.exit × (I.remaining input.new ≡ I.remaining input.old))
+        (λ _. Fails result.exit × (I.remaining input.new ≡ I.remaining input.old))
         (λ link. Loads (loading_of cred loading.now) result.exit
         (P.incoming place loading.now.path.now) (left_by P.Input.remaining link)
         (P.outgoing place loading.now.path.now) (taken_by P.Output.contents link)
@@ -92,13 +92,13 @@ pub fn load_at<I: Read, P: Place>(
             exit: load_on(rt, input, &mut link, &teller, &loading.loads(cred)),
             contact: Contact::Made(link),
         },
-        Err(unlinked) => no_link(rt, &teller, unlinked),
+        Err(unlinked) => no_link_said(rt, &teller, unlinked),
     }
 }
 
 /// Loads lines over a connection like `load_at`.
 fn load_on<I: Read, R: Leave, W: Write + Drop>(
-    rt: &(impl Print + Eprint + AllocGlobal),
+    rt: &(impl Eprint + AllocGlobal),
     input: &mut I,
     link: &mut Link<R, W>,
     teller: &Teller<'_>,
@@ -114,7 +114,7 @@ fn load_on<I: Read, R: Leave, W: Write + Drop>(
         return ExitCode::SUCCESS;
     };
     match unloaded {
-        Unloaded::Input(why) => teller.no_input(rt, &why),
+        Unloaded::Input(why) => teller.no_input_said(rt, &why),
         Unloaded::Line { before, why } => {
             told_line(rt, before, why);
             failed(false)
@@ -124,7 +124,7 @@ fn load_on<I: Read, R: Leave, W: Write + Drop>(
             failed(false)
         }
         Unloaded::Fault(fault) => {
-            teller.fault(rt, fault.line(), detail_of(fault, false, link));
+            teller.fault_said(rt, fault.line(), detail_of(fault, false, link));
             failed(false)
         }
         Unloaded::Cut(cut) => tell_cut(rt, link, teller, loads, cut),
@@ -133,7 +133,7 @@ fn load_on<I: Read, R: Leave, W: Write + Drop>(
 
 /// Tells which request for a line ended a load, and what became of later lines.
 fn tell_cut<R: Leave, W: Write + Drop>(
-    rt: &(impl Print + Eprint + AllocGlobal),
+    rt: &(impl Eprint + AllocGlobal),
     link: &Link<R, W>,
     teller: &Teller<'_>,
     loads: &Load,
@@ -158,7 +158,7 @@ fn tell_cut<R: Leave, W: Write + Drop>(
             },
         ),
         fault => {
-            teller.fault(rt, fault.line(), detail_of(fault, false, link));
+            teller.fault_said(rt, fault.line(), detail_of(fault, false, link));
             let _ = eprintln!(rt; "sysvmsg: load: lines that are loaded: {}", cut.before);
         }
     }

@@ -1,8 +1,10 @@
 //! A `rcv` that empties a queue.
 ghost use Rattle.std.specs.Prelude.{◌≡◌, [], IfOk, vec_len};
+ghost use Rattle.sysv_clients.specs.Faults.{fault_line};
 ghost use Rattle.sysv_connect.specs.Ends.{Fails};
 ghost use Rattle.sysv_connect.specs.Links.{left_by, taken_by};
-ghost use Rattle.sysv_connect.specs.Purge.{Purges, ShowsCount, count_line, purging_of};
+ghost use Rattle.sysv_connect.specs.Purge.{Purges, ShowsCount, count_line, purging_of, stop_line};
+ghost use Rattle.sysv_connect.specs.Telling.{Tells, TellsUnmade};
 ghost use Rattle.sysv_connect.specs.Visits.{Visited};
 
 use crate::connection::{detail_of, failed, no_link, no_memory};
@@ -46,7 +48,7 @@ pub(crate) fn purging(cred: Cred, receipt: Receipt) -> Receiving
 /// number. Each reply is waited for as long as `patience` says. After a fault, the number is
 /// reported on standard error.
 pub(crate) fn purge_at<P: Place, S: Write>(
-    rt: &(impl Print + Eprint + AllocGlobal),
+    rt: &(impl Eprint + AllocGlobal),
     place: P,
     teller: &Teller<'_>,
     receiving: &Receiving,
@@ -54,16 +56,16 @@ pub(crate) fn purge_at<P: Place, S: Write>(
     screen: &mut Screen<S>,
 ) -> Visit<P, Link<P::Input, P::Output>>
     ensures { Visited (P.refuses place teller.now.path.now) place
-        (Fails result.exit
-        × (S.contents screen.new.writer ≡ S.contents screen.old.writer))
-        (λ link. Purges receiving.now result.exit
+        (λ refused. Fails result.exit × TellsUnmade teller.now.telling refused
+        (S.contents screen.old.writer) (S.contents screen.new.writer))
+        (λ link. Purges receiving.now teller.now.telling result.exit
         (P.incoming place teller.now.path.now) (left_by P.Input.remaining link)
         (P.outgoing place teller.now.path.now) (taken_by P.Output.contents link)
         (S.contents screen.old.writer) (S.contents screen.new.writer)) result.contact }
 {
     let Ok(marks) = Vec::with_capacity(rt.alloc(), MARKS) else {
         return Visit {
-            exit: no_memory(rt, teller),
+            exit: no_memory(rt, teller, screen),
             contact: Contact::Unused(place),
         };
     };
@@ -72,14 +74,14 @@ pub(crate) fn purge_at<P: Place, S: Write>(
             exit: purge_on(rt, &mut link, teller, receiving, marks, screen),
             contact: Contact::Made(link),
         },
-        Err(unlinked) => no_link(rt, teller, unlinked),
+        Err(unlinked) => no_link(rt, teller, unlinked, screen),
     }
 }
 
 /// Empties a queue over a connection like `purge_at`. `marks` has memory for the marks of the
 /// messages.
 fn purge_on<R: Leave, W: Write + Drop, S: Write>(
-    rt: &(impl Print + Eprint + AllocGlobal),
+    rt: &(impl Eprint + AllocGlobal),
     link: &mut Link<R, W>,
     teller: &Teller<'_>,
     receiving: &Receiving,
@@ -87,7 +89,7 @@ fn purge_on<R: Leave, W: Write + Drop, S: Write>(
     screen: &mut Screen<S>,
 ) -> ExitCode
     requires { marks.items ≡ [] }
-    ensures { Purges receiving.now result
+    ensures { Purges receiving.now teller.now.telling result
         (left_by R.remaining link.old) (left_by R.remaining link.new)
         (taken_by W.contents link.old) (taken_by W.contents link.new)
         (S.contents screen.old.writer) (S.contents screen.new.writer) }
@@ -105,7 +107,7 @@ fn purge_on<R: Leave, W: Write + Drop, S: Write>(
             show_count(rt, teller, marks, screen)
         }
         Err(stop) => {
-            tell(rt, link, teller, stop, marks.len() as u64);
+            tell(rt, link, teller, stop, marks.len() as u64, screen);
             failed(false)
         }
     }
@@ -114,18 +116,18 @@ fn purge_on<R: Leave, W: Write + Drop, S: Write>(
 /// Shows the number of marks. If memory for its line is refused, the number is reported on standard
 /// error.
 fn show_count<S: Write>(
-    rt: &(impl Print + Eprint + AllocGlobal),
+    rt: &(impl Eprint + AllocGlobal),
     teller: &Teller<'_>,
     marks: Vec<u8>,
     screen: &mut Screen<S>,
 ) -> ExitCode
-    ensures { ShowsCount result (vec_len marks) (S.contents screen.old.writer)
+    ensures { ShowsCount teller.now.telling result (vec_len marks) (S.contents screen.old.writer)
         (S.contents screen.new.writer) }
 {
     let count = marks.len() as u64;
     let Ok(line) = count_line(marks, count) else {
         report(rt, count);
-        return no_memory(rt, teller);
+        return no_memory(rt, teller, screen);
     };
     if put(screen, &line) {
         ExitCode::SUCCESS
@@ -155,19 +157,30 @@ fn report(rt: &impl Eprint, taken: u64) {
 }
 
 /// Tells why a queue was not emptied, and how many messages were taken before.
-fn tell<R: Leave, W: Write + Drop>(
-    rt: &(impl Print + Eprint + AllocGlobal),
+fn tell<R: Leave, W: Write + Drop, S: Write>(
+    rt: &(impl Eprint + AllocGlobal),
     link: &Link<R, W>,
     teller: &Teller<'_>,
     stop: Stop,
     taken: u64,
-) {
-    let fault = match stop {
-        Stop::Fault(fault) => fault,
-        Stop::Screen(_) => ClientFault::NoMemory,
-    };
-    teller.fault(rt, fault.line(), detail_of(fault, false, link));
+    screen: &mut Screen<S>,
+)
+    ensures { Tells teller.now.telling (stop_line stop) (S.contents screen.old.writer)
+        (S.contents screen.new.writer) }
+{
+    let fault = fault_of(stop);
+    teller.fault(rt, screen, fault.line(), detail_of(fault, false, link));
     if taken > 0 {
         report(rt, taken);
+    }
+}
+
+/// Returns the fault that ended a session. A session lacks memory if it cannot keep the LFs.
+fn fault_of(stop: Stop) -> ClientFault
+    ensures { fault_line result ≡ stop_line stop }
+{
+    match stop {
+        Stop::Fault(fault) => fault,
+        Stop::Screen(_) => ClientFault::NoMemory,
     }
 }

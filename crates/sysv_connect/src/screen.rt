@@ -5,11 +5,12 @@ ghost use Rattle.sysv_model.specs.Writing.{AppendsPrefix};
 
 use std::io;
 use std::io::Write;
+use sysv_clients::Durable;
 use sysv_model::Instrumented;
 
 /// A writer that remembers why it failed last.
 ///
-/// Writes and flushes pass on unchanged.
+/// Writes, flushes and syncs pass on unchanged.
 #[derive(Drop)]
 pub struct Screen<S> {
     /// What is written to.
@@ -51,9 +52,21 @@ impl<S: Write> Write for Screen<S> {
     }
 }
 
+impl<S: Durable> Durable for Screen<S> {
+    ghost synced = { λ screen. S.synced screen.writer };
+
+    fn sync(&mut self) -> io::Result<()> {
+        let outcome = self.writer.sync();
+        if let Err(why) = &outcome {
+            self.failure = Some(*why);
+        }
+        outcome
+    }
+}
+
 /// Writes the bytes and flushes them. Returns whether that succeeded. If it did not, a prefix of
 /// the bytes was written.
-pub(crate) fn put<S: Write>(stream: &mut S, bytes: &[u8]) -> bool
+pub fn put<S: Write>(stream: &mut S, bytes: &[u8]) -> bool
     ensures whole { result ≡ true → Appends (S.contents stream.old) (S.contents stream.new)
         bytes.now }
     ensures part { AppendsPrefix (S.contents stream.old) (S.contents stream.new) bytes.now }

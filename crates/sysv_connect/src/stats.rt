@@ -1,9 +1,11 @@
 //! The client that shows the state of a server.
-ghost use Rattle.std.specs.Prelude.{◌≡◌, ◌⊎◌, IfOk};
+ghost use Rattle.std.specs.Prelude.{◌≡◌, IfOk};
 ghost use Rattle.std.specs.Io.KnownBytes.{Appends, Consumes, IsAtEnd};
+ghost use Rattle.sysv_clients.specs.Faults.{fault_line};
 ghost use Rattle.sysv_connect.specs.Ends.{Fails, Succeeds};
 ghost use Rattle.sysv_connect.specs.Links.{left_by, taken_by};
 ghost use Rattle.sysv_connect.specs.Stats.{HasLooked, asked_with};
+ghost use Rattle.sysv_connect.specs.Telling.{Tells, TellsUnmade};
 ghost use Rattle.sysv_connect.specs.Visits.{Visited};
 ghost use Rattle.sysv_model.specs.Writing.{AppendsPrefix};
 
@@ -43,15 +45,15 @@ const PIECE: usize = 4_096;
 /// Prints the state of the server that shows it at the path of the options. If no connection can be
 /// made, the reason is reported on standard error. It makes at most one connection, and returns it.
 pub fn look_at<P: Place, S: Write>(
-    rt: &(impl Print + Eprint + AllocGlobal),
+    rt: &(impl Eprint + AllocGlobal),
     place: P,
     looking: &Looking<'_>,
     screen: &mut Screen<S>,
 ) -> Visit<P, Link<P::Input, P::Output>>
     ensures { Visited (P.refuses place looking.now.path.now) place
-        (Fails result.exit
-        × (S.contents screen.new.writer ≡ S.contents screen.old.writer))
-        (λ link. HasLooked looking.now.json result.exit
+        (λ refused. Fails result.exit × TellsUnmade looking.now.telling refused
+        (S.contents screen.old.writer) (S.contents screen.new.writer))
+        (λ link. HasLooked looking.now.telling looking.now.json result.exit
         (P.incoming place looking.now.path.now) (left_by P.Input.remaining link)
         (P.outgoing place looking.now.path.now) (taken_by P.Output.contents link)
         (S.contents screen.old.writer) (S.contents screen.new.writer)) result.contact }
@@ -70,58 +72,65 @@ pub fn look_at<P: Place, S: Write>(
             exit: look_on(rt, &mut link, &teller, looking.json, screen),
             contact: Contact::Made(link),
         },
-        Err(unlinked) => no_link(rt, &teller, unlinked),
+        Err(unlinked) => no_link(rt, &teller, unlinked, screen),
     }
 }
 
 /// Prints the state of a server over a connection, as a JSON object if `json` is true.
 fn look_on<R: Leave, W: Write + Drop, S: Write>(
-    rt: &(impl Print + Eprint + AllocGlobal),
+    rt: &(impl Eprint + AllocGlobal),
     link: &mut Link<R, W>,
     teller: &Teller<'_>,
     json: bool,
     screen: &mut Screen<S>,
 ) -> ExitCode
-    ensures { HasLooked json result (left_by R.remaining link.old)
+    ensures { HasLooked teller.now.telling json result (left_by R.remaining link.old)
         (left_by R.remaining link.new) (taken_by W.contents link.old)
         (taken_by W.contents link.new) (S.contents screen.old.writer)
         (S.contents screen.new.writer) }
 {
     if !put(&mut link.writer, question(json)) {
-        return silent(rt, teller, Silence::Lost);
+        return silent(rt, teller, Silence::Lost, screen);
     }
     match read_state(rt.alloc(), &mut link.reader) {
-        Ok(state) if state.is_empty() => silent(rt, teller, Silence::Closed),
+        Ok(state) if state.is_empty() => silent(rt, teller, Silence::Closed, screen),
         Ok(state) => show(rt, teller, &state, screen),
-        Err(Unread::NoMemory) => failed(rt, teller, ClientFault::NoMemory, Detail::Plain),
+        Err(Unread::NoMemory) => failed(rt, teller, ClientFault::NoMemory, Detail::Plain, screen),
         Err(Unread::Failed(why)) => {
             let silence = Silence::after(LastRead::of(&Err(why)), false, false);
-            silent(rt, teller, silence)
+            silent(rt, teller, silence, screen)
         }
     }
 }
 
 /// Tells that there is no reply, and why.
-fn silent(
-    rt: &(impl Print + Eprint + AllocGlobal),
+fn silent<S: Write>(
+    rt: &(impl Eprint + AllocGlobal),
     teller: &Teller<'_>,
     silence: Silence,
+    screen: &mut Screen<S>,
 ) -> ExitCode
-    ensures { Fails result }
+    ensures fails { Fails result }
+    ensures told { Tells teller.now.telling (fault_line ClientFault.NoReply)
+        (S.contents screen.old.writer) (S.contents screen.new.writer) }
 {
-    failed(rt, teller, ClientFault::NoReply, Detail::Silent(silence))
+    let detail = Detail::Silent(silence);
+    failed(rt, teller, ClientFault::NoReply, detail, screen)
 }
 
 /// Tells a fault.
-fn failed(
-    rt: &(impl Print + Eprint + AllocGlobal),
+fn failed<S: Write>(
+    rt: &(impl Eprint + AllocGlobal),
     teller: &Teller<'_>,
     fault: ClientFault,
     detail: Detail,
+    screen: &mut Screen<S>,
 ) -> ExitCode
-    ensures { Fails result }
+    ensures fails { Fails result }
+    ensures told { Tells teller.now.telling (fault_line fault)
+        (S.contents screen.old.writer) (S.contents screen.new.writer) }
 {
-    teller.fault(rt, fault.line(), detail);
+    teller.fault(rt, screen, fault.line(), detail);
     ExitCode::from(FAULT)
 }
 

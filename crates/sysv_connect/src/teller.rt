@@ -1,8 +1,10 @@
 //! What a user is told of the faults of a client.
+ghost use Rattle.std.specs.Prelude.{◌≡◌};
 ghost use Rattle.sysv_connect.specs.Ends.{Fails};
+ghost use Rattle.sysv_connect.specs.Telling.{Tells, no_input_line, no_server_line};
 ghost use Rattle.sysv_model.specs.Writing.{AppendsPrefix};
 
-use crate::ending::{FAULT, say};
+use crate::ending::FAULT;
 use crate::how::Telling;
 use crate::plain::{Reason, complain};
 use crate::screen::put;
@@ -11,6 +13,12 @@ use std::io;
 use std::io::{Eprint, ErrorKind, Write};
 use std::process::ExitCode;
 use sysv_clients::{ClientFault, Command, Refusal, Target, Task, Unshown};
+
+/// The line of a fault if no connection can be made.
+const NO_SERVER: &str = "sysvmsg: no server\n";
+
+/// The line of a fault if the standard input cannot be read.
+const NO_INPUT: &str = "sysvmsg: cannot read\n";
 
 /// How the faults of a client are told.
 #[derive(Clone, Copy)]
@@ -33,23 +41,25 @@ pub(crate) struct Left {
 }
 
 impl Teller<'_> {
-    /// Tells a fault: by its line on standard output, by a sentence on standard error, or by both.
-    pub(crate) fn fault(
+    /// Tells a fault: by its line on this screen, by a sentence on standard error, or by both.
+    pub(crate) fn fault<S: Write>(
         &self,
-        rt: &(impl Print + Eprint + AllocGlobal),
+        rt: &(impl Eprint + AllocGlobal),
+        screen: &mut S,
         line: &str,
         detail: Detail,
-    ) {
-        if self.telling.has_line() {
-            let _ = print!(rt; "{line}");
-        }
+    )
+        ensures { Tells self.now.telling line.now (S.contents screen.old)
+            (S.contents screen.new) }
+    {
+        self.line(screen, line);
         if self.telling.has_sentence() {
             self.sentence(rt, line, detail);
         }
     }
 
-    /// Tells a fault like `fault`, with its line on this screen. Returns whether the screen took
-    /// the line, if there is one.
+    /// Tells a fault like `fault`, with the sentence first. Returns whether the screen took the
+    /// line, if there is one.
     pub(crate) fn fault_on<S: Write>(
         &self,
         rt: &(impl Eprint + AllocGlobal),
@@ -68,26 +78,29 @@ impl Teller<'_> {
         put(screen, line.as_bytes())
     }
 
-    /// Tells a fault of a client that shows messages as a stream. Standard output has only messages
-    /// then.
-    pub(crate) fn fault_of_stream(&self, rt: &impl Eprint, line: &str, detail: Detail) {
+    /// Tells a fault by a sentence, whatever else is asked for. The screen of a client that shows
+    /// messages as a stream, or saves queues, has nothing else.
+    pub(crate) fn fault_said(&self, rt: &impl Eprint, line: &str, detail: Detail) {
         self.sentence(rt, line, detail);
     }
 
     /// Tells that no connection can be made.
-    pub(crate) fn no_server(
+    pub(crate) fn no_server<S: Write>(
         &self,
-        rt: &(impl Print + Eprint + AllocGlobal),
+        rt: &(impl Eprint + AllocGlobal),
+        screen: &mut S,
         why: &io::Error,
     ) -> ExitCode
-        ensures { Fails result }
+        ensures fails { Fails result }
+        ensures told { Tells self.now.telling no_server_line (S.contents screen.old)
+            (S.contents screen.new) }
     {
         if self.telling.has_sentence() {
             self.no_server_said(rt, why);
         } else {
             complain(rt, self.path, why, "");
         }
-        self.end(rt, "no server")
+        self.end(screen, NO_SERVER)
     }
 
     /// Tells by a sentence that no connection can be made.
@@ -108,23 +121,38 @@ impl Teller<'_> {
     }
 
     /// Tells that the standard input cannot be read.
-    pub(crate) fn no_input(
+    pub(crate) fn no_input<S: Write>(
         &self,
-        rt: &(impl Print + Eprint + AllocGlobal),
+        rt: &(impl Eprint + AllocGlobal),
+        screen: &mut S,
+        why: &io::Error,
+    ) -> ExitCode
+        ensures fails { Fails result }
+        ensures told { Tells self.now.telling no_input_line (S.contents screen.old)
+            (S.contents screen.new) }
+    {
+        if self.telling.has_sentence() {
+            self.no_input_said(rt, why);
+        } else {
+            complain(rt, "standard input", why, "");
+        }
+        self.end(screen, NO_INPUT)
+    }
+
+    /// Tells by a sentence that the standard input cannot be read.
+    pub(crate) fn no_input_said(
+        &self,
+        rt: &(impl Eprint + AllocGlobal),
         why: &io::Error,
     ) -> ExitCode
         ensures { Fails result }
     {
-        if self.telling.has_sentence() {
-            let reason = Reason::of(rt.alloc(), why);
-            let _ = eprintln!(rt;
-                "sysvmsg: {}: cannot read standard input{reason}",
-                self.head()
-            );
-        } else {
-            complain(rt, "standard input", why, "");
-        }
-        self.end(rt, "cannot read")
+        let reason = Reason::of(rt.alloc(), why);
+        let _ = eprintln!(rt;
+            "sysvmsg: {}: cannot read standard input{reason}",
+            self.head()
+        );
+        ExitCode::from(FAULT)
     }
 
     /// Tells that standard output failed, and what became of the messages that were received for
@@ -175,13 +203,25 @@ impl Teller<'_> {
     }
 
     /// Ends a client with a fault, after its line if that is told.
-    fn end(&self, rt: &impl Print, fault: &str) -> ExitCode
-        ensures { Fails result }
+    fn end<S: Write>(&self, screen: &mut S, line: &str) -> ExitCode
+        ensures fails { Fails result }
+        ensures told { Tells self.now.telling line.now (S.contents screen.old)
+            (S.contents screen.new) }
     {
-        if self.telling.has_line() {
-            say(rt, fault)
-        } else {
-            ExitCode::from(FAULT)
+        self.line(screen, line);
+        ExitCode::from(FAULT)
+    }
+
+    /// Shows the line of a fault, if faults are told by lines.
+    fn line<S: Write>(&self, screen: &mut S, line: &str)
+        ensures { Tells self.now.telling line.now (S.contents screen.old)
+            (S.contents screen.new) }
+    {
+        match self.telling {
+            Telling::Line | Telling::Both => {
+                put(screen, line.as_bytes());
+            }
+            Telling::Sentence => {}
         }
     }
 

@@ -456,13 +456,23 @@ impl<'a, R: Wait, T: NonBlocking> Place<'a, R, T> {
     }
 
     /// Gives the connection as many bytes of the replies as it takes now.
-    pub(crate) fn drain(&mut self)
+    fn drain(&mut self)
         ensures keeps { KeepsPlace T.incoming T.outgoing T.closes self.old self.new }
     {
         let Some(client) = &mut self.client else {
             return;
         };
         client.drain();
+    }
+
+    /// Gives the connection as many bytes of the replies as it takes now, unless the client has more
+    /// to do: then its next turn does so, with the replies that it adds.
+    pub(crate) fn drain_at_rest(&mut self)
+        ensures keeps { KeepsPlace T.incoming T.outgoing T.closes self.old self.new }
+    {
+        if !self.has_more() {
+            self.drain();
+        }
     }
 
     /// Ends the client because of this limit, if it may be cut off under it.
@@ -615,13 +625,14 @@ impl<'a, R: Wait, T: NonBlocking> Place<'a, R, T> {
         self.in_turns = in_turns;
     }
 
-    /// Has the watch report when the connection may take bytes, if and only if some wait for it. If
-    /// that is refused, the client ends, and the result is `false`.
+    /// Has the watch report when the connection may take bytes, if and only if some wait for it and
+    /// the client has no more to do, so that no turn comes before. If that is refused, the client
+    /// ends, and the result is `false`.
     pub(crate) fn await_room<W: Watch<T>>(&mut self, watch: &mut W, place: usize) -> bool
         ensures keeps { KeepsPlace T.incoming T.outgoing T.closes self.old self.new }
         ensures refused { result ≡ false → IsCutOff self.new.client }
     {
-        let awaits = self.has_unsent();
+        let awaits = self.needs_room();
         if awaits == self.awaits_room {
             return true;
         }
@@ -643,6 +654,11 @@ impl<'a, R: Wait, T: NonBlocking> Place<'a, R, T> {
         }
         client.cut_off();
         false
+    }
+
+    /// Returns whether replies wait for the connection, and no turn of the client comes before.
+    fn needs_room(&self) -> bool {
+        self.has_unsent() && !self.has_more()
     }
 
     /// Returns whether replies wait for the connection.

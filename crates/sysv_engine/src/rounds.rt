@@ -1,5 +1,5 @@
 //! The event loop of a worker.
-ghost use Rattle.std.specs.Prelude.{◌≡◌, ◌⊎◌, None, Some, true};
+ghost use Rattle.std.specs.Prelude.{◌≡◌, ◌⊎◌, ◌-◌, ◌==◌, MatchOption, None, Some, false, true};
 ghost use Rattle.std.specs.List.{list_any};
 ghost use Rattle.sysv_parking.specs.Agenda.{IsAtRest, KeepsWork};
 ghost use Rattle.sysv_parking.specs.Parking.{AreInLines, MovesOnly, key_at};
@@ -618,24 +618,26 @@ impl<'a, 'c, R: Wait> Serving<'a, 'c, R> {
         let Some(check) = worker.check else {
             return;
         };
-        if check.left() > 0 {
+        let now = Moment::now();
+        if !is_over(Some(check), now) {
             return;
         }
         worker.check = None;
         worker.again = None;
         for place in 0..worker.places.len() {
-            self.look_at_time(worker, place);
+            self.look_at_time(worker, place, now);
         }
         self.spread(worker);
     }
 
     /// Reads from a client that may have more bytes although nothing reports them. Closes one whose
-    /// time is over, and gives back what it holds if the time of that is over, unless something has
-    /// come for it that was not read yet.
+    /// time is over `now`, and gives back what it holds if the time of that is over, unless something
+    /// has come for it that was not read yet.
     fn look_at_time<T: NonBlocking, W: Watch<T>>(
         &self,
         worker: &mut Worker<'a, R, T, W>,
         place: usize,
+        now: Moment,
     )
         ensures { KeepsAll T.incoming T.outgoing T.closes worker.old.places.items
             worker.new.places.items }
@@ -643,13 +645,13 @@ impl<'a, 'c, R: Wait> Serving<'a, 'c, R> {
         if !worker.has_client(place) {
             return;
         }
-        let is_late = is_over(worker.due(place)) || is_over(worker.hold_due(place));
+        let is_late = is_over(worker.due(place), now) || is_over(worker.hold_due(place), now);
         if is_late || worker.may_hold_more(place) {
             self.report(worker, &Ready::unasked(place));
         }
-        self.look_at_hold(worker, place);
+        self.look_at_hold(worker, place, now);
         let due = worker.due(place);
-        if is_over(due) {
+        if is_over(due, now) {
             worker.cut_late(place);
             self.settle(worker, place);
         } else {
@@ -657,17 +659,18 @@ impl<'a, 'c, R: Wait> Serving<'a, 'c, R> {
         }
     }
 
-    /// Begins to give back what a client holds, if the time of that is over.
+    /// Begins to give back what a client holds, if the time of that is over `now`.
     fn look_at_hold<T: NonBlocking, W: Watch<T>>(
         &self,
         worker: &mut Worker<'a, R, T, W>,
         place: usize,
+        now: Moment,
     )
         ensures { KeepsAll T.incoming T.outgoing T.closes worker.old.places.items
             worker.new.places.items }
     {
         let due = worker.hold_due(place);
-        if !is_over(due) {
+        if !is_over(due, now) {
             worker.check = sooner(worker.check, due);
             return;
         }
@@ -738,9 +741,14 @@ impl<'a, 'c, R: Wait> Serving<'a, 'c, R> {
     }
 }
 
-/// Returns whether this moment has come.
-fn is_over(due: Option<Moment>) -> bool {
-    due.is_some_and(|due| due.left() == 0)
+/// Returns whether there is such a moment, and no time is left until it `now`.
+fn is_over(due: Option<Moment>, now: Moment) -> bool
+    ensures { MatchOption due (result ≡ false) (λ due. result ≡ (due.0 - now.0 == 0)) }
+{
+    match due {
+        Some(due) => now.until(due) == 0,
+        None => false,
+    }
 }
 
 /// Returns what a look at a call found that waited for `before` and now waits for `after`, if it

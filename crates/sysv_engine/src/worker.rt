@@ -480,7 +480,8 @@ impl<'a, R: Wait, T: NonBlocking, W: Watch<T>> Worker<'a, R, T, W> {
         Rechecked { place, mark }
     }
 
-    /// Gives the client's connection as many bytes of the replies as it takes now.
+    /// Gives the client's connection as many bytes of the replies as it takes now, unless the client
+    /// has more to do: then its next turn does so.
     #[tactic(auto, using(crate::proofs::PlaceLists::keeps_at))]
     pub(crate) fn drain(&mut self, place: usize)
         ensures keeps { KeepsAll T.incoming T.outgoing T.closes self.old.places.items
@@ -488,7 +489,7 @@ impl<'a, R: Wait, T: NonBlocking, W: Watch<T>> Worker<'a, R, T, W> {
         ensures agenda { self.new.agenda ≡ self.old.agenda }
     {
         if let Some(there) = self.places.get_mut(place) {
-            there.drain();
+            there.drain_at_rest();
         }
     }
 
@@ -541,8 +542,8 @@ impl<'a, R: Wait, T: NonBlocking, W: Watch<T>> Worker<'a, R, T, W> {
         there.close()
     }
 
-    /// Has the watch report when the client's connection may take bytes, if some wait for it. Returns
-    /// whether it does: else the client ends.
+    /// Has the watch report when the client's connection may take bytes, if some wait for it and the
+    /// client has no more to do. Returns whether it does: else the client ends.
     #[tactic(auto, using(crate::proofs::PlaceLists::keeps_at))]
     pub(crate) fn await_room(&mut self, place: usize) -> bool
         ensures keeps { KeepsAll T.incoming T.outgoing T.closes self.old.places.items

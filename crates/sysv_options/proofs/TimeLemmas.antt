@@ -1,9 +1,9 @@
 -- The words of a time.
-use Rattle.std.proofs.Common.{◌≡◌, inl, inr, ℕ, List, Option, Some, None, sym, subst}
+use Rattle.std.proofs.Common.{inl, inr, ℕ, List, Option, Some, None, subst}
 use Rattle.std.specs.Prelude.{Contains, MatchOption}
 use Rattle.sysv_words.specs.OneSplit.{OneSplit}
 use Rattle.sysv_words.specs.Words.{SplitsAt}
-use Rattle.sysv_options.specs.Words.{ArePartsOf, AreSeconds, HasMaybe, IsTime}
+use Rattle.sysv_options.specs.Words.{ArePartsOf, AreSeconds, IsTime}
 
 -- A word with a point is the time of its parts.
 pub time_of_parts : (law : OneSplit) (word whole places : List ℕ) (r : Option ℕ) → SplitsAt 46 word whole places
@@ -28,20 +28,3 @@ time_of_whole law word None unmarked none = λ time h. elim h [
   | inl plain ↦ none time plain.1
   | inr other ↦ unmarked (law.marked 46 word other.0 other.1 other.2)
 ]
-
-no_value : (Says : List ℕ → ℕ → Type 0) (word : List ℕ) → ((time : ℕ) → ¬ Says word time) → (value : Option ℕ)
-    → ¬ HasMaybe Says (Some word) value
-no_value Says word none (Some time) = none time
-no_value Says word none None = λ h. h
-
--- The word that was found says this value.
-pub has_time : (Says : List ℕ → ℕ → Type 0) (word : List ℕ) (found : Option (List ℕ)) → found ≡ Some word
-    → (time : ℕ) → Says word time → HasMaybe Says found (Some time)
-has_time Says word found there time says =
-    subst (λ (w : Option (List ℕ)). HasMaybe Says w (Some time)) (sym there) says
-
--- The word that was found says no value, so there is none that the option has.
-pub has_no_time : (Says : List ℕ → ℕ → Type 0) (word : List ℕ) (found : Option (List ℕ)) → found ≡ Some word
-    → ((time : ℕ) → ¬ Says word time) → (value : Option ℕ) → ¬ HasMaybe Says found value
-has_no_time Says word found there none value =
-    subst (λ (w : Option (List ℕ)). ¬ HasMaybe Says w value) (sym there) (no_value Says word none value)

@@ -9,7 +9,7 @@ use Rattle.clap.specs.declared.parser.matches.ArgMatches.{ArgMatches}
 use Rattle.clap.specs.declared.parser.matches.ArgMatches.TheViews.{out-SubCommand}
 use Rattle.clap.specs.declared.parser.matches.SubCommand.{SubCommand}
 use Rattle.clap.proofs.WalkLemmas.{first_value-rows, one_text-rows}
-use Rattle.sysv_options.specs.Words.{Has, HasFlag, IsFlag, IsRead, word_of, words_in}
+use Rattle.sysv_options.specs.Words.{Has, HasFlag, HasMaybe, IsFlag, IsRead, word_of, words_in}
 
 -- The text that clap returns is the word of the command.
 pub found_word : (words : ArgMatches) (name : List ℕ) (r : Option (Bor (List ℕ)))
@@ -53,3 +53,20 @@ pub read_word : {A E : Type 0} (Says : List ℕ → A → Type 0) (word : List �
 read_word Says word found (Some value) bad is says = subst (λ (o : Option (List ℕ)). Has Says o value) (sym is) says
 read_word Says word found None bad is none = λ value h.
     none value (subst (λ (o : Option (List ℕ)). Has Says o value) is h)
+
+-- The word that was found says this value.
+pub has_value : {A : Type 0} (Says : List ℕ → A → Type 0) (word : List ℕ) (found : Option (List ℕ))
+    → found ≡ Some word → (value : A) → Says word value → HasMaybe Says found (Some value)
+has_value Says word found there value says =
+    subst (λ (w : Option (List ℕ)). HasMaybe Says w (Some value)) (sym there) says
+
+no_value : {A : Type 0} (Says : List ℕ → A → Type 0) (word : List ℕ) → ((value : A) → ¬ Says word value)
+    → (value : Option A) → ¬ HasMaybe Says (Some word) value
+no_value Says word none (Some value) = none value
+no_value Says word none None = λ h. h
+
+-- The word that was found says no value, so there is none that the option has.
+pub has_no_value : {A : Type 0} (Says : List ℕ → A → Type 0) (word : List ℕ) (found : Option (List ℕ))
+    → found ≡ Some word → ((value : A) → ¬ Says word value) → (value : Option A) → ¬ HasMaybe Says found value
+has_no_value Says word found there none value =
+    subst (λ (w : Option (List ℕ)). ¬ HasMaybe Says w value) (sym there) (no_value Says word none value)

@@ -18,7 +18,9 @@ use Rattle.sysv_options.specs.Sockets.{listed}
 use Rattle.sysv_options.specs.declared.asked.TheConstants.{WORKERS, MAX_PATH, MAX_PATH_WITH_MODE, MODE_ALONE}
 use Rattle.sysv_server.specs.declared.serving.TheConstants.{MAX_CLIENTS}
 use Rattle.sysv_options.specs.Asked.{AreAtOnce, AreBlocks, AreWorkers}
-use Rattle.sysv_options.specs.Words.{HasFlag, HasMaybe, HasOr, IsExactly, IsMode, IsOn, IsTime, IsUnsigned, word_of}
+use Rattle.sysv_clients.specs.Words.{IsKey}
+use Rattle.sysv_options.specs.Words.{HasFlag, HasMaybe, HasOr, IsExactly, IsMode, IsOn, IsTime, IsUnsigned, WantsType}
+use Rattle.sysv_options.specs.Words.{word_of}
 
 -- A command with these words asks for this number of blocks.
 abbrev pub AsksForBlocks : List Row → ℕ → Type 0
@@ -107,6 +109,11 @@ pub record AsksToLook (words : List Row) (looking : Looking) : Type 0 where
 -- A `save` with these words saves this.
 pub record AsksToSave (words : List Row) (saving : Saving) : Type 0 where
   pub path : HasPath words saving.path.now
+  pub has_key : HasMaybe IsKey (word_of words (codes "key")) saving.key
+  pub has_type : WantsType (word_of words (codes "type")) (word_of words (codes "upto"))
+      (word_of words (codes "except")) saving.mtype
+  pub has_except : saving.except ≡ is_some (word_of words (codes "except"))
+  pub has_nosync : HasFlag words (codes "nosync") saving.nosync
   pub wait : HasMaybe IsTime (word_of words (codes "wait")) saving.wait
 
 -- The word is the number of a line, counted from 1.

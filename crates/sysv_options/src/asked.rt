@@ -39,7 +39,7 @@ pub enum Asked<'a, S> {
     Serve(S),
     /// Show the state of a server.
     Look(Looking<'a>),
-    /// Save all queues of a server.
+    /// Save queues of a server.
     Save(Who, Saving<'a>),
     /// Load a file of queues into a server.
     Load(Who, Loading<'a>),
@@ -340,12 +340,16 @@ fn look_of<'a>(words: &ArgMatches<'a>) -> Result<Looking<'a>, Bad>
     })
 }
 
-/// Returns what a `save` saves.
+/// Returns what a `save` saves, and how.
 fn saving_of<'a>(words: &ArgMatches<'a>) -> Result<Saving<'a>, Bad>
     ensures { IsRead result (AsksToSave (words_in words.now)) }
 {
     Ok(Saving {
         path: path_of(words)?,
+        key: key_if(words)?,
+        mtype: wanted_type(words)?,
+        except: has_word(words, "except"),
+        nosync: has_flag(words, "nosync"),
         wait: time_if(words, "wait")?,
     })
 }
@@ -965,6 +969,19 @@ fn key(words: &ArgMatches<'_>) -> Result<i32, Bad>
     match word_in(words, "key") {
         Some(word) => key_of(word.as_bytes()).ok_or(invalid("key", KEY)),
         None => Err(invalid("key", KEY)),
+    }
+}
+
+/// Returns the key that an option has, if the command has it.
+fn key_if(words: &ArgMatches<'_>) -> Result<Option<i32>, Bad>
+    ensures { IsRead result (HasMaybe IsKey (word_of (words_in words.now) (codes "key"))) }
+{
+    match word_in(words, "key") {
+        Some(word) => match key_of(word.as_bytes()) {
+            Some(key) => Ok(Some(key)),
+            None => Err(invalid("key", KEY)),
+        },
+        None => Ok(None),
     }
 }
 

@@ -524,15 +524,47 @@ Example:
 
 const SAVE: Known = Known {
     name: "save",
-    about: "Prints all queues and takes their messages; the server needs --hold",
+    about: "Prints queues and takes their messages; the server needs --hold",
     example: "\
 Each queue is a JSON object, followed by its messages as `rcv --json` prints
-them. A message is taken only once it is printed whole.
+them. A message is taken only once it is printed whole and, if standard output
+is a file, synced.
 
 Example:
   $ sysvmsg save ./q --uid 0 > queues",
-    arguments: &[SERVER, WAIT, ME, USER, GROUP, PROCESS],
-    groups: &[],
+    arguments: &[
+        SERVER,
+        (
+            "key",
+            Form::Value("KEY"),
+            "Saves one queue [default: all queues]",
+        ),
+        (
+            "type",
+            Form::Value("N"),
+            "Takes those of type N, 1 to 9223372036854775807",
+        ),
+        (
+            "upto",
+            Form::Value("N"),
+            "Takes those of types up to N, the lowest type first",
+        ),
+        ("except", Form::Value("N"), "Takes those of any type but N"),
+        (
+            "nosync",
+            Form::Flag,
+            "Does not sync the file, which is faster",
+        ),
+        WAIT,
+        ME,
+        USER,
+        GROUP,
+        PROCESS,
+    ],
+    groups: &[Group {
+        of: &["type", "upto", "except"],
+        required: false,
+    }],
     usage: None,
 };
 

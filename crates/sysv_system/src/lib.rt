@@ -15,6 +15,6 @@ mod watched;
 pub use clock::{present_millis, present_seconds};
 pub use doorbell::{Doorbell, Ring};
 pub use libc::{EAGAIN, ECONNABORTED, EMFILE, ENOMEM, EPERM};
-pub use process::{group, number, open_files, user};
+pub use process::{group, number, open_files, sync_output, user};
 pub use waits::{Event, MOST_LISTENERS, Several, await_any, await_event, pause};
 pub use watched::Watched;

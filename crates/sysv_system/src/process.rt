@@ -1,6 +1,6 @@
 //! What the system tells a process about itself.
 use libc::types::rlimit;
-use libc::{RLIMIT_NOFILE, getegid, geteuid, getpid, getrlimit};
+use libc::{RLIMIT_NOFILE, STDOUT_FILENO, fsync, getegid, geteuid, getpid, getrlimit};
 
 /// Returns the effective user ID of the process.
 pub fn user() -> u32 {
@@ -27,4 +27,10 @@ pub fn open_files() -> Option<u64> {
         return None;
     }
     Some(limit.rlim_cur)
+}
+
+/// Waits until what was written to the file on standard output has reached its device. Returns
+/// whether it has.
+pub fn sync_output() -> bool {
+    fsync(STDOUT_FILENO) == 0
 }

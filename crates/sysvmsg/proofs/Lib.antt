@@ -1,3 +1,4 @@
 pub mod Lines
 pub mod Served
+pub mod Told
 pub mod MadeSockets

@@ -1,18 +1,19 @@
-//! The process that the program runs in. Each method makes one call of the system, of which no
-//! contract says what it returns.
+//! The process that the program runs in. Each method makes at most one call of the system, of which
+//! no contract says what it returns.
 use std::env::Env;
-use std::io::IsTerminal;
 use std::{env, io};
 use sysv_options::{NoWords, Process};
 
 /// The process that the program runs in.
 #[derive(Clone, Copy)]
-pub(crate) struct System<'a> {
-    /// The runtime, which knows its words, its environment and its streams.
-    pub(crate) rt: &'a HostRuntime,
+pub(crate) struct System<'a, R> {
+    /// The runtime, which knows its words and its environment.
+    pub(crate) rt: &'a R,
+    /// Whether its standard output is a terminal.
+    pub(crate) is_terminal: bool,
 }
 
-impl Process for System<'_> {
+impl<R: Env + AllocGlobal> Process for System<'_, R> {
     ghost use Rattle.std.specs.Prelude.{⊤};
 
     ghost tells = { λ _ _. ⊤ };
@@ -49,7 +50,7 @@ impl Process for System<'_> {
     }
 
     fn is_terminal(&self) -> bool {
-        self.rt.stdout().is_terminal()
+        self.is_terminal
     }
 
     fn open_files(&self) -> Option<u64> {

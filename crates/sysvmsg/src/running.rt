@@ -1,14 +1,17 @@
 //! What the program does, by its words, its surroundings and its streams.
-ghost use Rattle.std.specs.Prelude.{◌≡◌, map, string_bytes};
+ghost use Rattle.std.specs.Prelude.{◌≡◌, ◌⊎◌, map, string_bytes};
 ghost use Rattle.clap.specs.Values.{kind_of};
 ghost use Rattle.sysv_connect.specs.Ends.{Fails, Succeeds};
 ghost use Rattle.sysv_options.specs.Asked.{IsWithinLimits};
-ghost use Rattle.sysvmsg.specs.Running.{Answers, AnswersWords, EndsIn, IsHelp};
+ghost use Rattle.sysvmsg.specs.Running.{Answers, AnswersWords, EndsIn, IsHelp, asked_by};
+ghost use Rattle.sysvmsg.specs.Running.{ShowsText, TellsError, TellsNoWords, TellsRefused};
 
 use crate::scripts::answer_script;
 use crate::serving::{OnSockets, serve_on_sockets};
 use clap::Error;
 use clap::error::ErrorKind;
+use std::alloc::Global;
+use std::fmt::Display;
 use std::io::{Eprint, Read, Write};
 use std::net::Net;
 use std::os::fd::AsRawFd;
@@ -16,10 +19,10 @@ use std::process::ExitCode;
 use std::rt::Files;
 use std::sync::Wait;
 use std::thread::Threads;
-use sysv_clients::Command;
+use sysv_clients::{Command, Durable};
 use sysv_connect::{
-    Contact, How, Link, Looking, Place, Progress, Screen, Telling, Visit, load_at, look_at, run_as,
-    save_at, say,
+    Contact, How, Link, Looking, Place, Progress, Screen, Telling, Visit, load_at, look_at, put,
+    run_as, save_at, say,
 };
 use sysv_options::{
     Asked, NoWords, Process, Serving, Surroundings, credentials, no_text, read_words, surroundings,
@@ -29,17 +32,20 @@ use sysv_options::{
 /// The exit status if the command line is not valid.
 const NOT_UNDERSTOOD: u8 = 2;
 
+/// The line of a fault if memory is refused.
+const NO_MEMORY: &str = "sysvmsg: no memory\n";
+
 /// Runs the program in this process, with the words and the surroundings that the system tells it.
 /// It reads `input`, connects through `place`, serves by `server`, and shows on `screen`. It has no
 /// other way to connect or to serve: only `serve_on_sockets` can use what `server` has. Returns the
 /// exit status.
 pub(crate) fn exit_of<
     Own: Process,
-    R: Print + Eprint + AllocGlobal,
+    R: Eprint + AllocGlobal,
     I: Read + AsRawFd + Drop,
     P: Place,
     V: Files + Net + Threads + Wait + Sync + Eprint + AllocGlobal + Clone + Drop,
-    S: Write,
+    S: Durable,
 >(
     process: &Own,
     rt: &R,
@@ -50,24 +56,32 @@ pub(crate) fn exit_of<
 ) -> ExitCode
     ensures { EndsIn P.Input.remaining P.Output.contents P.incoming P.outgoing P.refuses
         (Own.tells process.now) place result (I.remaining input)
-        (S.contents screen.old.writer) (S.contents screen.new.writer) }
+        (S.contents screen.old.writer) (S.contents screen.new.writer)
+        (S.synced screen.new.writer) }
 {
     let around = surroundings(process);
     match process.words() {
         Ok(words) => run(rt, words.as_slice(), &around, input, place, server, screen).exit,
-        Err(why) => refuse(rt, why, &around),
+        Err(why) => refuse(rt, why, &around, screen),
     }
 }
 
 /// Tells why the words of the command line cannot be read. Returns the status of that.
-fn refuse(rt: &(impl Print + Eprint + AllocGlobal), why: NoWords, around: &Surroundings) -> ExitCode
-    ensures { Fails result }
+fn refuse<S: Write>(
+    rt: &(impl Eprint + AllocGlobal),
+    why: NoWords,
+    around: &Surroundings,
+    screen: &mut Screen<S>,
+) -> ExitCode
+    ensures fails { Fails result }
+    ensures told { TellsNoWords around.now why (S.contents screen.old.writer)
+        (S.contents screen.new.writer) }
 {
     match why {
-        NoWords::NoMemory => say(rt, "no memory"),
+        NoWords::NoMemory => say(screen, NO_MEMORY),
         NoWords::NoText => {
             let asked = telling(Telling::Line, around);
-            tell(rt, &no_text(rt.alloc()), asked)
+            tell(rt, &no_text(rt.alloc()), asked, screen)
         }
     }
 }
@@ -75,11 +89,11 @@ fn refuse(rt: &(impl Print + Eprint + AllocGlobal), why: NoWords, around: &Surro
 /// Runs the program with these words, the first of which is its name. A client connects to its
 /// server through `place`, and a server serves by `server`.
 fn run<
-    R: Print + Eprint + AllocGlobal,
+    R: Eprint + AllocGlobal,
     I: Read + AsRawFd + Drop,
     P: Place,
     V: Files + Net + Threads + Wait + Sync + Eprint + AllocGlobal + Clone + Drop,
-    S: Write,
+    S: Durable,
 >(
     rt: &R,
     words: &[String],
@@ -90,14 +104,15 @@ fn run<
     screen: &mut Screen<S>,
 ) -> Visit<P, Link<P::Input, P::Output>>
     ensures { AnswersWords P.Input.remaining P.Output.contents P.incoming P.outgoing P.refuses
-        around.now place (map string_bytes words.now) result.exit (I.remaining input)
-        (S.contents screen.old.writer) (S.contents screen.new.writer) result.contact }
+        around.now place (S.synced screen.new.writer) (map string_bytes words.now) result.exit
+        (I.remaining input) (S.contents screen.old.writer) (S.contents screen.new.writer)
+        result.contact }
 {
     match read_words(rt.alloc(), words) {
         Ok(asked) => answer(rt, asked, around, input, place, server, screen),
         Err(error) => {
             let asked = telling(telling_of(words), around);
-            unused(tell(rt, &error, asked), place)
+            unused(tell(rt, &error, asked, screen), place)
         }
     }
 }
@@ -115,11 +130,11 @@ fn unused<P, C>(exit: ExitCode, place: P) -> Visit<P, C>
 
 /// Does what the words ask for.
 fn answer<
-    R: Print + Eprint + AllocGlobal,
+    R: Eprint + AllocGlobal,
     I: Read + AsRawFd + Drop,
     P: Place,
     V: Files + Net + Threads + Wait + Sync + Eprint + AllocGlobal + Clone + Drop,
-    S: Write,
+    S: Durable,
 >(
     rt: &R,
     asked: Asked<'_, Serving<'_>>,
@@ -131,7 +146,7 @@ fn answer<
 ) -> Visit<P, Link<P::Input, P::Output>>
     requires { IsWithinLimits asked }
     ensures { Answers P.Input.remaining P.Output.contents P.incoming P.outgoing P.refuses
-        around.now place asked.entry result.exit (I.remaining input)
+        around.now place (S.synced screen.new.writer) asked.entry result.exit (I.remaining input)
         (S.contents screen.old.writer) (S.contents screen.new.writer) result.contact }
 {
     match asked {
@@ -181,36 +196,82 @@ fn answer<
 }
 
 /// Returns how the words ask that faults are told: by a sentence if one before `--` is `--stderr`.
-fn telling_of(words: &[String]) -> Telling {
+fn telling_of(words: &[String]) -> Telling
+    ensures { result ≡ asked_by (map string_bytes words.now) }
+{
     for word in words {
-        match word.as_str() {
-            "--" => return Telling::Line,
-            "--stderr" => return Telling::Sentence,
-            _ => {}
+        if word.as_str() == "--" {
+            return Telling::Line;
+        }
+        if word.as_str() == "--stderr" {
+            return Telling::Sentence;
         }
     }
     Telling::Line
 }
 
-/// Prints why a command line is not valid, or the help or the version that it requests. The former
-/// is printed on standard output, on standard error, or on both.
-fn tell(rt: &(impl Print + Eprint), error: &Error, telling: Telling) -> ExitCode
-    ensures { Succeeds result → IsHelp (kind_of error.now) }
+/// Shows why a command line is not valid, or the help or the version that it requests. The former
+/// is shown on the screen, on standard error, or on both.
+fn tell<S: Write>(
+    rt: &(impl Eprint + AllocGlobal),
+    error: &Error,
+    telling: Telling,
+    screen: &mut Screen<S>,
+) -> ExitCode
+    ensures help { Succeeds result → IsHelp (kind_of error.now) }
+    ensures told { TellsRefused telling (kind_of error.now) (S.contents screen.old.writer)
+        (S.contents screen.new.writer) }
 {
     match error.kind() {
-        ErrorKind::OutOfMemory => say(rt, "no memory"),
+        ErrorKind::OutOfMemory => say(screen, NO_MEMORY),
         ErrorKind::DisplayHelp | ErrorKind::DisplayVersion => {
-            let _ = rt.print(error);
-            ExitCode::SUCCESS
+            show(rt.alloc(), error, ExitCode::SUCCESS, screen)
         }
         _ => {
-            if telling.has_line() {
-                let _ = rt.print(error);
-            }
+            let exit = show_error(rt, error, telling, screen);
             if telling.has_sentence() {
                 let _ = eprint!(rt; "{error}");
             }
-            ExitCode::from(NOT_UNDERSTOOD)
+            exit
         }
+    }
+}
+
+/// Shows why a command line is not valid, if faults are told by lines. Returns the status of that.
+fn show_error<S: Write>(
+    rt: &impl AllocGlobal,
+    error: &Error,
+    telling: Telling,
+    screen: &mut Screen<S>,
+) -> ExitCode
+    ensures fails { Fails result }
+    ensures told { TellsError telling (S.contents screen.old.writer)
+        (S.contents screen.new.writer) }
+{
+    let exit = ExitCode::from(NOT_UNDERSTOOD);
+    match telling {
+        Telling::Line | Telling::Both => show(rt.alloc(), error, exit, screen),
+        Telling::Sentence => exit,
+    }
+}
+
+/// Shows a text on the screen and returns this status. If memory for the text is refused, that is
+/// told in its place.
+fn show<D: Display, S: Write>(
+    alloc: Global,
+    text: &D,
+    exit: ExitCode,
+    screen: &mut Screen<S>,
+) -> ExitCode
+    ensures status { (result ≡ exit) ⊎ Fails result }
+    ensures shown { ShowsText (D.output text.now) (S.contents screen.old.writer)
+        (S.contents screen.new.writer) }
+{
+    match format!(in alloc; "{text}") {
+        Ok(text) => {
+            put(screen, text.as_str().as_bytes());
+            exit
+        }
+        Err(_) => say(screen, NO_MEMORY),
     }
 }

@@ -17,7 +17,8 @@ use std::io;
 use std::io::{ErrorKind, Read, Write};
 use std::process::Abort;
 use sysv_clients::{
-    Command, Form, Format, ReadAhead, Receipt, Target, Task, id_of, key_of, run_client, type_of,
+    Command, Durable, Form, Format, ReadAhead, Receipt, Target, Task, id_of, key_of, run_client,
+    type_of,
 };
 use sysv_model::{BODY_ROOM, Cred};
 
@@ -38,6 +39,10 @@ struct Tape {
     flushes: usize,
     /// How often it was flushed.
     flushed: usize,
+    /// How often it can be synced.
+    syncs: usize,
+    /// How often it was synced.
+    synced: usize,
 }
 
 impl Tape {
@@ -54,6 +59,8 @@ impl Tape {
             piece: usize::MAX,
             flushes: usize::MAX,
             flushed: 0,
+            syncs: usize::MAX,
+            synced: 0,
         }
     }
 
@@ -113,6 +120,20 @@ impl Write for Tape {
             return Err(io::Error::from(ErrorKind::BrokenPipe));
         }
         self.flushed = self.flushed.saturating_add(1);
+        Ok(())
+    }
+}
+
+impl Durable for Tape {
+    ghost use Rattle.std.specs.Prelude.{None};
+
+    ghost synced = { λ _. None };
+
+    fn sync(&mut self) -> io::Result<()> {
+        if self.synced >= self.syncs {
+            return Err(io::Error::from(ErrorKind::StorageFull));
+        }
+        self.synced = self.synced.saturating_add(1);
         Ok(())
     }
 }

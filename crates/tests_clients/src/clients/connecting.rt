@@ -106,7 +106,7 @@ fn make_desk<'a>(
 /// Runs a client with this task, and returns how it ends. Tolerates one refusal of memory, after
 /// which nothing was requested.
 fn run(
-    rt: &(impl Print + Eprint + AllocGlobal + Abort),
+    rt: &(impl Eprint + AllocGlobal + Abort),
     dialogue: &mut Dialogue,
     input: &mut Tape,
     task: Task<'_>,
@@ -126,7 +126,7 @@ fn run(
 /// Runs a client with this command at the place of a server, with an empty screen. Returns how it
 /// ends.
 fn run_once(
-    rt: &(impl Print + Eprint + AllocGlobal + Abort),
+    rt: &(impl Eprint + AllocGlobal + Abort),
     dialogue: &mut Dialogue,
     input: &mut Tape,
     command: &Command<'_>,
@@ -143,7 +143,7 @@ fn run_once(
 
 /// Runs a client with this command at a place. Returns how it ends.
 fn exit_of<P: Place>(
-    rt: &(impl Print + Eprint + AllocGlobal),
+    rt: &(impl Eprint + AllocGlobal),
     input: &mut Tape,
     place: P,
     command: &Command<'_>,
@@ -277,12 +277,15 @@ fn a_client_without_a_server_fails(rt: HostRuntime) {
     let (exit, is_made) = contact_of(&rt, &mut input, place, &command, &mut screen);
     assert_is(&rt, exit, ExitCode::from(FAULT));
     assert_is(&rt, is_made, false);
+    let shown = screen.writer.text();
+    let is_told = shown == b"sysvmsg: no server\n".as_slice();
+    assert!(&rt; is_told || shown == b"sysvmsg: no memory\n".as_slice());
 }
 
 /// Runs a client with this command at a place. Returns how it ends, and whether a connection was
 /// made.
 fn contact_of<P: Place>(
-    rt: &(impl Print + Eprint + AllocGlobal),
+    rt: &(impl Eprint + AllocGlobal),
     input: &mut Tape,
     place: P,
     command: &Command<'_>,
@@ -298,7 +301,7 @@ fn contact_of<P: Place>(
 const STATE: &[u8] = b"sysvmsg_sessions_open 3\n";
 
 /// Shows the state of a server as a JSON object, and returns how that ends.
-fn look(rt: &(impl Print + Eprint + AllocGlobal + Abort), dialogue: &mut Dialogue) -> ExitCode {
+fn look(rt: &(impl Eprint + AllocGlobal + Abort), dialogue: &mut Dialogue) -> ExitCode {
     let looking = Looking {
         path: "./q.stats",
         json: true,
@@ -314,7 +317,7 @@ fn look(rt: &(impl Print + Eprint + AllocGlobal + Abort), dialogue: &mut Dialogu
 
 /// Shows the state of the server at a place, and returns how that ends.
 fn exit_of_look<P: Place>(
-    rt: &(impl Print + Eprint + AllocGlobal),
+    rt: &(impl Eprint + AllocGlobal),
     place: P,
     looking: &Looking<'_>,
     screen: &mut Screen<Tape>,
@@ -338,7 +341,14 @@ fn a_state_is_requested_and_shown(rt: HostRuntime) {
 #[test]
 fn a_fault_is_reported(rt: HostRuntime) {
     complain(&rt, "./q", &io::Error::from(ErrorKind::NotFound), "");
-    assert_is(&rt, say(&rt, "no server"), ExitCode::from(FAULT));
+    let mut screen = Tape::new(&rt, rt.alloc());
+    let exit = say(&mut screen, "sysvmsg: no server\n");
+    assert_is(&rt, exit, ExitCode::from(FAULT));
+    assert_is(
+        &rt,
+        screen.text() == b"sysvmsg: no server\n".as_slice(),
+        true,
+    );
 }
 
 #[test]

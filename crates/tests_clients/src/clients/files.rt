@@ -1,8 +1,8 @@
 //! Queues that a client saves, and a file of queues that it loads.
 use super::*;
 use sysv_clients::{
-    ClientFault, Cut, Feed, Loading, Refusal, Unfit, Unheld, Unloaded, load_feed, load_lines,
-    save_all, save_instrumented,
+    ClientFault, Cut, Feed, Journal, Loading, Refusal, Saving, Unfit, Unheld, Unloaded, load_feed,
+    load_lines, save_all, save_instrumented,
 };
 use sysv_model::{Errno, Instrumented};
 
@@ -53,6 +53,29 @@ const LINE: &[u8] =
 
 const MESSAGE: &[u8] = b"{\"type\":5,\"body\":\"abc\"}\n";
 
+/// The get of key 7, and the reply that its queue has identifier 64, or that there is none.
+const FIND: &[u8] = b"\0\0\0\x0a\x03\x01\0\0\0\x07\0\0\0\0";
+
+const FOUND: &[u8] = b"\0\0\0\x07\x03\x01\0\0\0\0\x40";
+
+const NOT_FOUND: &[u8] = b"\0\0\0\x03\x03\x01\x02";
+
+/// The hold with type 5 and MSG_EXCEPT, and that with type -5.
+const HOLD_OTHER: &[u8] =
+    b"\0\0\0\x1a\x03\x08\0\0\0\x40\0\0\x20\0\0\0\0\0\0\0\0\x05\0\0\x28\0\0\0\0\0";
+
+const HOLD_UPTO: &[u8] =
+    b"\0\0\0\x1a\x03\x08\0\0\0\x40\0\0\x20\0\xff\xff\xff\xff\xff\xff\xff\xfb\0\0\x08\0\0\0\0\0";
+
+/// A save of all queues.
+const SAVING: Saving = Saving {
+    cred: WHO,
+    key: None,
+    mtype: 0,
+    except: false,
+    syncs: true,
+};
+
 /// A queue that is refused.
 const REFUSED: Refusal = Refusal {
     id: 64,
@@ -62,11 +85,12 @@ const REFUSED: Refusal = Refusal {
 /// No memory for what a client needs.
 const NO_MEMORY: Result<(), Unheld> = Err(Unheld::Fault(ClientFault::NoMemory));
 
-/// Asserts how a save ends with these replies, what it requests, what it writes, and which refusal
-/// it returns.
+/// Asserts how a save ends with these replies, what it requests, what it writes and syncs, and which
+/// refusal it returns.
 fn assert_saves(
     rt: &impl Abort,
     alloc: Global,
+    saving: &Saving,
     replies: &[&[u8]],
     ended: Result<(), Unheld>,
     asked: &[&[u8]],
@@ -77,7 +101,7 @@ fn assert_saves(
     let mut refusals = Vec::new(alloc);
     let outcome = save_all(
         alloc,
-        WHO,
+        saving,
         &mut dialogue.replies,
         &mut dialogue.requests,
         &mut dialogue.screen,
@@ -90,6 +114,8 @@ fn assert_saves(
         dialogue.assert_requests(rt, alloc, asked);
         let wanted = joined(rt, alloc, lines);
         assert_is(rt, dialogue.screen.text(), wanted.text());
+        let synced = if saving.syncs { lines.len() } else { 0 };
+        assert_is(rt, dialogue.screen.synced, synced);
     }
 }
 
@@ -110,7 +136,16 @@ fn queues_are_written_and_their_messages_taken(rt: HostRuntime) {
         SECOND_ROW,
     ];
     let lines: &[&[u8]] = &[FORMAT, LINE, MESSAGE, MESSAGE];
-    assert_saves(&rt, rt.alloc(), replies, Ok(()), asked, lines, None);
+    assert_saves(
+        &rt,
+        rt.alloc(),
+        &SAVING,
+        replies,
+        Ok(()),
+        asked,
+        lines,
+        None,
+    );
 }
 
 #[test]
@@ -118,11 +153,29 @@ fn a_queue_that_is_refused_is_returned(rt: HostRuntime) {
     let alloc = rt.alloc();
     let replies: &[&[u8]] = &[SLOTS, QUEUE, NO_STAT, VACANT];
     let asked: &[&[u8]] = &[HELLO_TO_SAVE, FIRST_ROW, STAT, SECOND_ROW];
-    assert_saves(&rt, alloc, replies, Ok(()), asked, &[FORMAT], Some(REFUSED));
+    assert_saves(
+        &rt,
+        alloc,
+        &SAVING,
+        replies,
+        Ok(()),
+        asked,
+        &[FORMAT],
+        Some(REFUSED),
+    );
     let replies: &[&[u8]] = &[SLOTS, QUEUE, ATTRIBUTES, NO_HOLD, VACANT];
     let asked: &[&[u8]] = &[HELLO_TO_SAVE, FIRST_ROW, STAT, HOLD, SECOND_ROW];
     let lines: &[&[u8]] = &[FORMAT, LINE];
-    assert_saves(&rt, alloc, replies, Ok(()), asked, lines, Some(REFUSED));
+    assert_saves(
+        &rt,
+        alloc,
+        &SAVING,
+        replies,
+        Ok(()),
+        asked,
+        lines,
+        Some(REFUSED),
+    );
 }
 
 #[test]
@@ -131,7 +184,60 @@ fn a_done_without_a_reply_ends_a_save(rt: HostRuntime) {
     let asked: &[&[u8]] = &[HELLO_TO_SAVE, FIRST_ROW, STAT, HOLD, DONE];
     let lines: &[&[u8]] = &[FORMAT, LINE, MESSAGE];
     let ended = Err(Unheld::Undone(ClientFault::NoReply));
-    assert_saves(&rt, rt.alloc(), replies, ended, asked, lines, None);
+    assert_saves(&rt, rt.alloc(), &SAVING, replies, ended, asked, lines, None);
+}
+
+#[test]
+fn the_messages_of_one_queue_are_saved(rt: HostRuntime) {
+    let alloc = rt.alloc();
+    let part = Saving {
+        key: Some(7),
+        mtype: -5,
+        syncs: false,
+        ..SAVING
+    };
+    let replies: &[&[u8]] = &[SLOTS, FOUND, ATTRIBUTES, HELD, SPENT, NONE_LEFT];
+    let asked: &[&[u8]] = &[HELLO_TO_SAVE, FIND, STAT, HOLD_UPTO, DONE, HOLD_UPTO];
+    let lines: &[&[u8]] = &[FORMAT, LINE, MESSAGE];
+    assert_saves(&rt, alloc, &part, replies, Ok(()), asked, lines, None);
+    let ended = Err(Unheld::Fault(ClientFault::Refused(Errno::ENOENT)));
+    let replies: &[&[u8]] = &[SLOTS, NOT_FOUND];
+    let asked: &[&[u8]] = &[HELLO_TO_SAVE, FIND];
+    assert_saves(&rt, alloc, &part, replies, ended, asked, &[FORMAT], None);
+}
+
+#[test]
+fn the_messages_of_other_types_are_saved(rt: HostRuntime) {
+    let part = Saving {
+        mtype: 5,
+        except: true,
+        ..SAVING
+    };
+    let replies: &[&[u8]] = &[SLOTS, QUEUE, ATTRIBUTES, NONE_LEFT, VACANT];
+    let asked: &[&[u8]] = &[HELLO_TO_SAVE, FIRST_ROW, STAT, HOLD_OTHER, SECOND_ROW];
+    let lines: &[&[u8]] = &[FORMAT, LINE];
+    assert_saves(&rt, rt.alloc(), &part, replies, Ok(()), asked, lines, None);
+}
+
+/// Asserts that a save ends at the first message, since this screen fails at it, and requests
+/// nothing more.
+fn assert_not_done(rt: &impl Abort, alloc: Global, dialogue: &mut Dialogue) {
+    let mut refusals = Vec::new(alloc);
+    let mut screen = Journal::new(&mut dialogue.screen);
+    let outcome = save_instrumented(
+        alloc,
+        &SAVING,
+        &mut dialogue.replies,
+        &mut Instrumented::new(&mut dialogue.requests),
+        &mut screen,
+        &mut refusals,
+    );
+    if outcome != NO_MEMORY {
+        assert_is(rt, matches!(outcome, Err(Unheld::Screen(_))), true);
+        assert_is(rt, screen.failures(), 1);
+        let asked: &[&[u8]] = &[HELLO_TO_SAVE, FIRST_ROW, STAT, HOLD];
+        dialogue.assert_requests(rt, alloc, asked);
+    }
 }
 
 #[test]
@@ -139,20 +245,15 @@ fn a_message_that_is_not_written_is_not_done_by_a_save(rt: HostRuntime) {
     let replies: &[&[u8]] = &[SLOTS, QUEUE, ATTRIBUTES, HELD, SPENT];
     let mut dialogue = Dialogue::new(&rt, rt.alloc(), replies);
     dialogue.screen.good = FORMAT.len() + LINE.len() + 3;
-    let mut refusals = Vec::new(rt.alloc());
-    let outcome = save_instrumented(
-        rt.alloc(),
-        WHO,
-        &mut dialogue.replies,
-        &mut Instrumented::new(&mut dialogue.requests),
-        &mut Instrumented::new(&mut dialogue.screen),
-        &mut refusals,
-    );
-    if outcome != NO_MEMORY {
-        assert_is(&rt, matches!(outcome, Err(Unheld::Screen(_))), true);
-        let asked: &[&[u8]] = &[HELLO_TO_SAVE, FIRST_ROW, STAT, HOLD];
-        dialogue.assert_requests(&rt, rt.alloc(), asked);
-    }
+    assert_not_done(&rt, rt.alloc(), &mut dialogue);
+}
+
+#[test]
+fn a_message_that_is_not_synced_is_not_done_by_a_save(rt: HostRuntime) {
+    let replies: &[&[u8]] = &[SLOTS, QUEUE, ATTRIBUTES, HELD, SPENT];
+    let mut dialogue = Dialogue::new(&rt, rt.alloc(), replies);
+    dialogue.screen.syncs = 2;
+    assert_not_done(&rt, rt.alloc(), &mut dialogue);
 }
 
 /// The msgget of key 7 with IPC_CREAT, IPC_EXCL and mode 0640; the set of identifier 64 to user

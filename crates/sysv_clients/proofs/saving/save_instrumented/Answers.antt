@@ -2,4 +2,4 @@ use Rattle.sysv_clients.proofs.SaveLemmas.{refused}
 use Rattle.sysv_clients.proofs.saving.save_instrumented.Goals as goal
 
 pub returns-in-Err-clause-saves : goal.returns-in-Err-clause-saves
-returns-in-Err-clause-saves g c = refused c.args.cred _ _ _ _
+returns-in-Err-clause-saves g c = refused c.args.saving.now _ _ _ _

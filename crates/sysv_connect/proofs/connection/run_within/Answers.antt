@@ -4,7 +4,9 @@ use Rattle.sysv_connect.proofs.EndLemmas.{has_run, run_refused}
 use Rattle.sysv_connect.proofs.connection.run_within.Goals as goal
 
 pub returns-in_default : goal.returns-in_default
-returns-in_default g c = run_refused c.args.command.now c.no_memory.result _ _ _ c.no_memory.ensures
+returns-in_default g c =
+    run_refused c.args.command.now c.no_memory.result c.args.teller.now.telling _ _ _ _ c.no_memory.ensures.fails
+    c.no_memory.ensures.told
 
 pub returns : goal.returns
 returns g c =

@@ -5,9 +5,11 @@ use Rattle.std.specs.declared.process.ExitCode.{ExitCode}
 use Rattle.sysv_connect.specs.Clients.{IsDone, IsUnmade}
 use Rattle.sysv_connect.specs.declared.how.Telling.{Telling}
 use Rattle.sysv_connect.specs.Ends.{Fails}
-use Rattle.sysv_connect.specs.Files.{Loads, Saves, loading_of}
+use Rattle.sysv_connect.specs.Files.{Loads, Saves, loading_of, saving_of}
 use Rattle.sysv_connect.specs.Links.{left_by, taken_by}
 use Rattle.sysv_connect.specs.Several.{way_by}
+use Rattle.sysv_connect.specs.Stats.{HasLooked}
+use Rattle.sysv_connect.specs.Telling.{TellsUnmade}
 use Rattle.sysv_connect.specs.Visits.{Visited}
 use Rattle.sysv_model.specs.declared.cred.Cred.{Cred}
 use Rattle.sysv_options.specs.Who.{stated_by}
@@ -41,7 +43,8 @@ returns-in-Client g c =
       subst (λ (told : Telling).
           let how = record c.in-Client.how { telling = told } in
           let cred = stated_by c.in-Client.who c.args.around.now in
-          Visited (g.P.Place.refuses c.args.place path) c.args.place (IsUnmade how exit fed unfed shown after)
+          Visited (g.P.Place.refuses c.args.place path) c.args.place
+          (λ refused. IsUnmade (way_by cred task how) how exit refused fed unfed shown after)
           (λ link.
           IsDone (way_by cred task how) cred task how exit (g.P.Place.incoming c.args.place path)
           (left_by g.P.Input.Read.remaining link) (g.P.Place.outgoing c.args.place path)
@@ -49,7 +52,8 @@ returns-in-Client g c =
           c.telling-in-Client.ensures
           (subst (λ (cred : Cred).
           let how = record c.in-Client.how { telling = c.telling-in-Client.result } in
-          Visited (g.P.Place.refuses c.args.place path) c.args.place (IsUnmade how exit fed unfed shown after)
+          Visited (g.P.Place.refuses c.args.place path) c.args.place
+          (λ refused. IsUnmade (way_by cred task how) how exit refused fed unfed shown after)
           (λ link.
           IsDone (way_by cred task how) cred task how exit (g.P.Place.incoming c.args.place path)
           (left_by g.P.Input.Read.remaining link) (g.P.Place.outgoing c.args.place path)
@@ -58,13 +62,31 @@ returns-in-Client g c =
           (subst (λ (fed : Option (List ℕ)).
           let how = record c.in-Client.how { telling = c.telling-in-Client.result } in
           let cred = c.credentials-in-Client.result in
-          Visited (g.P.Place.refuses c.args.place path) c.args.place (IsUnmade how exit fed unfed shown after)
+          Visited (g.P.Place.refuses c.args.place path) c.args.place
+          (λ refused. IsUnmade (way_by cred task how) how exit refused fed unfed shown after)
           (λ link.
           IsDone (way_by cred task how) cred task how exit (g.P.Place.incoming c.args.place path)
           (left_by g.P.Input.Read.remaining link) (g.P.Place.outgoing c.args.place path)
           (taken_by g.P.Output.Write.contents link) fed unfed shown after) c.run_as.result.contact)
           (ap g.I.Read.remaining c.new-input.ensures) c.run_as.ensures)),
     )
+
+pub returns-in-Look : goal.returns-in-Look
+returns-in-Look g c =
+    let path = c.in-Look.looking.path.now in
+    let json = c.in-Look.looking.json in
+    let exit = c.look_at.result.exit in
+    let shown = g.S.Write.contents c.args.screen.now.writer in
+    let after = g.S.Write.contents c.look_at.new.screen.writer in
+    rw c.in-Look.is
+    (subst (λ (told : Telling).
+    Visited (g.P.Place.refuses c.args.place path) c.args.place
+    (λ refused. Fails exit × TellsUnmade told refused shown after)
+    (λ link.
+    HasLooked told json exit (g.P.Place.incoming c.args.place path) (left_by g.P.Input.Read.remaining link)
+    (g.P.Place.outgoing c.args.place path) (taken_by g.P.Output.Write.contents link) shown after)
+    c.look_at.result.contact)
+    c.telling.ensures c.look_at.ensures)
 
 pub returns-in-Save : goal.returns-in-Save
 returns-in-Save g c =
@@ -74,10 +96,11 @@ returns-in-Save g c =
     let after = g.S.Write.contents c.save_at.new.screen.writer in
     rw c.in-Save.is
     (subst (λ (cred : Cred).
-    Visited (g.P.Place.refuses c.args.place path) c.args.place (Fails exit × (after ≡ shown))
+    Visited (g.P.Place.refuses c.args.place path) c.args.place (λ _. Fails exit × (after ≡ shown))
     (λ link.
-    Saves cred exit (g.P.Place.incoming c.args.place path) (left_by g.P.Input.Read.remaining link)
-    (g.P.Place.outgoing c.args.place path) (taken_by g.P.Output.Write.contents link) shown after)
+    Saves (saving_of cred c.in-Save.saving) exit (g.P.Place.incoming c.args.place path)
+    (left_by g.P.Input.Read.remaining link) (g.P.Place.outgoing c.args.place path)
+    (taken_by g.P.Output.Write.contents link) shown after (g.S.Durable.synced c.save_at.new.screen.writer))
     c.save_at.result.contact)
     c.credentials.ensures c.save_at.ensures)
 
@@ -91,7 +114,7 @@ returns-in-Load g c =
       unfed,
       refl,
       subst (λ (cred : Cred).
-          Visited (g.P.Place.refuses c.args.place path) c.args.place (Fails exit × (unfed ≡ fed))
+          Visited (g.P.Place.refuses c.args.place path) c.args.place (λ _. Fails exit × (unfed ≡ fed))
           (λ link.
           Loads (loading_of cred c.in-Load.loading) exit (g.P.Place.incoming c.args.place path)
           (left_by g.P.Input.Read.remaining link) (g.P.Place.outgoing c.args.place path)

@@ -23,5 +23,5 @@ returns-in-Err g c = (
   c.surroundings-around.result,
   c.surroundings-around.ensures,
   Unused c.args.place,
-  inr (c.in-Err.why, c.in-Err.ensures.err, c.refuse.ensures, (refl, refl)),
+  inr (c.in-Err.why, c.in-Err.ensures.err, c.refuse.ensures.fails, refl, c.refuse.ensures.told),
 )
