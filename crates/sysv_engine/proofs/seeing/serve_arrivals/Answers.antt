@@ -15,7 +15,7 @@ use Rattle.sysv_engine.proofs.SumsOfSessions.{balanced}
 use Rattle.sysv_engine.proofs.seeing.serve_arrivals.Goals as goal
 
 pub serve_seeing-outcome-requires-clause-blocks : goal.serve_seeing-outcome-requires-clause-blocks
-serve_seeing-outcome-requires-clause-blocks g c = c.in-Ok.ensures.open.0.pool.1
+serve_seeing-outcome-requires-clause-blocks g c κs within = c.in-Ok.ensures.open.0.pool.1
 
 pub returns-in-Ok-outcome-clause-ok : goal.returns-in-Ok-outcome-clause-ok
 unfolding lived
