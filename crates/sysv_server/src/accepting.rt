@@ -192,7 +192,7 @@ impl<'a, L: Listens, I: Input + Drop, H: Host> Accepting<'a, L, I, H> {
     }
 
     /// Accepts the next connection. The error is why no more connections are to be accepted.
-    #[tactic(auto, using(sysv_engine::proofs::Looking::looks_stay, crate::proofs::Came::came_on, crate::proofs::Came::came_once, crate::proofs::Came::came_quiet, crate::proofs::Came::came_still, crate::proofs::Came::failed_since))]
+    #[tactic(auto, using(sysv_engine::proofs::Looking::looks_stay, crate::proofs::Came::came_on, crate::proofs::Came::came_once, crate::proofs::Came::came_quiet, crate::proofs::Came::came_still))]
     fn accept<R: Wait>(&mut self, rows: &mut Rows<'_, R>) -> Result<SocketStream, Reason>
         ensures same { (self.new.most ≡ self.old.most) × (self.new.accepted ≡ self.old.accepted)
             × (self.new.reason ≡ self.old.reason) × (self.new.limits ≡ self.old.limits)
@@ -495,7 +495,8 @@ impl<H: Host> Acceptor<'_, '_, H> {
         retries: bool,
     ) -> Result<SocketStream, Reason>
         ensures input { is_some input.new ≡ is_some input.old }
-        ensures ended { IfErr result (EndsWait I.reads L.fails L.steps (is_some input.old) listener.old) }
+        ensures ended { IfErr result (EndsWait I.reads L.fails L.steps (is_some input.old)
+            listener.old) }
         ensures ok { IfOk result (λ stream.
             L.accepted listener.new ≡ added (L.accepted listener.old) (stream ∷ [])) }
         ensures limits { IfOk result (λ stream. limits_of stream ≡ self.now.limits) }
