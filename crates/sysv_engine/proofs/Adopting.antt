@@ -9,7 +9,7 @@ use Rattle.std.proofs.lemmas.List.Sorted.{IsPermutation-append_comm, IsPermutati
 use Rattle.std.proofs.lemmas.List.Sorted.{IsPermutation-append_right, IsPermutation-refl, IsPermutation-trans}
 use Rattle.sysv_bank.specs.Banks.{Each2}
 use Rattle.sysv_workers.specs.Parts.{IsSubsequenceOf}
-use Rattle.sysv_engine.specs.Places.{Adopts, Standing, with_one}
+use Rattle.sysv_places.specs.Places.{Adopts, Standing, with_one}
 
 moved : {T : Type 0} (a h b : List T) (c : T) → IsPermutation (a ++ ((h ++ c ∷ []) ++ b)) ((a ++ (h ++ b)) ++ c ∷ [])
 moved a h b c =

@@ -12,13 +12,13 @@ use Rattle.sysv_seats.specs.Holding.{Message, Timed}
 use Rattle.sysv_seats.specs.Sits.{Sitting}
 use Rattle.sysv_service.specs.Ran.{Pass}
 use Rattle.sysv_seats.specs.Untold.{Closing}
-use Rattle.sysv_engine.specs.Fated.{with_unsent}
-use Rattle.sysv_engine.specs.Handled.{fated_all}
-use Rattle.sysv_engine.specs.Places.{Handled, HasLeft, IsPlace, Seated, SitsOn, Standing, Stands, View, fates_at_end}
-use Rattle.sysv_engine.specs.Places.{has_ended, view_of}
-use Rattle.sysv_engine.proofs.FatesOfSessions.{fated_replied}
-use Rattle.sysv_engine.proofs.Shifts as shifts
-use Rattle.sysv_engine.proofs.Shifts.{folds_last}
+use Rattle.sysv_server_laws.specs.Fated.{with_unsent}
+use Rattle.sysv_server_laws.specs.Handled.{fated_all}
+use Rattle.sysv_places.specs.Places.{Handled, HasLeft, IsPlace, Seated, SitsOn, Standing, Stands, View, fates_at_end}
+use Rattle.sysv_places.specs.Places.{has_ended, view_of}
+use Rattle.sysv_server_laws.proofs.FatesOfSessions.{fated_replied}
+use Rattle.sysv_server_laws.proofs.Shifts as shifts
+use Rattle.sysv_server_laws.proofs.Shifts.{folds_last}
 
 -- A place without a client, and whether what gives back a message was left at it.
 pub record Ending (B : Type 0) : Type 0 where

@@ -7,8 +7,8 @@ use Rattle.sysv_service.specs.Told.{TellsRow}
 use Rattle.sysv_service.specs.Ran.{Pass}
 use Rattle.sysv_engine.specs.declared.rows.Rows.{Rows}
 use Rattle.sysv_engine.specs.declared.seeing.Seeing.{Seeing}
-use Rattle.sysv_engine.specs.Looking as looking
-use Rattle.sysv_engine.specs.Looking.{Looked, LookedBy, ReadsRow}
+use Rattle.sysv_server_laws.specs.Looking as looking
+use Rattle.sysv_server_laws.specs.Looking.{Looked, LookedBy, ReadsRow}
 use Rattle.sysv_engine.specs.Looks.{Follows, Looks}
 
 looked_on : (a b c : Pass) → Looked a b → Looked b c → Looked a c

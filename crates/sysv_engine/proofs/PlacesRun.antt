@@ -12,7 +12,7 @@ use Rattle.sysv_workers.specs.Parts.{AreInOrder, IsSubsequenceOf, Leads, Part}
 use Rattle.sysv_workers.specs.Running.{GivesBack, RunsAll}
 use Rattle.sysv_workers.specs.declared.refusals.WorkersFault.{WorkersFault}
 use Rattle.sysv_workers.specs.declared.refusals.WorkersFault.TheVariants.{BadCount, NoMemory, Thread, Worn, Missed}
-use Rattle.sysv_engine.specs.Places.{Serves, Standing}
+use Rattle.sysv_places.specs.Places.{Serves, Standing}
 use Rattle.sysv_engine.proofs.Adopting.{AllAdopt, HasMore, all_had, alone, each_once, in_order}
 
 sub_trans : {T : Type 0} (xs ys zs : List T) → IsSubsequenceOf xs ys → IsSubsequenceOf ys zs → IsSubsequenceOf xs zs

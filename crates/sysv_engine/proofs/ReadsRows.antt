@@ -9,16 +9,16 @@ use Rattle.sysv_service.specs.Seats.{Gates}
 use Rattle.sysv_thread_laws.specs.Hiring.{Gives, TakesIn}
 use Rattle.sysv_wire.specs.declared.frame.Version.{Version}
 use Rattle.sysv_seats.specs.Untold.{Closing}
-use Rattle.sysv_engine.specs.declared.fault.ServeFault.{ServeFault}
-use Rattle.sysv_engine.specs.declared.fault.ServeFault.TheVariants.{NoMemory, Thread, Worn, Missed}
-use Rattle.sysv_engine.specs.declared.fates.Fates.{Fates}
-use Rattle.sysv_engine.specs.declared.sums.Sums.{Sums}
-use Rattle.sysv_engine.specs.Handled.{Shift, last_passes}
-use Rattle.sysv_engine.specs.Looking.{HiresBy, Looked, LookedBy, SplitsOff, TakesBack}
-use Rattle.sysv_engine.specs.Serving.{HiredFrom, LeavesConnections, WorkedFrom}
-use Rattle.sysv_engine.proofs.Behind as behind
-use Rattle.sysv_engine.proofs.FaultLeaves.{fault_says}
-use Rattle.sysv_engine.proofs.Shifts.{folds_last}
+use Rattle.sysv_server_laws.specs.declared.fault.ServeFault.{ServeFault}
+use Rattle.sysv_server_laws.specs.declared.fault.ServeFault.TheVariants.{NoMemory, Thread, Worn, Missed}
+use Rattle.sysv_server_laws.specs.declared.fates.Fates.{Fates}
+use Rattle.sysv_server_laws.specs.declared.sums.Sums.{Sums}
+use Rattle.sysv_server_laws.specs.Handled.{Shift, last_passes}
+use Rattle.sysv_server_laws.specs.Looking.{HiresBy, Looked, LookedBy, SplitsOff, TakesBack}
+use Rattle.sysv_server_laws.specs.Serving.{HiredFrom, LeavesConnections, WorkedFrom}
+use Rattle.sysv_server_laws.proofs.Behind as behind
+use Rattle.sysv_server_laws.proofs.FaultLeaves.{fault_says}
+use Rattle.sysv_server_laws.proofs.Shifts.{folds_last}
 
 -- Before the places had their passes, one was split off that read rows, and it was joined back after
 -- them.

@@ -17,20 +17,20 @@ use Rattle.sysv_workers.specs.declared.refusals.WorkersFault.TheVariants.{BadCou
 use Rattle.sysv_wire.specs.declared.frame.Version.{Version}
 use Rattle.sysv_seats.specs.GivingBack.{EachReturnCanBeLeft}
 use Rattle.sysv_seats.specs.Untold.{Closing}
-use Rattle.sysv_engine.specs.declared.fault.ServeFault.{ServeFault}
-use Rattle.sysv_engine.specs.declared.sums.Sums.{Sums}
-use Rattle.sysv_engine.specs.Added.{all_added, capped}
-use Rattle.sysv_engine.specs.declared.fates.Fates.{Fates}
-use Rattle.sysv_engine.specs.Fated.{all_fates, none_fated}
-use Rattle.sysv_engine.specs.Places.{IsOpened, IsPlace, IsStaffed, KeepsAll, Seated, Standing, Stands, View}
-use Rattle.sysv_engine.specs.Places.{SitsOn, fates_at_end, has_ended, view_of}
-use Rattle.sysv_engine.specs.Serving.{FaultOf, HiredFrom, IsNew, LeavesConnections, WorkedFrom}
-use Rattle.sysv_engine.proofs.Behind as behind
+use Rattle.sysv_server_laws.specs.declared.fault.ServeFault.{ServeFault}
+use Rattle.sysv_server_laws.specs.declared.sums.Sums.{Sums}
+use Rattle.sysv_server_laws.specs.Added.{all_added, capped}
+use Rattle.sysv_server_laws.specs.declared.fates.Fates.{Fates}
+use Rattle.sysv_server_laws.specs.Fated.{all_fates, none_fated}
+use Rattle.sysv_places.specs.Places.{IsOpened, IsPlace, IsStaffed, KeepsAll, Seated, Standing, Stands, View}
+use Rattle.sysv_places.specs.Places.{SitsOn, fates_at_end, has_ended, view_of}
+use Rattle.sysv_server_laws.specs.Serving.{FaultOf, HiredFrom, IsNew, LeavesConnections, WorkedFrom}
+use Rattle.sysv_server_laws.proofs.Behind as behind
 use Rattle.sysv_engine.proofs.Endings.{Ending, Ran, all_over, begins, ends}
 use Rattle.sysv_engine.proofs.PlacesRun as run
-use Rattle.sysv_engine.proofs.Reversed.{all_reverse, back_reverse, map_reverse, runs_reverse}
-use Rattle.sysv_engine.proofs.Shifts as shifts
-use Rattle.sysv_engine.proofs.SumsOfSessions.{sum_by_map}
+use Rattle.sysv_server_laws.proofs.Reversed.{all_reverse, back_reverse, map_reverse, runs_reverse}
+use Rattle.sysv_server_laws.proofs.Shifts as shifts
+use Rattle.sysv_server_laws.proofs.SumsOfSessions.{sum_by_map}
 
 reverse_cons : {X : Type 0} (x : X) (xs : List X) → reverse (x ∷ xs) ≡ reverse xs ++ x ∷ []
 reverse_cons x xs = reverse-append (x ∷ []) xs

@@ -1,8 +1,8 @@
 -- What becomes of that which reads the rows of a running service (this project's profile).
 use Rattle.std.specs.Prelude.{◌≡◌, ◌+◌, ℕ, Option, None, Some}
 use Rattle.sysv_engine.specs.declared.rows.Rows.{Rows}
-use Rattle.sysv_engine.specs.Added.{capped}
-use Rattle.sysv_engine.specs.Looking.{LookedBy}
+use Rattle.sysv_server_laws.specs.Added.{capped}
+use Rattle.sysv_server_laws.specs.Looking.{LookedBy}
 
 -- The number of blocks in the pool of the service whose rows are read.
 abbrev pub pool_of : {R : Type 0} → Rows R → ℕ

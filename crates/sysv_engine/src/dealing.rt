@@ -1,7 +1,7 @@
 //! A source whose connections are dealt out to workers.
 ghost use Rattle.std.specs.Prelude.{◌≡◌};
 
-use crate::server_state::ServerState;
+use sysv_telling::ServerState;
 use std::alloc::Global;
 use sysv_workers::Source;
 

@@ -11,46 +11,21 @@
 //! of the service, and its reply reports how that call ended.
 #![tactic(auto)]
 
-mod alarm;
 mod arrivals;
-mod awaited;
 mod connections;
-mod counter;
-mod counts;
 mod dealing;
-mod fates;
-mod fault;
-mod heeding;
-mod laws;
-mod moment;
-mod place;
-mod rounds;
 mod rows;
 mod seeing;
-mod server_state;
-mod spinning;
-mod staff;
-mod sums;
-mod team;
 mod terms;
-mod times;
-mod watch;
-mod worker;
 
-pub use alarm::Rest;
 pub use arrivals::Arrivals;
 pub use connections::{serve_all, serve_connections};
-pub use counts::{Counted, SlotCounts, Totals};
-pub use fates::Fates;
-pub use fault::ServeFault;
-pub use laws::{
-    each_call_is_let_in, each_lifetime_is_one_run, each_private_queue_is_kept,
-    each_return_makes_a_call, each_session_makes_calls,
-};
-pub use moment::Moment;
 pub use rows::Rows;
 pub use seeing::serve_arrivals;
-pub use server_state::ServerState;
-pub use sums::Sums;
-pub use terms::{Ended, Patience, Setting};
-pub use watch::{Polled, Ready, Watch, watches};
+pub use sysv_server_laws::{
+    Fates, ServeFault, Sums, each_call_is_let_in, each_lifetime_is_one_run,
+    each_private_queue_is_kept, each_return_makes_a_call, each_session_makes_calls,
+};
+pub use sysv_telling::{Counted, Rest, ServerState, Setting, SlotCounts, Totals, watches};
+pub use sysv_watch::{Moment, Patience, Polled, Ready, Watch};
+pub use terms::Ended;

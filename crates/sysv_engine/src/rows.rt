@@ -2,8 +2,8 @@
 ghost use Rattle.std.specs.Option.{ForSome};
 ghost use Rattle.std.specs.Prelude.{◌≡◌, ◌+◌};
 ghost use Rattle.sysv_service.specs.Seats.{AreOf};
-ghost use Rattle.sysv_engine.specs.Added.{capped};
-ghost use Rattle.sysv_engine.specs.Looking.{LookedBy, ReadsRow, SplitsOff, TakesBack};
+ghost use Rattle.sysv_server_laws.specs.Added.{capped};
+ghost use Rattle.sysv_server_laws.specs.Looking.{LookedBy, ReadsRow, SplitsOff, TakesBack};
 
 use std::alloc::Global;
 use std::sync::Wait;

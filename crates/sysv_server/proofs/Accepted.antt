@@ -13,27 +13,27 @@ use Rattle.std.specs.Prelude.{⊤, ◌⊎◌}
 use Rattle.sysv_session.specs.declared.served.Served.{Served}
 use Rattle.sysv_workers.specs.Sources.{GivesAll, Gave, Returned}
 use Rattle.sysv_server.specs.declared.accepting.Accepting.{Accepting}
-use Rattle.sysv_engine.specs.declared.fault.ServeFault.{ServeFault}
+use Rattle.sysv_server_laws.specs.declared.fault.ServeFault.{ServeFault}
 use Rattle.sysv_server.specs.declared.host.Reason.{Reason}
 use Rattle.sysv_server.specs.declared.host.Reason.TheVariants.{Full, InputOver, NoSocket, Accept}
-use Rattle.sysv_engine.specs.declared.sums.Sums.{Sums}
+use Rattle.sysv_server_laws.specs.declared.sums.Sums.{Sums}
 use Rattle.sysv_engine.specs.declared.terms.Ended.{Ended}
 use Rattle.sysv_server.specs.Accepts.{Accepts, HasEnded}
 use Rattle.sysv_server.specs.Doors.{Came, FailedSince}
 use Rattle.sysv_server.proofs.Came.{came_on, came_still, failed_since}
 use Rattle.sysv_server.specs.Listening.{IsOver, added}
-use Rattle.sysv_engine.specs.Added.{capped, one_session}
+use Rattle.sysv_server_laws.specs.Added.{capped, one_session}
 use Rattle.sysv_seats.specs.declared.socket_stream.SocketStream.{SocketStream}
 use Rattle.sysv_service.specs.Seats.{Gates}
-use Rattle.sysv_engine.specs.Handled.{Shift, told_in}
+use Rattle.sysv_server_laws.specs.Handled.{Shift, told_in}
 use Rattle.sysv_engine.specs.Headline.{ServesConnections}
-use Rattle.sysv_engine.specs.declared.fault.ServeFault.TheVariants as faults
-use Rattle.sysv_engine.specs.Serving.{HasLived, LeavesConnections}
+use Rattle.sysv_server_laws.specs.declared.fault.ServeFault.TheVariants as faults
+use Rattle.sysv_server_laws.specs.Serving.{HasLived, LeavesConnections}
 use Rattle.sysv_server.specs.Serving.{EndsFrom, FailsFrom, HasCause, HasReason}
 use Rattle.sysv_server.specs.Serving.{ServesOn}
-use Rattle.sysv_engine.specs.Converses.{tally_of}
+use Rattle.sysv_server_laws.specs.Converses.{tally_of}
 use Rattle.sysv_seats.specs.Untold.{closing_sockets, limits_of, untold}
-use Rattle.sysv_engine.proofs.SessionsPerConnection.{as_books, one_each}
+use Rattle.sysv_server_laws.proofs.SessionsPerConnection.{as_books, one_each}
 
 room : (m a a' n : ℕ) → m ≤ 2 ^ 64 - 1 → a < m → a' ≡ min (a + 1) (2 ^ 64 - 1) → (a' ≤ m → a' + n ≤ m) → a + (n + 1) ≤ m
 room m a a' n small low is rest = omega arith

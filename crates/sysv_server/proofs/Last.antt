@@ -3,7 +3,7 @@ use mathlib.Core.Bool.{true≢false}
 use Rattle.std.proofs.Common.{◌≡◌, ◌∙◌, ◌+◌, ◌<◌, inr, ap, refl, subst, sym, ℕ, Bool, List, [], ◌∷◌, Option, Some, None}
 use Rattle.std.specs.Prelude.{IsSomeAnd, Result, false, is_some, true}
 use Rattle.std.specs.declared.io.Error.{Error}
-use Rattle.sysv_engine.specs.Added.{capped}
+use Rattle.sysv_server_laws.specs.Added.{capped}
 use Rattle.sysv_seats.specs.declared.socket_stream.SocketStream.{SocketStream}
 use Rattle.sysv_server.proofs.Came.{came_on}
 use Rattle.sysv_server.specs.Accepts.{Accepts, AcceptsLast, HasEnded}

@@ -9,7 +9,7 @@ use Rattle.sysv_server.specs.declared.host.Reason.{Reason}
 use Rattle.sysv_server.specs.declared.host.Reason.TheVariants.{Full, InputOver, NoSocket, Accept}
 use Rattle.sysv_server.specs.Doors.{Came, FailedSince}
 use Rattle.sysv_server.specs.Listening.{IsOver, added}
-use Rattle.sysv_engine.specs.Added.{capped}
+use Rattle.sysv_server_laws.specs.Added.{capped}
 
 -- The number of connections is limited, and the limit is reached.
 abbrev pub IsFull : ℕ → ℕ → Type 0

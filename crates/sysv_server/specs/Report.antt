@@ -2,10 +2,10 @@
 -- and by what its accepting thread knows.
 use Rattle.std.specs.Prelude.{◌≡◌, ℕ, ◌+◌, ◌-◌, List, [], ◌∷◌, nat_lt, if◌then◌else◌}
 use Rattle.std.specs.Int.{from_bool}
-use Rattle.sysv_engine.specs.Added.{capped}
+use Rattle.sysv_server_laws.specs.Added.{capped}
 use Rattle.sysv_engine.specs.Looks.{pool_of, returned_of}
-use Rattle.sysv_engine.specs.declared.counts.Counted.{Counted}
-use Rattle.sysv_engine.specs.declared.counts.Totals.{Totals}
+use Rattle.sysv_telling.specs.declared.counts.Counted.{Counted}
+use Rattle.sysv_telling.specs.declared.counts.Totals.{Totals}
 use Rattle.sysv_engine.specs.declared.rows.Rows.{Rows}
 use Rattle.sysv_server.specs.declared.report.Admission.{Admission}
 use Rattle.sysv_server.specs.declared.report.TheConstants.{LARGEST}

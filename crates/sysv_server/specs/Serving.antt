@@ -15,15 +15,16 @@ use Rattle.sysv_seats.specs.declared.limits.Limits.{Limits}
 use Rattle.sysv_seats.specs.Limits.{limits_for}
 use Rattle.sysv_seats.specs.declared.socket_stream.SocketStream.{SocketStream}
 use Rattle.sysv_seats.specs.Untold.{closing_sockets, limits_of, untold}
-use Rattle.sysv_engine.specs.declared.fault.ServeFault.{ServeFault}
-use Rattle.sysv_engine.specs.declared.fault.ServeFault.TheVariants.{NoMemory, Thread, Worn, Missed}
-use Rattle.sysv_engine.specs.declared.sums.Sums.{Sums}
+use Rattle.sysv_server_laws.specs.declared.fault.ServeFault.{ServeFault}
+use Rattle.sysv_server_laws.specs.declared.fault.ServeFault.TheVariants.{NoMemory, Thread, Worn, Missed}
+use Rattle.sysv_server_laws.specs.declared.sums.Sums.{Sums}
 use Rattle.sysv_engine.specs.declared.terms.Ended.{Ended}
-use Rattle.sysv_engine.specs.declared.terms.Setting.{Setting}
-use Rattle.sysv_engine.specs.Desks.{Desk, Sat, AreServedInOrder, all_connections}
-use Rattle.sysv_engine.specs.Handled.{Shift, backs_in, cut_off_of, fates_of, newest_of, refused_of, sums_of, told_in}
-use Rattle.sysv_engine.specs.OneRun.{Lived}
-use Rattle.sysv_engine.specs.Serving.{HasLived, LeavesBooks, RunsWith}
+use Rattle.sysv_telling.specs.declared.setting.Setting.{Setting}
+use Rattle.sysv_server_laws.specs.Desks.{Desk, Sat, AreServedInOrder, all_connections}
+use Rattle.sysv_server_laws.specs.Handled.{Shift, backs_in, cut_off_of, fates_of, newest_of, refused_of, sums_of, told_in}
+use Rattle.sysv_server_laws.specs.OneRun.{Lived}
+use Rattle.sysv_server_laws.specs.Serving.{HasLived, LeavesBooks}
+use Rattle.sysv_telling.specs.Settings.{RunsWith}
 use Rattle.sysv_workers.specs.declared.workers.TheConstants.{MAX_WORKERS}
 use Rattle.sysv_server.specs.Doors.{Came, FailedSince}
 use Rattle.sysv_server.specs.Listening.{IsOver, added}

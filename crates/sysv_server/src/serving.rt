@@ -2,7 +2,7 @@
 ghost use Rattle.std.specs.Prelude.{◌≡◌, ◌≤◌, false, IfErr, IfOk, IfSome, is_some, min, vec_len};
 ghost use Rattle.sysv_model.specs.declared.limits.TheConstants.{MIN_BLOCKS, MAX_BLOCKS};
 ghost use Rattle.sysv_workers.specs.declared.workers.TheConstants.{MAX_WORKERS};
-ghost use Rattle.sysv_engine.specs.Added.{IsBalanced};
+ghost use Rattle.sysv_server_laws.specs.Added.{IsBalanced};
 ghost use Rattle.sysv_server.specs.Serving.{EndsFrom, EndsOn, FailsFrom, FailsOn, HasCause, HasReason, RanOn, ServesPlainly, limits_in, looks_in};
 ghost use Rattle.sysv_server.specs.declared.serving.TheConstants.{MAX_CLIENTS};
 

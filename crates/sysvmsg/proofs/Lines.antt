@@ -3,8 +3,8 @@ use Rattle.std.proofs.Common.{◌≡◌, ◌∙◌, ◌++◌, ◌∷◌, ℕ, Li
 use Rattle.std.specs.Fmt.{decimal}
 use Rattle.std.specs.Io.KnownBytes.{Appends}
 use Rattle.std.proofs.KnownBytes.{Appends-trans}
-use Rattle.sysv_engine.specs.declared.fates.Fates.{Fates}
-use Rattle.sysv_engine.specs.declared.sums.Sums.{Sums}
+use Rattle.sysv_server_laws.specs.declared.fates.Fates.{Fates}
+use Rattle.sysv_server_laws.specs.declared.sums.Sums.{Sums}
 use Rattle.sysvmsg.specs.Ends.{fates_of, line_of, queued_of}
 
 -- The line goes on.

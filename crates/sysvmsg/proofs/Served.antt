@@ -4,7 +4,7 @@ use Rattle.std.proofs.Common.{◌≡◌, ℕ, Bool, List, Option, None, Some, ma
 use Rattle.std.specs.Prelude.{IfErr, IfOk, Result, Ok, Err}
 use Rattle.std.specs.declared.io.Error.{Error}
 use Rattle.std.specs.declared.process.ExitCode.{ExitCode}
-use Rattle.sysv_engine.specs.declared.fault.ServeFault.{ServeFault}
+use Rattle.sysv_server_laws.specs.declared.fault.ServeFault.{ServeFault}
 use Rattle.sysv_engine.specs.declared.terms.Ended.{Ended}
 use Rattle.sysv_seats.specs.declared.callers.Callers.{Callers}
 use Rattle.sysv_seats.specs.declared.socket_stream.SocketStream.{SocketStream}

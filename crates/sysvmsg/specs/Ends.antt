@@ -10,15 +10,15 @@ use Rattle.sysv_seats.specs.declared.callers.Callers.{Callers}
 use Rattle.sysv_seats.specs.declared.socket_stream.SocketStream.{SocketStream}
 use Rattle.sysv_server.specs.LetIn.{EachLetsInOneOf}
 use Rattle.sysv_server.specs.Serving.{EndsFrom, EndsOn, FailsFrom, FailsOn, HasCause, HasReason, limits_in, looks_in}
-use Rattle.sysv_engine.specs.declared.fates.Fates.{Fates}
-use Rattle.sysv_engine.specs.declared.fault.ServeFault.{ServeFault}
-use Rattle.sysv_engine.specs.declared.fault.ServeFault.TheVariants as faults
+use Rattle.sysv_server_laws.specs.declared.fates.Fates.{Fates}
+use Rattle.sysv_server_laws.specs.declared.fault.ServeFault.{ServeFault}
+use Rattle.sysv_server_laws.specs.declared.fault.ServeFault.TheVariants as faults
 use Rattle.sysv_engine.specs.declared.terms.Ended.{Ended}
-use Rattle.sysv_engine.specs.declared.terms.Setting.{Setting}
-use Rattle.sysv_engine.specs.Serving.{RunsWith}
+use Rattle.sysv_telling.specs.declared.setting.Setting.{Setting}
+use Rattle.sysv_telling.specs.Settings.{RunsWith}
 use Rattle.sysv_server.specs.declared.host.Reason.{Reason}
 use Rattle.sysv_server.specs.declared.host.Reason.TheVariants.{Full, InputOver, NoSocket, Accept}
-use Rattle.sysv_engine.specs.declared.sums.Sums.{Sums}
+use Rattle.sysv_server_laws.specs.declared.sums.Sums.{Sums}
 use Rattle.sysv_server.specs.declared.terms.Terms.{Terms}
 use Rattle.sysvmsg.specs.Room.{places_within}
 

@@ -5,13 +5,13 @@ use Rattle.std.specs.Prelude.{Bool, false}
 use Rattle.std.specs.List.{AllByRecursion}
 use Rattle.sysv_thread_laws.specs.Hiring.{Hires}
 use Rattle.sysv_service.specs.Ran.{Pass}
-use Rattle.sysv_engine.specs.Handled.{Shift, first_passes, last_passes, newest_of, told_in}
-use Rattle.sysv_engine.specs.OneRun.{Stopped}
-use Rattle.sysv_engine.specs.Serving.{HasLived, HiredFrom}
-use Rattle.sysv_engine.proofs.FaultLeaves.{fault_says}
-use Rattle.sysv_engine.proofs.GatesHaveLived.{have_lived, lived}
-use Rattle.sysv_engine.proofs.LostAtAnEnd.{lost_at_an_end}
-use Rattle.sysv_engine.proofs.SumsOfSessions.{balanced}
+use Rattle.sysv_server_laws.specs.Handled.{Shift, first_passes, last_passes, newest_of, told_in}
+use Rattle.sysv_server_laws.specs.OneRun.{Stopped}
+use Rattle.sysv_server_laws.specs.Serving.{HasLived, HiredFrom}
+use Rattle.sysv_server_laws.proofs.FaultLeaves.{fault_says}
+use Rattle.sysv_server_laws.proofs.GatesHaveLived.{have_lived, lived}
+use Rattle.sysv_server_laws.proofs.LostAtAnEnd.{lost_at_an_end}
+use Rattle.sysv_server_laws.proofs.SumsOfSessions.{balanced}
 use Rattle.sysv_engine.proofs.connections.serve_all.Goals as goal
 
 pub returns-in-Ok-outcome-clause-ok : goal.returns-in-Ok-outcome-clause-ok

@@ -7,13 +7,13 @@ use Rattle.std.specs.Prelude.{false}
 use Rattle.sysv_workers.specs.declared.workers.TheConstants.{MAX_WORKERS}
 use Rattle.sysv_wire.specs.declared.frame.Version.{Version}
 use Rattle.sysv_engine.specs.declared.dealing.Dealing.{Dealing}
-use Rattle.sysv_engine.specs.declared.worker.Worker.{Worker}
-use Rattle.sysv_engine.specs.Places.{Seated}
-use Rattle.sysv_engine.specs.Serving.{HiredFrom, LeavesConnections, WorkedFrom}
-use Rattle.sysv_engine.proofs.SharedOut.{all_counted, each_booked, some_each}
+use Rattle.sysv_rounds.specs.declared.worker.Worker.{Worker}
+use Rattle.sysv_places.specs.Places.{Seated}
+use Rattle.sysv_server_laws.specs.Serving.{HiredFrom, LeavesConnections, WorkedFrom}
+use Rattle.sysv_server_laws.proofs.SharedOut.{all_counted, each_booked, some_each}
 use Rattle.sysv_engine.proofs.Staffed.{Behind, Runs, all_left, all_worked, back_as_many, gates_again, leaves_behind}
 use Rattle.sysv_engine.proofs.Staffed.{leaves_name, ran_as_many, runs_behind, runs_name, staffed}
-use Rattle.sysv_engine.proofs.Crossing.{serving_sync, worker_send}
+use Rattle.sysv_rounds.proofs.Crossing.{serving_sync, worker_send}
 use Rattle.sysv_engine.proofs.connections.serve_with.Lts as lts
 use Rattle.sysv_engine.proofs.connections.serve_with.Given.{Over}
 use Rattle.sysv_engine.proofs.connections.serve_with.Goals as goal

@@ -4,14 +4,14 @@ use Rattle.std.proofs.Common.{◌≡◌, subst, refl, sym}
 use Rattle.std.specs.Prelude.{Bool}
 use Rattle.std.specs.List.{AllByRecursion}
 use Rattle.sysv_service.specs.Ran.{Pass}
-use Rattle.sysv_engine.specs.Handled.{Shift, newest_of, told_in}
-use Rattle.sysv_engine.specs.Looking.{HiresBy}
-use Rattle.sysv_engine.specs.OneRun.{Stopped}
-use Rattle.sysv_engine.specs.Serving.{HasLived, HiredFrom}
-use Rattle.sysv_engine.proofs.FaultLeaves.{fault_says}
-use Rattle.sysv_engine.proofs.GatesHaveLived.{have_lived, lived}
-use Rattle.sysv_engine.proofs.LostAtAnEnd.{lost_at_an_end}
-use Rattle.sysv_engine.proofs.SumsOfSessions.{balanced}
+use Rattle.sysv_server_laws.specs.Handled.{Shift, newest_of, told_in}
+use Rattle.sysv_server_laws.specs.Looking.{HiresBy}
+use Rattle.sysv_server_laws.specs.OneRun.{Stopped}
+use Rattle.sysv_server_laws.specs.Serving.{HasLived, HiredFrom}
+use Rattle.sysv_server_laws.proofs.FaultLeaves.{fault_says}
+use Rattle.sysv_server_laws.proofs.GatesHaveLived.{have_lived, lived}
+use Rattle.sysv_server_laws.proofs.LostAtAnEnd.{lost_at_an_end}
+use Rattle.sysv_server_laws.proofs.SumsOfSessions.{balanced}
 use Rattle.sysv_engine.proofs.seeing.serve_arrivals.Goals as goal
 
 pub serve_seeing-outcome-requires-clause-blocks : goal.serve_seeing-outcome-requires-clause-blocks

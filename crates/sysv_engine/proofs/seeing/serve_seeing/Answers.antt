@@ -5,9 +5,9 @@ use Rattle.sysv_service.specs.Ran.{Pass}
 use Rattle.sysv_service.specs.Seats.{AreOf, Gates}
 use Rattle.sysv_engine.specs.declared.rows.Rows.{Rows}
 use Rattle.sysv_engine.specs.declared.seeing.Seeing.{Seeing}
-use Rattle.sysv_engine.specs.Handled.{newest_of}
-use Rattle.sysv_engine.specs.Looking.{SplitsOff, TakesBack}
-use Rattle.sysv_engine.specs.Serving.{HiredFrom, LeavesConnections, WorkedFrom}
+use Rattle.sysv_server_laws.specs.Handled.{newest_of}
+use Rattle.sysv_server_laws.specs.Looking.{SplitsOff, TakesBack}
+use Rattle.sysv_server_laws.specs.Serving.{HiredFrom, LeavesConnections, WorkedFrom}
 use Rattle.sysv_engine.proofs.Looking.{Stays, goes_on, stays}
 use Rattle.sysv_engine.proofs.ReadsRows.{all_left_behind, ran_behind, ran_kept}
 use Rattle.sysv_engine.proofs.seeing.serve_seeing.Goals as goal

@@ -1,7 +1,7 @@
 -- What the listener tells is left out.
 use Rattle.std.proofs.Common.{◌≡◌, Bool, subst}
 use Rattle.std.specs.List.{AllByRecursion}
-use Rattle.sysv_engine.specs.Handled.{Shift, newest_of}
+use Rattle.sysv_server_laws.specs.Handled.{Shift, newest_of}
 use Rattle.sysv_server.proofs.serving.serve_on.Goals as goal
 
 pub returns-in-Ok-clause-ok : goal.returns-in-Ok-clause-ok

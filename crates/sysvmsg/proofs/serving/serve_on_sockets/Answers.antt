@@ -1,6 +1,6 @@
 -- The sockets let in the callers that are asked for. Without memory for the sockets there is no server.
 use Rattle.std.specs.Prelude.{Err, None}
-use Rattle.sysv_engine.specs.declared.fault.ServeFault.TheVariants.{NoMemory}
+use Rattle.sysv_server_laws.specs.declared.fault.ServeFault.TheVariants.{NoMemory}
 use Rattle.sysv_options.specs.Sockets.{callers_let_in}
 use Rattle.sysvmsg.proofs.MadeSockets.{they_let_in}
 use Rattle.sysvmsg.proofs.Served.{served_for}

@@ -1,0 +1,4 @@
+pub mod PlaceLemmas
+pub mod PlaceLists
+pub mod Lining
+pub mod Crossing

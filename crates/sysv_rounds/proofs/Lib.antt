@@ -1,0 +1,4 @@
+pub mod Kept
+pub mod Crossing
+pub mod Telling
+pub mod Marking

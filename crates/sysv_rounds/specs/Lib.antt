@@ -1,0 +1,3 @@
+-- The definitions of the workers of a server.
+pub mod Heeding
+pub mod Marking

@@ -1,0 +1,12 @@
+//! The workers of a server, each an event loop: its places, its rounds, and what it does for parked
+//! calls.
+#![tactic(auto)]
+
+mod heeding;
+mod rounds;
+mod staff;
+mod worker;
+
+pub use rounds::Serving;
+pub use staff::{discard, gather, kits, staff};
+pub use worker::{Kit, Worker};

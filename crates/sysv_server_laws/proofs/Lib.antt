@@ -1,0 +1,15 @@
+pub mod SessionMakesCalls
+pub mod CallsLetIn
+pub mod PrivateQueues
+pub mod SessionsPerConnection
+pub mod SumsOfSessions
+pub mod FatesOfSessions
+pub mod LostAtAnEnd
+pub mod LifetimeIsOneRun
+pub mod GatesHaveLived
+pub mod FaultLeaves
+pub mod Shifts
+pub mod FatesAdded
+pub mod SharedOut
+pub mod Reversed
+pub mod Behind
