@@ -20,7 +20,8 @@ use Rattle.sysv_service.specs.Stopped.{messages_in}
 use Rattle.sysv_workers.specs.Sources.{GivesAll}
 use Rattle.sysv_engine.specs.declared.terms.Ended.{Ended}
 use Rattle.sysv_server_laws.specs.Desks.{Desk, InTeam, AreServedInOrder, all_connections}
-use Rattle.sysv_server_laws.specs.Handled.{Shift, backs_in, cut_off_of, fates_of, newest_of, sums_of, refused_of, told_in}
+use Rattle.sysv_server_laws.specs.Handled.{Shift, backs_in, cut_off_of, fates_of, newest_of, sums_of, refused_of}
+use Rattle.sysv_server_laws.specs.Handled.{told_in}
 use Rattle.sysv_server_laws.specs.OneRun.{Lived}
 use Rattle.sysv_seats.specs.Untold.{Closing}
 

@@ -9,18 +9,18 @@ ghost use Rattle.sysv_engine.specs.Headline.{ServesConnections};
 ghost use Rattle.sysv_server_laws.specs.Serving.{FaultOf, HasLived, HiredFrom, LeavesConnections, WorkedFrom};
 ghost use Rattle.sysv_telling.specs.Settings.{RunsWith, unbounded};
 
-use sysv_places::dismiss;
-use sysv_rounds::{Serving, discard, gather, kits, staff};
-use sysv_server_laws::{Fates, ServeFault, Sums, each_lifetime_is_one_run};
-use sysv_telling::{Rest, ServerState};
-use sysv_watch::{Patience, Rounds, Watch};
 use crate::dealing::{Dealing, shares};
 use crate::terms::Ended;
 use std::alloc::Global;
 use std::sync::Wait;
 use std::thread::Threads;
+use sysv_places::dismiss;
+use sysv_rounds::{Serving, discard, gather, kits, staff};
 use sysv_seats::{NonBlocking, each_return_can_be_left};
+use sysv_server_laws::{Fates, ServeFault, Sums, each_lifetime_is_one_run};
 use sysv_service::{Pass, Service};
+use sysv_telling::{Rest, ServerState};
+use sysv_watch::{Patience, Rounds, Watch};
 use sysv_workers::{Source, WorkersFault, WorkersRefused, run_workers};
 
 /// Serves the connections of a source on a new service, each as one session, and removes the queues

@@ -1,8 +1,8 @@
 //! A source whose connections are dealt out to workers.
 ghost use Rattle.std.specs.Prelude.{◌≡◌};
 
-use sysv_telling::ServerState;
 use std::alloc::Global;
+use sysv_telling::ServerState;
 use sysv_workers::Source;
 
 /// What a worker has for clients, and what it was given.

@@ -10,9 +10,6 @@ ghost use Rattle.sysv_engine.specs.Looks.{Follows, returned_after};
 ghost use Rattle.sysv_server_laws.specs.Serving.{HasLived, HiredFrom, LeavesConnections, WorkedFrom};
 ghost use Rattle.sysv_telling.specs.Settings.{RunsWith};
 
-use sysv_server_laws::{Fates, ServeFault, Sums, each_lifetime_is_one_run};
-use sysv_telling::{Rest, ServerState};
-use sysv_watch::Watch;
 use crate::arrivals::Arrivals;
 use crate::connections::{given_back, serve_with};
 use crate::rows::Rows;
@@ -21,7 +18,10 @@ use std::alloc::Global;
 use std::sync::Wait;
 use std::thread::Threads;
 use sysv_seats::NonBlocking;
+use sysv_server_laws::{Fates, ServeFault, Sums, each_lifetime_is_one_run};
 use sysv_service::{Pass, Service};
+use sysv_telling::{Rest, ServerState};
+use sysv_watch::Watch;
 use sysv_workers::Source;
 
 /// Serves the connections of a source like `serve_all`. If `reads` is true, the source may look at

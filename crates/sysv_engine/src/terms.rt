@@ -1,9 +1,9 @@
 //! The result of a server.
 
-use sysv_server_laws::{Fates, Sums};
-use sysv_telling::Setting;
 use sysv_model::Errno;
+use sysv_server_laws::{Fates, Sums};
 use sysv_service::Closed;
+use sysv_telling::Setting;
 
 /// How a server ended.
 #[derive(Clone, Copy, PartialEq, Eq, Debug)]

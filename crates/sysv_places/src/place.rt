@@ -1,5 +1,5 @@
 //! The places of a server: each serves one client after another.
-ghost use Rattle.std.specs.Prelude.{◌≡◌, ◌+◌, None, Some, IfSome, cond, is_some, not, true, false};
+ghost use Rattle.std.specs.Prelude.{◌≡◌, ◌+◌, None, Some, IfSome, MatchOption, cond, is_some, not, true, false};
 ghost use Rattle.sysv_service.specs.Seats.{AreOf};
 ghost use Rattle.sysv_seats.specs.Said.{KeepsAsSaid};
 ghost use Rattle.sysv_seats.specs.Sits.{Keeps, is_finished};
@@ -11,8 +11,6 @@ ghost use Rattle.sysv_places.specs.Lining.{frame_length, key_in, parked_key};
 ghost use Rattle.sysv_places.specs.Places.{IsIdle, IsIdleAt, KeepsPlace, MayLapse, TakesIn};
 ghost use Rattle.sysv_places.specs.Places.{IsCutOff, fates_at_end, has_ended, is_vacant, taken_by};
 
-use sysv_server_laws::{Fates, Sums};
-use sysv_watch::{Moment, Patience, Ready, Watch, sooner};
 use crate::awaited::key_of;
 use crate::times::{Times, end_of};
 use std::alloc::Global;
@@ -23,8 +21,10 @@ use sysv_seats::{
     Client, Keeper, Limit, NonBlocking, Returned, ServiceHandler, Tools, Waiting, ZERO, Zero,
     each_return_can_be_left,
 };
+use sysv_server_laws::{Fates, Sums};
 use sysv_service::{Pass, Service};
 use sysv_session::{End, Served};
+use sysv_watch::{Moment, Patience, Ready, Watch, sooner};
 use sysv_wire::Version;
 
 /// A place of a server. Clients have it one after another.
@@ -344,7 +344,10 @@ impl<'a, R: Wait, T: NonBlocking> Place<'a, R, T> {
     }
 
     /// Returns whether a call of the client is parked.
-    pub fn has_parked(&self) -> bool {
+    pub fn has_parked(&self) -> bool
+        ensures { MatchOption self.now.client (result ≡ false)
+            (λ client. result ≡ is_some client.parked) }
+    {
         match &self.client {
             Some(client) => client.parked().is_some(),
             None => false,

@@ -7,14 +7,14 @@ ghost use Rattle.sysv_server_laws.specs.Added.{all_added, capped};
 ghost use Rattle.sysv_server_laws.specs.Fated.{all_fates};
 ghost use Rattle.sysv_places.specs.Places.{IsOpened, KeepsAll, fates_at_end, has_ended};
 
-use sysv_server_laws::{Fates, Sums};
-use sysv_watch::ROUND_MILLIS;
 use crate::place::Place;
 use std::alloc::Global;
 use std::sync::Wait;
 use sysv_seats::{Limit, NonBlocking, Tools};
+use sysv_server_laws::{Fates, Sums};
 use sysv_service::{Pass, Service};
 use sysv_system::pause;
+use sysv_watch::ROUND_MILLIS;
 use sysv_wire::Version;
 
 /// Fills `places` with a place for each of the last books, as many as it has room for, in the order

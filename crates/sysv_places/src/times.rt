@@ -1,7 +1,7 @@
 //! How long a client may take.
 
-use sysv_watch::{Moment, Patience};
 use sysv_seats::{Client, Limit, NonBlocking};
+use sysv_watch::{Moment, Patience};
 
 /// What the time of a client runs for.
 #[derive(Clone, Copy, PartialEq, Eq)]

@@ -10,8 +10,6 @@ ghost use Rattle.sysv_seats.specs.Notification.{notifications_in};
 ghost use Rattle.sysv_rounds.specs.Heeding.{StaysTold, news_of as tells};
 ghost use Rattle.sysv_places.specs.Places.{KeepsAll};
 
-use sysv_telling::Moved;
-use sysv_watch::Watch;
 use crate::rounds::Serving;
 use crate::worker::Worker;
 use std::sync::Wait;
@@ -19,6 +17,8 @@ use sysv_parking::{
     BLOCKS_WORD, Calls, Change, Envelope, Found, Lines, News, SETTLED_WORD, Tells, Why, room_word,
 };
 use sysv_seats::{NonBlocking, Notification};
+use sysv_telling::Moved;
+use sysv_watch::Watch;
 
 impl<'a, 'c, R: Wait, T: NonBlocking, W: Watch<T>> Tells<Serving<'a, 'c, R>>
     for Worker<'a, R, T, W> {

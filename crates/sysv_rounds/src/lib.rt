@@ -4,9 +4,9 @@
 
 mod heeding;
 mod rounds;
-mod staff;
+mod staffing;
 mod worker;
 
 pub use rounds::Serving;
-pub use staff::{discard, gather, kits, staff};
+pub use staffing::{discard, gather, kits, staff};
 pub use worker::{Kit, Worker};

@@ -9,8 +9,6 @@ ghost use Rattle.sysv_places.specs.Lining.{IsLined};
 ghost use Rattle.sysv_rounds.specs.Marking.{IsMarked, IsParked};
 ghost use Rattle.sysv_places.specs.Places.{IsVacantAt, KeepsAll};
 
-use sysv_telling::{Marked, ServerState, look};
-use sysv_watch::{Moment, Ready, Watch, sooner};
 use crate::worker::{Rechecked, Worker};
 use std::alloc::Global;
 use std::sync::Wait;
@@ -18,6 +16,8 @@ use sysv_parking::{Found, Key, collect, heed_all, read_envelopes};
 use sysv_seats::{Limit, NonBlocking};
 use sysv_service::Service;
 use sysv_session::End;
+use sysv_telling::{Marked, ServerState, look};
+use sysv_watch::{Moment, Ready, Watch, sooner};
 use sysv_workers::Job;
 
 /// The job that serves the clients of a worker.

@@ -7,15 +7,15 @@ ghost use Rattle.sysv_rounds.specs.Marking.{IsMarked};
 ghost use Rattle.sysv_telling.specs.Waking.{WakesUp};
 ghost use Rattle.sysv_places.specs.Places.{AdoptsOne, IsVacantAt, KeepsAll};
 
-use sysv_places::Place;
-use sysv_telling::{Marked, Moved, Rest, Spinning};
-use sysv_watch::{Moment, Patience, Ready, Watch, sooner};
 use std::alloc::Global;
 use std::collections::VecDeque;
 use std::sync::Wait;
 use sysv_parking::{Agenda, Key};
+use sysv_places::Place;
 use sysv_seats::{Limit, NonBlocking, Returned, Tools};
 use sysv_session::Served;
+use sysv_telling::{Marked, Moved, Rest, Spinning};
+use sysv_watch::{Moment, Patience, Ready, Watch, sooner};
 
 /// Of this number of messages that have arrived, one goes to another worker first.
 const SHARE_OF_MESSAGES: usize = 8;

@@ -21,7 +21,8 @@ use Rattle.sysv_server_laws.specs.declared.sums.Sums.{Sums}
 use Rattle.sysv_engine.specs.declared.terms.Ended.{Ended}
 use Rattle.sysv_telling.specs.declared.setting.Setting.{Setting}
 use Rattle.sysv_server_laws.specs.Desks.{Desk, Sat, AreServedInOrder, all_connections}
-use Rattle.sysv_server_laws.specs.Handled.{Shift, backs_in, cut_off_of, fates_of, newest_of, refused_of, sums_of, told_in}
+use Rattle.sysv_server_laws.specs.Handled.{Shift, backs_in, cut_off_of, fates_of, newest_of, refused_of, sums_of}
+use Rattle.sysv_server_laws.specs.Handled.{told_in}
 use Rattle.sysv_server_laws.specs.OneRun.{Lived}
 use Rattle.sysv_server_laws.specs.Serving.{HasLived, LeavesBooks}
 use Rattle.sysv_telling.specs.Settings.{RunsWith}

@@ -34,7 +34,8 @@ use Rattle.sysv_seats.specs.Sits.{zero_moment}
 use Rattle.sysv_server_laws.specs.Converses.{ConversesAsIn, ConversesIn, Dialogue}
 use Rattle.sysv_server_laws.specs.Handled.{Shift}
 use Rattle.sysv_server_laws.specs.LetIn.{AreLetIn, EachCallIsLetIn}
-use Rattle.sysv_server_laws.specs.Made.{GivesBackIn, LapsesIn, Log, MakesCall, ReadsBeside, ServesLogFor, ShowsBeside, log}
+use Rattle.sysv_server_laws.specs.Made.{GivesBackIn, LapsesIn, Log, MakesCall, ReadsBeside, ServesLogFor, ShowsBeside}
+use Rattle.sysv_server_laws.specs.Made.{log}
 use Rattle.sysv_server_laws.specs.Made.{makes_with}
 
 module _ (callers : Callers) where

@@ -10,7 +10,8 @@ use Rattle.sysv_thread_laws.specs.Hiring.{first_pass}
 use Rattle.sysv_service.specs.Ran.{Pass}
 use Rattle.sysv_server_laws.specs.Handled.{Shift}
 use Rattle.sysv_server_laws.specs.Looking.{HiresBy}
-use Rattle.sysv_server_laws.specs.OneRun.{EachLifetimeEndsEmpty, EachLifetimeIsOneRun, EachLifetimeLeavesThePoolWhole, Lived}
+use Rattle.sysv_server_laws.specs.OneRun.{EachLifetimeEndsEmpty, EachLifetimeIsOneRun, EachLifetimeLeavesThePoolWhole}
+use Rattle.sysv_server_laws.specs.OneRun.{Lived}
 use Rattle.sysv_server_laws.specs.OneRun.{NoLifetimeLeavesAGateHeld, Stopped}
 use Rattle.sysv_server_laws.specs.Serving.{HasLived, HiredFrom}
 

@@ -35,7 +35,8 @@ use Rattle.sysv_server_laws.specs.Serving.{WorkedFrom}
 use Rattle.sysv_server_laws.specs.Converses.{Closes, IsOn, IsReturned, Dialogue, Converses, tally_of}
 use Rattle.sysv_seats.specs.Untold.{Closing}
 use Rattle.sysv_server_laws.proofs.FatesOfSessions.{backs_by, backs_of, fated_at_end, fated_session, fates_first}
-use Rattle.sysv_server_laws.proofs.SumsOfSessions.{emptied, refused_first, refused_last, sum_by_map, told_first, told_last}
+use Rattle.sysv_server_laws.proofs.SumsOfSessions.{emptied, refused_first, refused_last, sum_by_map, told_first}
+use Rattle.sysv_server_laws.proofs.SumsOfSessions.{told_last}
 use Rattle.sysv_server_laws.proofs.FaultLeaves.{left}
 use Rattle.sysv_server_laws.proofs.SessionsPerConnection.{sat_each}
 

@@ -26,7 +26,8 @@ use Rattle.sysv_server_laws.specs.Fated.{one_fated}
 use Rattle.sysv_server_laws.specs.declared.fates.Fates.{Fates}
 use Rattle.sysv_server_laws.specs.declared.sums.Sums.{Sums}
 use Rattle.sysv_server_laws.specs.Added.{added, all_added, capped, one_session}
-use Rattle.sysv_server_laws.specs.Converses.{Dialogue, Converses, ConversesIn, IsOn, IsReturned, Closes, Talks, tally_of}
+use Rattle.sysv_server_laws.specs.Converses.{Dialogue, Converses, ConversesIn, IsOn, IsReturned, Closes, Talks}
+use Rattle.sysv_server_laws.specs.Converses.{tally_of}
 use Rattle.sysv_seats.specs.Untold.{Closing}
 
 -- The end is that memory was refused.

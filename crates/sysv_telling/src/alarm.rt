@@ -9,13 +9,13 @@ ghost use Rattle.sysv_parking.specs.Agenda.{IsAtRest, KeepsWork};
 ghost use Rattle.sysv_parking.specs.Changes.{IsThere, number_of};
 ghost use Rattle.sysv_telling.specs.Waking.{WakesUp};
 
-use sysv_watch::{Ready, Watch};
 use std::alloc::Global;
 use std::sync::Arc;
 use sysv_bells::{Bells, Sleeper, Teller};
 use sysv_parking::{Agenda, CHANGE_WORDS, Change};
 use sysv_seats::NonBlocking;
 use sysv_system::{Doorbell, Ring, Watched};
+use sysv_watch::{Ready, Watch};
 
 /// What wakes a worker: the words by which it is told of changes, and its doorbell.
 #[derive(Drop)]

@@ -1,11 +1,11 @@
 //! What reports the events of a server's clients, over the system's polls.
 ghost use Rattle.std.specs.Prelude.{◌≡◌, IfSome, vec_len};
 
-use sysv_watch::Polled;
 use crate::alarm::Rest;
 use crate::server_state::ServerState;
 use std::alloc::Global;
 use std::net::Net;
+use sysv_watch::Polled;
 
 /// Opens a watch for each worker, beside what it rests with. Returns `None` if memory or a
 /// descriptor is refused.

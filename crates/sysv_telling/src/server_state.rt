@@ -8,7 +8,6 @@ ghost use Rattle.sysv_server_laws.specs.Handled.{newest_of};
 ghost use Rattle.sysv_telling.specs.Settings.{RunsWith};
 ghost use Rattle.sysv_telling.specs.declared.counter.Kind.TheVariants.{CutOff, Unwatched};
 
-use sysv_watch::{Moment, Patience, await_doorbell};
 use crate::alarm::{Alarm, Rest};
 use crate::counter::{Added, Counter, Kind};
 use crate::counts::{Counted, Counts, Moved, SlotCounts, Totals, zeros};
@@ -22,6 +21,7 @@ use sysv_parking::{Agenda, Change, Envelope, WORDS};
 use sysv_queue::Tally;
 use sysv_seats::Returned;
 use sysv_system::{Doorbell, Watched};
+use sysv_watch::{Moment, Patience, await_doorbell};
 use sysv_wire::Version;
 
 /// The number of bits in a word, and so of workers that a word can name.

@@ -2,10 +2,10 @@
 ghost use Rattle.std.specs.Prelude.{◌≡◌, ◌-◌, ◌↔◌, IsTrue};
 ghost use Rattle.sysv_telling.specs.Spinning.{learned};
 
-use sysv_watch::{Ready, Watch};
 use crate::alarm::Rest;
 use std::hint::spin_loop;
 use sysv_seats::NonBlocking;
+use sysv_watch::{Ready, Watch};
 
 /// The number of looks before a sleep.
 const LOOKS: u32 = 16;

@@ -1,5 +1,7 @@
 //! Points in time, and waits up to one.
-ghost use Rattle.std.specs.Prelude.{◌≡◌, ◌+◌, ◌-◌, ◌^◌, min};
+ghost use Rattle.std.specs.Int.{div_ceil};
+ghost use Rattle.std.specs.Prelude.{◌≡◌, ◌≤◌, ◌+◌, ◌-◌, ◌*◌, ◌^◌, min, None, IfSome, IsSomeAnd, MatchOption};
+ghost use Rattle.sysv_watch.specs.declared.moment.TheConstants.{TICK_MILLIS};
 
 use sysv_system::{Event, Watched, await_event, present_millis};
 
@@ -18,12 +20,16 @@ impl Moment {
     pub const NEVER: Moment = Moment(u64::MAX);
 
     /// Returns the moment of this number of milliseconds since the start.
-    pub fn at(millis: u64) -> Moment {
+    pub fn at(millis: u64) -> Moment
+        ensures { result.0 ≡ millis }
+    {
         Moment(millis)
     }
 
     /// Returns the number of milliseconds since the start.
-    pub fn millis(self) -> u64 {
+    pub fn millis(self) -> u64
+        ensures { result ≡ self.0 }
+    {
         self.0
     }
 
@@ -33,7 +39,9 @@ impl Moment {
     }
 
     /// Returns the moment this number of seconds from now, or `None` (never) for 0.
-    pub fn after(seconds: u32) -> Option<Moment> {
+    pub fn after(seconds: u32) -> Option<Moment>
+        ensures { MatchOption result (seconds ≡ 0) (λ _. 1 ≤ seconds) }
+    {
         if seconds == 0 {
             return None;
         }
@@ -42,7 +50,9 @@ impl Moment {
     }
 
     /// Returns the first tick that is not before this moment.
-    pub fn tick(self) -> Moment {
+    pub fn tick(self) -> Moment
+        ensures { result.0 ≡ min (div_ceil self.0 TICK_MILLIS * TICK_MILLIS) (2 ^ 64 - 1) }
+    {
         Moment(self.0.div_ceil(TICK_MILLIS).saturating_mul(TICK_MILLIS))
     }
 
@@ -68,9 +78,14 @@ impl Moment {
 }
 
 /// Returns the sooner of two moments, if any is given.
-pub fn sooner(one: Option<Moment>, other: Option<Moment>) -> Option<Moment> {
+pub fn sooner(one: Option<Moment>, other: Option<Moment>) -> Option<Moment>
+    ensures one { one ≡ None → result ≡ other }
+    ensures other { other ≡ None → result ≡ one }
+    ensures both { IfSome one (λ one. IfSome other (λ other.
+        IsSomeAnd result (λ sooner. sooner.0 ≡ min one.0 other.0))) }
+{
     match (one, other) {
-        (Some(one), Some(other)) => Some(one.min(other)),
+        (Some(one), Some(other)) => Some(if other.0 < one.0 { other } else { one }),
         (Some(one), None) => Some(one),
         (None, other) => other,
     }

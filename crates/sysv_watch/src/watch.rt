@@ -1,5 +1,5 @@
 //! What reports which clients have events.
-ghost use Rattle.std.specs.Prelude.{◌≡◌, false};
+ghost use Rattle.std.specs.Prelude.{◌≡◌, IfSome, [], false, true, vec_capacity};
 ghost use Rattle.sysv_seats.specs.Breaking.{MayBreak};
 
 use mio::{Events, Interest, Poll, Token};
@@ -33,7 +33,14 @@ pub struct Ready {
 
 impl Ready {
     /// An event of a place that nothing has reported: it may be any.
-    pub fn unasked(place: usize) -> Ready {
+    pub fn unasked(place: usize) -> Ready
+        ensures { result ≡ record {
+          place = place;
+          readable = true;
+          writable = true;
+          left = false;
+        } }
+    {
         Ready {
             place,
             readable: true,
@@ -142,7 +149,10 @@ pub struct Rounds {
 
 impl Rounds {
     /// Creates a watch of at most `room` places. Returns `None` if memory is refused.
-    pub fn open(alloc: Global, room: usize) -> Option<Rounds> {
+    pub fn open(alloc: Global, room: usize) -> Option<Rounds>
+        ensures { IfSome result (λ rounds. (rounds.places.items ≡ [])
+            × (vec_capacity rounds.places ≡ room)) }
+    {
         let places = Vec::with_capacity(alloc, room).ok()?;
         Some(Rounds { places })
     }

@@ -8,7 +8,7 @@ use Rattle.sysv_rounds.specs.declared.worker.Worker.{Worker}
 use Rattle.sysv_places.specs.Places.{KeepsAll, Seated}
 use Rattle.sysv_server_laws.proofs.SharedOut.{taken_back}
 use Rattle.sysv_server_laws.proofs.SumsOfSessions.{emptied}
-use Rattle.sysv_rounds.proofs.staff.gather.Goals as goal
+use Rattle.sysv_rounds.proofs.staffing.gather.Goals as goal
 
 -- All places were taken back.
 all_back : {W P : Type 0} (places : W → List P) (taken whole : List P) (workers : List W) → workers ≡ [] →

@@ -1,6 +1,6 @@
 use Rattle.std.proofs.Common.{◌≡◌, [], vec_len}
 use Rattle.std.specs.List.{All}
-use Rattle.sysv_rounds.proofs.staff.discard.Given as goal
+use Rattle.sysv_rounds.proofs.staffing.discard.Given as goal
 
 abbrev pub invariant-loop-kit : goal.invariant-loop-kit
 invariant-loop-kit g l = All (λ k. k.places.items ≡ []) l.kits.items

@@ -1,6 +1,6 @@
 use Rattle.std.proofs.Common.{◌≡◌, ◌≤◌, ◌+◌, ◌++◌, reverse, vec_len, vec_capacity}
 use Rattle.std.specs.List.{flat_map, sum_by}
-use Rattle.sysv_rounds.proofs.staff.gather.Given as goal
+use Rattle.sysv_rounds.proofs.staffing.gather.Given as goal
 
 -- The places that were taken, and those that the workers still have.
 abbrev pub invariant-loop-worker : goal.invariant-loop-worker

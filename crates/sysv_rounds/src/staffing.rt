@@ -6,14 +6,14 @@ ghost use Rattle.sysv_service.specs.Seats.{AreOf};
 ghost use Rattle.sysv_thread_laws.specs.Hiring.{Gives};
 ghost use Rattle.sysv_places.specs.Places.{IsOpened, KeepsAll, has_ended};
 
-use sysv_places::{Place, hire, vacate};
-use sysv_telling::Rest;
-use sysv_watch::Watch;
 use crate::worker::{Kit, Worker};
 use std::alloc::Global;
 use std::sync::Wait;
+use sysv_places::{Place, hire, vacate};
 use sysv_seats::NonBlocking;
 use sysv_service::{Pass, Service};
+use sysv_telling::Rest;
+use sysv_watch::Watch;
 use sysv_wire::Version;
 
 /// Allocates a kit for each watch, in their order. The kits have room for `places` places together,

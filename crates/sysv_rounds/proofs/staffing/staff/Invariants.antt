@@ -3,7 +3,7 @@ use Rattle.std.specs.List.{All, FoldsTo, flat_map, sum_by}
 use Rattle.sysv_service.specs.Seats.{AreOf}
 use Rattle.sysv_thread_laws.specs.Hiring.{Gives}
 use Rattle.sysv_places.specs.Places.{IsOpened}
-use Rattle.sysv_rounds.proofs.staff.staff.Given as goal
+use Rattle.sysv_rounds.proofs.staffing.staff.Given as goal
 
 -- The workers so far, the last one first, have the last books, and the kits that are left have room
 -- for the others.

@@ -3,7 +3,7 @@ use Rattle.std.proofs.Common.{◌≡◌, ◌∙◌, List, [], ◌∷◌, ◌++�
 use Rattle.std.proofs.Common.{sym}
 use Rattle.sysv_server_laws.proofs.Shifts.{reverse_last}
 use Rattle.sysv_server_laws.proofs.SumsOfSessions.{emptied}
-use Rattle.sysv_rounds.proofs.staff.give_back.Goals as goal
+use Rattle.sysv_rounds.proofs.staffing.give_back.Goals as goal
 
 -- The last of the places that are left comes after those that were moved.
 one_moved : {P : Type 0} (old new left less whole : List P) (place : P) → left ≡ less ++ place ∷ [] →

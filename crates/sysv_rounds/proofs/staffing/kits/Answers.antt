@@ -6,7 +6,7 @@ use Rattle.std.proofs.lemmas.List.Sums.{sum_by_push}
 use Rattle.std.specs.List.{All, sum_by}
 use Rattle.sysv_rounds.specs.declared.worker.Kit.{Kit}
 use Rattle.sysv_server_laws.proofs.Reversed.{all_reverse}
-use Rattle.sysv_rounds.proofs.staff.kits.Goals as goal
+use Rattle.sysv_rounds.proofs.staffing.kits.Goals as goal
 
 pub loop-watch-preserved : goal.loop-watch-preserved
 loop-watch-preserved g c =

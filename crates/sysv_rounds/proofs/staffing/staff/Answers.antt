@@ -15,7 +15,7 @@ use Rattle.sysv_server_laws.proofs.Reversed.{all_reverse}
 use Rattle.sysv_server_laws.proofs.SharedOut.{fewer, given_before, one_before}
 use Rattle.sysv_server_laws.proofs.Shifts.{but_last, the_last}
 use Rattle.sysv_server_laws.proofs.SumsOfSessions.{emptied}
-use Rattle.sysv_rounds.proofs.staff.staff.Goals as goal
+use Rattle.sysv_rounds.proofs.staffing.staff.Goals as goal
 
 -- Once no kits are left, no books are.
 none_left : {K B : Type 0} (room : K → ℕ) (kits : List K) (books : List B) → length kits ≡ 0 →

@@ -1,6 +1,6 @@
 use Rattle.std.proofs.Common.{◌≡◌, ◌≤◌, ◌+◌, [], vec_len, vec_capacity}
 use Rattle.std.specs.List.{All, sum_by}
-use Rattle.sysv_rounds.proofs.staff.kits.Given as goal
+use Rattle.sysv_rounds.proofs.staffing.kits.Given as goal
 
 -- There is one kit for each watch that was taken. The kits have room for the places that are not left.
 abbrev pub invariant-loop-watch : goal.invariant-loop-watch

@@ -2,7 +2,7 @@
 use Rattle.std.proofs.Common.{◌≡◌, []}
 use Rattle.sysv_rounds.specs.declared.worker.Kit.{Kit}
 use Rattle.sysv_server_laws.proofs.Shifts.{but_last, the_last}
-use Rattle.sysv_rounds.proofs.staff.discard.Goals as goal
+use Rattle.sysv_rounds.proofs.staffing.discard.Goals as goal
 
 pub discard-requires : goal.discard-requires
 discard-requires g c =

@@ -1,5 +1,5 @@
 use Rattle.std.proofs.Common.{◌≡◌, ◌≤◌, ◌+◌, ◌++◌, reverse, vec_len, vec_capacity}
-use Rattle.sysv_rounds.proofs.staff.give_back.Given as goal
+use Rattle.sysv_rounds.proofs.staffing.give_back.Given as goal
 
 -- The places that were moved, and those that are left.
 abbrev pub invariant-loop-place : goal.invariant-loop-place
