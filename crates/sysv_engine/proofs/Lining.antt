@@ -6,8 +6,8 @@ use Rattle.sysv_parking.specs.declared.key.Key.{Key}
 use Rattle.sysv_parking.specs.Due.{by_all}
 use Rattle.sysv_parking.specs.Parking.{Parking, key_at, why_at}
 use Rattle.sysv_parking.specs.Keys.{word_of}
-use Rattle.sysv_seats.specs.declared.waiting.Waiting.{Waiting}
-use Rattle.sysv_seats.specs.declared.waiting.Waiting.TheVariants.{Send, Receive, Get}
+use Rattle.sysv_steps.specs.declared.pending.Waiting.{Waiting}
+use Rattle.sysv_steps.specs.declared.pending.Waiting.TheVariants.{Send, Receive, Get}
 use Rattle.sysv_seats.specs.Parked.{wait_in}
 use Rattle.sysv_steps.specs.declared.send.SendWait.TheVariants.{Room, Blocks}
 use Rattle.sysv_steps.specs.Resume.{awaited}

@@ -11,8 +11,8 @@ use Rattle.sysv_parking.specs.Due.{by_all}
 use Rattle.sysv_parking.specs.Keys.{bounded_sum}
 use Rattle.sysv_parking.specs.Parking.{Parking, key_at, why_at}
 use Rattle.sysv_seats.specs.declared.parked.Parked.{Parked}
-use Rattle.sysv_seats.specs.declared.waiting.Waiting.{Waiting}
-use Rattle.sysv_seats.specs.declared.waiting.Waiting.TheVariants.{Send, Receive, Get}
+use Rattle.sysv_steps.specs.declared.pending.Waiting.{Waiting}
+use Rattle.sysv_steps.specs.declared.pending.Waiting.TheVariants.{Send, Receive, Get}
 use Rattle.sysv_seats.specs.GivingBack.{held_length}
 use Rattle.sysv_seats.specs.Holding.{Message}
 use Rattle.sysv_seats.specs.Sits.{Sitting, is_back_parked, parked_bytes, parked_wait}

@@ -53,8 +53,8 @@ use Rattle.sysv_wire.specs.declared.request.Request.{Request}
 use Rattle.sysv_wire.specs.Requests.{FitsAsk, ask_text, op_of, request_encoding}
 use Rattle.sysv_seats.specs.declared.callers.Callers.{Callers}
 use Rattle.sysv_seats.specs.declared.parked.Parked.{Parked}
-use Rattle.sysv_seats.specs.declared.waiting.Waiting.{Waiting}
-use Rattle.sysv_seats.specs.declared.waiting.Waiting.TheVariants.{Send, Receive, Get}
+use Rattle.sysv_steps.specs.declared.pending.Waiting.{Waiting}
+use Rattle.sysv_steps.specs.declared.pending.Waiting.TheVariants.{Send, Receive, Get}
 use Rattle.sysv_seats.specs.Asked.{Asks}
 use Rattle.sysv_seats.specs.Held.{AnyGoesOn, HoldAsks, HoldBegun, HoldProgress, IsHoldWaitOf, back_progress}
 use Rattle.sysv_seats.specs.Callers.{includes}

@@ -18,8 +18,8 @@ use Rattle.sysv_steps.specs.State.{State, Ending, Got, Refused}
 use Rattle.sysv_wire.specs.declared.frame.Version.{Version}
 use Rattle.sysv_wire.specs.declared.request.Ask.{Ask}
 use Rattle.sysv_wire.specs.declared.request.Ask.TheVariants.{Get as AskGet, Snd, Rcv}
-use Rattle.sysv_seats.specs.declared.waiting.Waiting.{Waiting}
-use Rattle.sysv_seats.specs.declared.waiting.Waiting.TheVariants.{Send, Receive, Get}
+use Rattle.sysv_steps.specs.declared.pending.Waiting.{Waiting}
+use Rattle.sysv_steps.specs.declared.pending.Waiting.TheVariants.{Send, Receive, Get}
 use Rattle.sysv_seats.specs.Parked.{GoesOn, IsWaitOf, MayProgress, get_progress, send_progress, receive_progress}
 use Rattle.sysv_seats.specs.Replies.{given_reply}
 use Rattle.sysv_session.specs.Answers.{MayAnswer}

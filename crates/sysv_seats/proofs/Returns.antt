@@ -14,8 +14,8 @@ use Rattle.sysv_wire.specs.declared.frame.Version.TheVariants.{Three}
 use Rattle.sysv_wire.specs.declared.request.Ask.TheVariants.{Snd}
 use Rattle.sysv_wire.specs.declared.request.Request.{Request}
 use Rattle.sysv_seats.specs.declared.returning.Return.{Return}
-use Rattle.sysv_seats.specs.declared.waiting.Waiting.{Waiting}
-use Rattle.sysv_seats.specs.declared.waiting.Waiting.TheVariants.{Send, Receive, Get}
+use Rattle.sysv_steps.specs.declared.pending.Waiting.{Waiting}
+use Rattle.sysv_steps.specs.declared.pending.Waiting.TheVariants.{Send, Receive, Get}
 use Rattle.sysv_seats.specs.GivingBack.{ComesBack, EachReturnCanBeLeft, GoesBack, GoesBackOn, IsOfSend, IsReturn}
 use Rattle.sysv_seats.specs.GivingBack.{return_by, return_of}
 use Rattle.sysv_seats.specs.Held.{held_after}

@@ -1,6 +1,6 @@
 -- What a handler over a service does to its pass for a request (this project's profile). These are
 -- the definitions of `Requests`, for a pass.
-use Rattle.std.specs.Prelude.{◌≡◌, ℕ, ℤ, List, Option}
+use Rattle.std.specs.Prelude.{◌≡◌, ℕ, ℤ, List, Option, Some, None}
 use Rattle.sysv_keys.specs.declared.identifier.TheConstants.{SLOTS}
 use Rattle.sysv_model.specs.declared.attributes.SetTo.{SetTo}
 use Rattle.sysv_model.specs.declared.cred.Cred.{Cred}
@@ -14,10 +14,12 @@ use Rattle.sysv_session.specs.Together.{ServesTogether}
 use Rattle.sysv_service.specs.Ran.{Pass, Comes}
 use Rattle.sysv_service.specs.Told.{TellsRow}
 use Rattle.sysv_steps.specs.Begin.{begin}
+use Rattle.sysv_steps.specs.Call.{SystemCall, Msgget, Msgsnd, Msgrcv, MsgctlStat, MsgctlSet, MsgctlRmid}
 use Rattle.sysv_steps.specs.Resume.{Released}
 use Rattle.sysv_wire.specs.declared.frame.Version.{Version}
 use Rattle.sysv_wire.specs.declared.frame.Version.TheVariants.{Two}
 use Rattle.sysv_wire.specs.declared.request.Ask.{Ask}
+use Rattle.sysv_wire.specs.declared.request.Ask.TheVariants as ask
 use Rattle.sysv_seats.specs.Requests as requests
 use Rattle.sysv_seats.specs.Requests.{Going}
 
@@ -28,6 +30,16 @@ ComesFrom may cred asked released before state after = Comes may (begin cred ask
 -- The pass read the released count.
 abbrev pub ReadsReleased : ℕ → Pass → Pass → Type 0
 ReadsReleased released before after = Reads Released released before.seats after.seats × (after.held ≡ before.held)
+
+-- The call of the service that a request makes, if it makes one. `text` is the body of a send.
+abbrev pub asked_in : Ask → List ℕ → Option SystemCall
+asked_in (ask.Get key flags) text = Some (Msgget key flags)
+asked_in (ask.Snd id mtype flags) text = Some (Msgsnd id mtype flags text)
+asked_in (ask.Rcv id size mtype flags) text = Some (Msgrcv id size mtype flags)
+asked_in (ask.Stat id) text = Some (MsgctlStat id)
+asked_in (ask.Set id to) text = Some (MsgctlSet id to)
+asked_in (ask.Rm id) text = Some (MsgctlRmid id)
+asked_in other text = None
 
 -- A `msgget` with the pass.
 abbrev pub Gets : (ℕ → Type 0) → Type 0 → Version → Cred → ℤ → Flags → Pass → RequestOutcome → Pass → Type 0

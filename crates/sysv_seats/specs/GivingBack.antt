@@ -22,8 +22,8 @@ use Rattle.sysv_wire.specs.declared.frame.Version.TheVariants.{Three}
 use Rattle.sysv_wire.specs.declared.request.Ask.{Ask}
 use Rattle.sysv_wire.specs.declared.request.Ask.TheVariants.{Snd, Back}
 use Rattle.sysv_wire.specs.declared.request.Request.{Request}
-use Rattle.sysv_seats.specs.declared.waiting.Waiting.{Waiting}
-use Rattle.sysv_seats.specs.declared.waiting.Waiting.TheVariants.{Send, Receive, Get}
+use Rattle.sysv_steps.specs.declared.pending.Waiting.{Waiting}
+use Rattle.sysv_steps.specs.declared.pending.Waiting.TheVariants.{Send, Receive, Get}
 use Rattle.sysv_service.specs.Told.{TellsRow}
 use Rattle.sysv_seats.specs.Asked.{ComesFrom, ReadsReleased}
 use Rattle.sysv_seats.specs.Holding as holding

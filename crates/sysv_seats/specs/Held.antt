@@ -20,8 +20,8 @@ use Rattle.sysv_wire.specs.declared.request.Ask.{Ask}
 use Rattle.sysv_wire.specs.declared.frame.Version.TheVariants.{Three}
 use Rattle.sysv_wire.specs.declared.request.Ask.TheVariants.{Snd, Rcv, Hold, Back}
 use Rattle.sysv_seats.specs.declared.keeper.Keeper.{Keeper}
-use Rattle.sysv_seats.specs.declared.waiting.Waiting.{Waiting}
-use Rattle.sysv_seats.specs.declared.waiting.Waiting.TheVariants.{Send, Receive}
+use Rattle.sysv_steps.specs.declared.pending.Waiting.{Waiting}
+use Rattle.sysv_steps.specs.declared.pending.Waiting.TheVariants.{Send, Receive}
 use Rattle.sysv_seats.specs.Asked.{ComesFrom, ReadsReleased}
 use Rattle.sysv_seats.specs.Holding as holding
 use Rattle.sysv_seats.specs.Holding.{Holder, Message, Timed, back_outcome, begun_with, can_hold, held_by, hold_outcome}

@@ -23,8 +23,8 @@ use Rattle.sysv_wire.specs.declared.frame.Version.{Version}
 use Rattle.sysv_wire.specs.declared.request.Ask.{Ask}
 use Rattle.sysv_wire.specs.declared.request.Ask.TheVariants.{Hello, Get as AskGet, Snd, Rcv, Stat, Set, Rm, Row, Hold}
 use Rattle.sysv_wire.specs.declared.request.Ask.TheVariants.{Done, Back}
-use Rattle.sysv_seats.specs.declared.waiting.Waiting.{Waiting}
-use Rattle.sysv_seats.specs.declared.waiting.Waiting.TheVariants.{Send, Receive, Get}
+use Rattle.sysv_steps.specs.declared.pending.Waiting.{Waiting}
+use Rattle.sysv_steps.specs.declared.pending.Waiting.TheVariants.{Send, Receive, Get}
 use Rattle.sysv_seats.specs.Asked.{Asks, ReadsReleased}
 use Rattle.sysv_seats.specs.Parked.{IsParked, HasBegun, GoesOn, Proceeds, get_progress, send_progress}
 use Rattle.sysv_seats.specs.Parked.{receive_progress, kind_in}

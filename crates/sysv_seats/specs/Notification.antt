@@ -30,8 +30,8 @@ use Rattle.sysv_seats.specs.declared.notification.Notification.{Notification}
 use Rattle.sysv_seats.specs.declared.notification.Notification.TheVariants as notifications
 use Rattle.sysv_seats.specs.declared.notification.Told.{Told}
 use Rattle.sysv_seats.specs.declared.tools.Tools.{Tools}
-use Rattle.sysv_seats.specs.declared.waiting.Waiting.{Waiting}
-use Rattle.sysv_seats.specs.declared.waiting.Waiting.TheVariants.{Send}
+use Rattle.sysv_steps.specs.declared.pending.Waiting.{Waiting}
+use Rattle.sysv_steps.specs.declared.pending.Waiting.TheVariants.{Send}
 
 -- ---- one call
 

@@ -1,5 +1,5 @@
 -- What the reply to a request reports of the result of its call (this project's profile).
-use Rattle.std.specs.Prelude.{ℤ, ⊤, Option, option_map, Result, Ok, Err}
+use Rattle.std.specs.Prelude.{ℤ, ⊤, Option, Some, None, option_map, Result, Ok, Err}
 use Rattle.sysv_model.specs.declared.attributes.Row.{Row as Line}
 use Rattle.sysv_model.specs.declared.attributes.Stat.{Stat as Attributes}
 use Rattle.sysv_model.specs.declared.errno.Errno.{Errno}
@@ -7,6 +7,10 @@ use Rattle.sysv_model.specs.Live.{low_nine}
 use Rattle.sysv_queue.specs.Delivery.{Given}
 use Rattle.sysv_session.specs.declared.handler.RequestOutcome.{RequestOutcome}
 use Rattle.sysv_session.specs.declared.handler.RequestOutcome.TheVariants.{Reply, Got}
+use Rattle.sysv_steps.specs.Call.{Kind, Gets, Sends, Receives, Stats, Sets, Removes}
+use Rattle.sysv_steps.specs.declared.outcome.Outcome.{Outcome}
+use Rattle.sysv_steps.specs.declared.outcome.Outcome.TheVariants as outcome
+use Rattle.sysv_steps.specs.declared.progress.Ended.{Ended}
 use Rattle.sysv_wire.specs.declared.frame.Op.{Op}
 use Rattle.sysv_wire.specs.declared.frame.Op.TheVariants as op
 use Rattle.sysv_wire.specs.declared.frame.Version.{Version}
@@ -50,3 +54,38 @@ shown_row row = record row { mode = low_nine row.mode }
 abbrev pub row_reply : Version → Result (Option Line) Errno → RequestOutcome
 row_reply version (Ok row) = reply version op.Row (content.Row (option_map shown_row row))
 row_reply version (Err why) = reply version op.Row (content.Refused why)
+
+-- ---- by how a call ended
+
+-- The operation of a request that makes a call of this kind.
+abbrev pub op_for : Kind → Op
+op_for Gets = op.Get
+op_for Sends = op.Snd
+op_for Receives = op.Rcv
+op_for Stats = op.Stat
+op_for Sets = op.Set
+op_for Removes = op.Rm
+
+-- The content of the reply that an operation was done.
+abbrev pub done_by : Op → ReplyContent
+done_by op.Set = content.Set
+done_by op.Rm = content.Rm
+done_by o = content.Snd
+
+-- The content of the reply to an operation whose call ended with this outcome. An outcome with a
+-- message has none.
+abbrev pub content_by : Op → Outcome → ReplyContent
+content_by o (outcome.Id id) = content.Get id
+content_by o (outcome.Stat stat) = content.Stat (shown_stat stat)
+content_by o (outcome.Refused why) = content.Refused why
+content_by o outcome.Zero = done_by o
+content_by o (outcome.Got mtype len) = done_by o
+
+-- The outcome of a request whose call has ended so: the message of a receive is passed on, and any
+-- other end is a reply.
+abbrev pub outcome_with : Version → Op → Outcome → Option Given → RequestOutcome
+outcome_with version o result (Some given) = Got given
+outcome_with version o result None = reply version o (content_by o result)
+
+abbrev pub outcome_by : Version → Op → Ended → RequestOutcome
+outcome_by version o ended = outcome_with version o ended.outcome ended.delivery

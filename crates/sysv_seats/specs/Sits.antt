@@ -31,8 +31,8 @@ use Rattle.sysv_wire.specs.declared.request.Request.{Request}
 use Rattle.sysv_wire.specs.declared.reply.Reply.{Reply as Answer}
 use Rattle.sysv_wire.specs.Requests.{request_encoding}
 use Rattle.sysv_seats.specs.declared.parked.Parked.{Parked}
-use Rattle.sysv_seats.specs.declared.waiting.Waiting.{Waiting}
-use Rattle.sysv_seats.specs.declared.waiting.Waiting.TheVariants.{Send, Receive, Get}
+use Rattle.sysv_steps.specs.declared.pending.Waiting.{Waiting}
+use Rattle.sysv_steps.specs.declared.pending.Waiting.TheVariants.{Send, Receive, Get}
 use Rattle.sysv_seats.specs.declared.callers.Callers.{Callers}
 use Rattle.sysv_seats.specs.Callers.{includes}
 use Rattle.sysv_seats.specs.Held.{HoldParked, LapsesTo, holds_with}

@@ -29,7 +29,6 @@ use crate::notification::Told;
 use crate::parked::Parked;
 use crate::send_frame::snd_text;
 use crate::tools::{SHARE, Tools};
-use crate::waiting::Waiting;
 use crate::zero::Zero;
 use std::alloc::Global;
 use std::io::Read;
@@ -39,6 +38,7 @@ use sysv_keys::SLOTS;
 use sysv_model::{Body, Cred, Errno, Instrumented, MESSAGE_BYTES};
 use sysv_service::Progress;
 use sysv_session::{Conversation, End, RequestOutcome, Served, TakenUp};
+use sysv_steps::Waiting;
 use sysv_wire::{Ask, Fault, FrameIn, Op, Request, Version, frame_in_up_to};
 
 /// The number of bytes of replies above which nothing is read from a client.

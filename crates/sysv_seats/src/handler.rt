@@ -1,21 +1,32 @@
 //! The handler of a session over a service.
 
-ghost use Rattle.std.specs.Prelude.{◌≡◌, ◌≢◌, ◌≤◌, ℕ, List, [], Some};
+ghost use Rattle.std.specs.Prelude.{◌≡◌, ◌≢◌, ◌≤◌, ℕ, List, [], Some, None, length, option_map};
+ghost use Rattle.sysv_model.specs.declared.limits.TheConstants.{MESSAGE_BYTES};
 ghost use Rattle.sysv_model.specs.Instrumented.{stream_of, KeepsStream};
+ghost use Rattle.sysv_service.specs.Ran.{Pass as Seen};
 ghost use Rattle.sysv_service.specs.Seats.{AreOf};
+ghost use Rattle.sysv_steps.specs.Asked.{asked_by};
+ghost use Rattle.sysv_steps.specs.Call.{kind_of};
+ghost use Rattle.sysv_steps.specs.Driven.{CanAwait, CanStart, sent};
+ghost use Rattle.sysv_steps.specs.Pending.{kind_waiting, text_in};
+ghost use Rattle.sysv_wire.specs.Requests.{op_of};
 ghost use Rattle.sysv_session.specs.Answers.{MayAnswer};
 ghost use Rattle.sysv_session.specs.Parse.{Parse, Follows, Takes};
 ghost use Rattle.sysv_session.specs.Failing.{is_failed_read, is_failed_write};
-ghost use Rattle.sysv_seats.specs.Asked.{Gets, Sends, Receives, Stats, Sets, Removes, ServesPass, Shows};
-ghost use Rattle.sysv_seats.specs.Replies.{reply as the_reply, shown_stat as stat_shown, shown_row as row_shown};
+ghost use Rattle.sysv_seats.specs.Asked.{Asks, ServesPass, Shows, asked_in};
+ghost use Rattle.sysv_seats.specs.Held.{AsksForWriting};
+ghost use Rattle.sysv_seats.specs.Parked.{CallBegun, GoesOn, HasBegun, IsParked, IsWaitOf, MayProgress, progress_by};
+ghost use Rattle.sysv_seats.specs.Replies.{content_by, op_for, outcome_by, reply as the_reply, shown_stat as stat_shown, shown_row as row_shown};
 
 use std::alloc::Global;
 use std::io::{Read, Write};
 use std::sync::Wait;
 use sysv_keys::SLOTS;
-use sysv_model::{Body, Cred, Errno, Flags, Instrumented, Row, SetTo, Stat};
-use sysv_service::{Clock, Pass, Service};
+use sysv_model::{Body, Cred, Errno, Instrumented, Row, Stat};
+use sysv_rules::{Want, may};
+use sysv_service::{Clock, Pass, Progress, Service};
 use sysv_session::{End, Handler, RequestOutcome, Served, Texts, serve_instrumented};
+use sysv_steps::{Call, Ended, Fill, Outcome, Waiting};
 use sysv_wire::{Ask, MAX_MODE, Op, Reply, ReplyContent, Request, Version};
 
 /// The handler of one session over a service. Each request, except one for a row, is one call of
@@ -107,112 +118,156 @@ impl<'a, C: Clock, R: Wait> ServiceHandler<'a, C, R> {
         pass
     }
 
-    /// Makes a `msgget`, and returns the reply with its result.
-    fn get(&mut self, version: Version, cred: Cred, key: i32, flags: Flags) -> RequestOutcome
-        ensures gets { Gets (C.may self.old.clock.now) ⊥ version cred key flags self.old.pass
-            result self.new.pass }
-        ensures answer { MayAnswer version (Ask.Get key flags) result [] }
-        ensures handles { KeepsHandles self.old self.new }
-    {
-        let told = self
-            .service
-            .msgget(self.rt, &mut self.pass, self.clock, cred, key, flags);
-        match told {
-            Ok(id) => reply(version, Op::Get, ReplyContent::Get { id }),
-            Err(why) => reply(version, Op::Get, ReplyContent::Refused(why)),
-        }
-    }
-
-    /// Makes a `msgsnd` of the body, and returns the reply with its result.
-    fn send(
+    /// Begins a request. A get, a send and a receive make their steps until they wait or are over,
+    /// and never sleep until a count changes. Any other request never waits for a count.
+    ///
+    /// `cred`, `text` and `given` are those of `call`. If the request waits, `given` is empty, and
+    /// `go_on` continues it with the same `request` and `text`. To give it up, drop the wait.
+    ///
+    /// # Conditions
+    ///
+    /// - `request` is not a hello.
+    /// - `given` is empty.
+    #[inline(always)]
+    pub fn begin(
         &mut self,
-        version: Version,
         cred: Cred,
-        id: i32,
-        mtype: i64,
-        flags: Flags,
+        request: &Request,
         text: &Body,
-    ) -> RequestOutcome
-        ensures sends { Sends (C.may self.old.clock.now) ⊥ version cred id mtype flags text.now
-            self.old.pass result self.new.pass }
-        ensures answer { MayAnswer version (Ask.Snd id mtype flags) result [] }
+        given: &mut Body,
+    ) -> Progress<Waiting, RequestOutcome>
+        requires asked { op_of request.now.ask ≢ Op.Hello }
+        requires empty { given.old ≡ [] }
+        ensures begun { HasBegun (C.may self.old.clock.now) request.now.version cred request.now.ask
+            text.now self.old.pass result given.new self.new.pass }
+        ensures answer { MayProgress request.now.version request.now.ask result given.new }
         ensures handles { KeepsHandles self.old self.new }
     {
-        let pass = &mut self.pass;
-        let told = self
-            .service
-            .msgsnd(self.rt, pass, self.clock, cred, id, mtype, text, flags);
-        match told {
-            Ok(()) => reply(version, Op::Snd, ReplyContent::Snd),
-            Err(why) => reply(version, Op::Snd, ReplyContent::Refused(why)),
+        let version = request.version;
+        match call_of(request.ask) {
+            Some(call) => self.begin_call(version, cred, &call, Some(text), given),
+            None => Progress::Over(self.beside(request)),
         }
     }
 
-    /// Makes a `msgrcv` into `given`, and returns its message or the reply with its error.
-    fn receive(
+    /// Begins a call: makes its steps until it waits or is over.
+    #[inline(always)]
+    pub(crate) fn begin_call<O: Fill>(
         &mut self,
         version: Version,
         cred: Cred,
-        id: i32,
-        size: u32,
-        mtype: i64,
-        flags: Flags,
-        given: &mut Body,
-    ) -> RequestOutcome
-        ensures receives { Receives (C.may self.old.clock.now) ⊥ version cred id size mtype flags
-            self.old.pass result given.new self.new.pass }
-        ensures answer { MayAnswer version (Ask.Rcv id size mtype flags) result given.new }
+        call: &Call<(), ()>,
+        text: Option<&Body>,
+        given: &mut O,
+    ) -> Progress<Waiting, RequestOutcome>
+        requires { CanStart (kind_of (asked_by (λ _. text_in (sent text)) call.now)) (sent text)
+            O.fills }
+        ensures begun { CallBegun (C.may self.old.clock.now) version cred
+            (asked_by (λ _. text_in (sent text.entry)) call.now) (text_in (sent text.entry))
+            self.old.pass result (O.bytes given.new) self.new.pass }
         ensures handles { KeepsHandles self.old self.new }
     {
         let pass = &mut self.pass;
-        let told = self.service.msgrcv(
-            self.rt, pass, self.clock, cred, id, given, size, mtype, flags,
-        );
-        match told {
-            Ok(delivery) => RequestOutcome::Got(delivery),
-            Err(why) => reply(version, Op::Rcv, ReplyContent::Refused(why)),
-        }
-    }
-
-    /// Makes a `msgctl` with `IPC_STAT`, and returns the reply with its result.
-    fn stat(&mut self, version: Version, cred: Cred, id: i32) -> RequestOutcome
-        ensures stats { Stats version cred id self.old.pass result self.new.pass }
-        ensures answer { MayAnswer version (Ask.Stat id) result [] }
-        ensures handles { KeepsHandles self.old self.new }
-    {
-        let told = self.service.msgctl_stat(self.rt, &mut self.pass, cred, id);
-        match told {
-            Ok(stat) => reply(version, Op::Stat, ReplyContent::Stat(shown_stat(stat))),
-            Err(why) => reply(version, Op::Stat, ReplyContent::Refused(why)),
-        }
-    }
-
-    /// Makes a `msgctl` with `IPC_SET`, and returns the reply with its result.
-    fn set(&mut self, version: Version, cred: Cred, id: i32, to: SetTo) -> RequestOutcome
-        ensures sets { Sets (C.may self.old.clock.now) version cred id to self.old.pass result
-            self.new.pass }
-        ensures answer { MayAnswer version (Ask.Set id to) result [] }
-        ensures handles { KeepsHandles self.old self.new }
-    {
-        let told = self
+        let came = self
             .service
-            .msgctl_set(self.rt, &mut self.pass, self.clock, cred, id, to);
-        match told {
-            Ok(()) => reply(version, Op::Set, ReplyContent::Set),
-            Err(why) => reply(version, Op::Set, ReplyContent::Refused(why)),
+            .begin(self.rt, pass, self.clock, cred, call, text, given);
+        progress_of(version, op_of_call(call), came)
+    }
+
+    /// Continues a request that waits, if its wait is over. Looks once at the count for which the
+    /// request waits, and returns `waiting` again if the request still waits. Otherwise the call
+    /// makes its steps until it waits again or is over, and never sleeps until a count changes.
+    ///
+    /// # Conditions
+    ///
+    /// - `waiting` is a wait of a request of this kind, from `begin` or `go_on`. The contract says
+    ///   what becomes of the request if `request` and `text` are those with which it was begun, and
+    ///   this handler's pass is the one with which it waits.
+    /// - `text` has at most 8,192 bytes, as the body of every send that waits.
+    /// - `given` is empty.
+    pub fn go_on(
+        &mut self,
+        request: &Request,
+        text: &Body,
+        given: &mut Body,
+        waiting: Waiting,
+    ) -> Progress<Waiting, RequestOutcome>
+        requires kind { IsWaitOf request.now.ask waiting }
+        requires short { length text.now ≤ MESSAGE_BYTES }
+        requires empty { given.old ≡ [] }
+        ensures begun { (start : Seen) (cred : Cred) →
+            IsParked (C.may self.old.clock.now) cred request.now.ask text.now start waiting
+            self.old.pass →
+            HasBegun (C.may self.old.clock.now) request.now.version cred request.now.ask text.now
+            start result given.new self.new.pass }
+        // The count is read in each case.
+        ensures looks { GoesOn (C.may self.old.clock.now) request.now.version waiting text.now
+            self.old.pass result given.new self.new.pass }
+        ensures answer { MayProgress request.now.version request.now.ask result given.new }
+        ensures handles { KeepsHandles self.old self.new }
+    {
+        self.call_on(request.version, waiting, Some(text), given)
+    }
+
+    /// Continues a call that waits, if its wait is over.
+    pub(crate) fn call_on<O: Fill>(
+        &mut self,
+        version: Version,
+        waiting: Waiting,
+        text: Option<&Body>,
+        given: &mut O,
+    ) -> Progress<Waiting, RequestOutcome>
+        requires bodies { CanAwait waiting (sent text) O.fills }
+        requires empty { O.bytes given.old ≡ [] }
+        ensures looks { GoesOn (C.may self.old.clock.now) version waiting
+            (text_in (sent text.entry)) self.old.pass result (O.bytes given.new) self.new.pass }
+        ensures handles { KeepsHandles self.old self.new }
+    {
+        let pass = &mut self.pass;
+        let Some(step) = self.service.look(pass, &waiting) else {
+            return Progress::Waits(waiting);
+        };
+        let came = self
+            .service
+            .go_on(self.rt, pass, self.clock, step, text, given);
+        progress_of(version, op_of_wait(&waiting), came)
+    }
+
+    /// Carries out a request that is no call of the service. A handler has no memory for a held
+    /// message, so it refuses each operation on one.
+    fn beside(&mut self, request: &Request) -> RequestOutcome
+        requires asked { op_of request.now.ask ≢ Op.Hello }
+        requires beside { asked_in request.now.ask [] ≡ None }
+        ensures asks { (cred : Cred) (text : List ℕ) → Asks (C.may self.old.clock.now) ⊥
+            request.now.version cred request.now.ask text self.old.pass result [] self.new.pass }
+        ensures answer { MayAnswer request.now.version request.now.ask result [] }
+        ensures handles { KeepsHandles self.old self.new }
+    {
+        match request.ask {
+            Ask::Row { slot } => self.row(request.version, slot),
+            ask => reply(
+                request.version,
+                ask.op(),
+                ReplyContent::Refused(Errno::EINVAL),
+            ),
         }
     }
 
-    /// Makes a `msgctl` with `IPC_RMID`, and returns the reply with its result.
-    fn remove(&mut self, version: Version, cred: Cred, id: i32) -> RequestOutcome
-        ensures removes { Removes version cred id self.old.pass result self.new.pass }
-        ensures answer { MayAnswer version (Ask.Rm id) result [] }
+    /// Requests the attributes of a queue. Returns whether the caller may send to it, and if not, why.
+    ///
+    /// # Errors
+    ///
+    /// - `EACCES` if the caller may not.
+    /// - That of a `msgctl` with `IPC_STAT` if it has failed.
+    pub(crate) fn ask_for_writing(&mut self, cred: Cred, id: i32) -> Result<(), Errno>
+        ensures asks { AsksForWriting cred id self.old.pass result self.new.pass }
         ensures handles { KeepsHandles self.old self.new }
     {
-        let told = self.service.msgctl_rmid(self.rt, &mut self.pass, cred, id);
-        match told {
-            Ok(()) => reply(version, Op::Rm, ReplyContent::Rm),
-            Err(why) => reply(version, Op::Rm, ReplyContent::Refused(why)),
+        let stat = self.service.msgctl_stat(self.rt, &mut self.pass, cred, id)?;
+        if may(cred, stat.perm, Want::Write) {
+            Ok(())
+        } else {
+            Err(Errno::EACCES)
         }
     }
 
@@ -253,33 +308,111 @@ impl<C: Clock, R: Wait> Handler for ServiceHandler<'_, C, R> {
         text: &Body,
         given: &mut Body,
     ) -> RequestOutcome {
-        let version = request.version;
-        match request.ask {
-            Ask::Hello(_) => unreachable!(),
-            Ask::Get { key, flags } => self.get(version, cred, key, flags),
-            Ask::Snd { id, mtype, flags } => self.send(version, cred, id, mtype, flags, text),
-            Ask::Rcv {
-                id,
-                size,
-                mtype,
-                flags,
-            } => self.receive(version, cred, id, size, mtype, flags, given),
-            Ask::Stat { id } => self.stat(version, cred, id),
-            Ask::Set { id, to } => self.set(version, cred, id, to),
-            Ask::Rm { id } => self.remove(version, cred, id),
-            Ask::Row { slot } => self.row(version, slot),
-            Ask::Hold { .. } => refuse_hold(version, Op::Hold),
-            Ask::Done => refuse_hold(version, Op::Done),
-            Ask::Back => refuse_hold(version, Op::Back),
-        }
+        let Some(call) = call_of(request.ask) else {
+            return self.beside(request);
+        };
+        let pass = &mut self.pass;
+        let ended = self
+            .service
+            .call(self.rt, pass, self.clock, cred, &call, Some(text), given);
+        outcome_of(request.version, request.ask.op(), ended)
     }
 }
 
-/// Refuses an operation on a held message, for which a handler has no memory.
-fn refuse_hold(version: Version, op: Op) -> RequestOutcome
-    ensures { result ≡ the_reply version op (ReplyContent.Refused Errno.EINVAL) }
+/// Returns the call of the service that a request makes, or `None` if it makes none.
+fn call_of(ask: Ask) -> Option<Call<(), ()>>
+    ensures { (text : List ℕ) → option_map (asked_by (λ _. text)) result ≡ asked_in ask text }
 {
-    reply(version, op, ReplyContent::Refused(Errno::EINVAL))
+    Some(match ask {
+        Ask::Get { key, flags } => Call::Get { key, flags },
+        Ask::Snd { id, mtype, flags } => Call::Send {
+            id,
+            mtype,
+            flags,
+            body: (),
+        },
+        Ask::Rcv {
+            id,
+            size,
+            mtype,
+            flags,
+        } => Call::Receive {
+            id,
+            size,
+            mtype,
+            flags,
+            body: (),
+        },
+        Ask::Stat { id } => Call::Stat { id },
+        Ask::Set { id, to } => Call::Set { id, to },
+        Ask::Rm { id } => Call::Remove { id },
+        _beside => return None,
+    })
+}
+
+/// Returns the operation of a request that makes this call.
+fn op_of_call(call: &Call<(), ()>) -> Op
+    ensures { (text : List ℕ) → result ≡ op_for (kind_of (asked_by (λ _. text) call.now)) }
+{
+    match call {
+        Call::Get { .. } => Op::Get,
+        Call::Send { .. } => Op::Snd,
+        Call::Receive { .. } => Op::Rcv,
+        Call::Stat { .. } => Op::Stat,
+        Call::Set { .. } => Op::Set,
+        Call::Remove { .. } => Op::Rm,
+    }
+}
+
+/// Returns the operation of a request whose call is in this wait.
+fn op_of_wait(waiting: &Waiting) -> Op
+    ensures { result ≡ op_for (kind_waiting waiting.now) }
+{
+    match waiting {
+        Waiting::Get(_) => Op::Get,
+        Waiting::Send(_) => Op::Snd,
+        Waiting::Receive(_) => Op::Rcv,
+    }
+}
+
+/// Returns how far a request has come whose call has come so far.
+fn progress_of(
+    version: Version,
+    op: Op,
+    came: Progress<Waiting, Ended>,
+) -> Progress<Waiting, RequestOutcome>
+    ensures { result ≡ progress_by version op came }
+{
+    match came {
+        Progress::Waits(waiting) => Progress::Waits(waiting),
+        Progress::Over(ended) => Progress::Over(outcome_of(version, op, ended)),
+    }
+}
+
+/// Returns the outcome of a request whose call has ended so: the message of a receive, or a reply.
+fn outcome_of(version: Version, op: Op, ended: Ended) -> RequestOutcome
+    ensures { result ≡ outcome_by version op ended }
+{
+    match ended.delivery {
+        Some(delivery) => RequestOutcome::Got(delivery),
+        None => reply(version, op, content_of(op, ended.outcome)),
+    }
+}
+
+/// Returns the content of the reply to an operation whose call ended with this outcome.
+fn content_of(op: Op, outcome: Outcome) -> ReplyContent
+    ensures { result ≡ content_by op outcome }
+{
+    match outcome {
+        Outcome::Id(id) => ReplyContent::Get { id },
+        Outcome::Stat(stat) => ReplyContent::Stat(shown_stat(stat)),
+        Outcome::Refused(why) => ReplyContent::Refused(why),
+        Outcome::Zero | Outcome::Got { .. } => match op {
+            Op::Set => ReplyContent::Set,
+            Op::Rm => ReplyContent::Rm,
+            _send => ReplyContent::Snd,
+        },
+    }
 }
 
 /// Returns the reply of an operation, in the version of its request.

@@ -19,8 +19,7 @@ ghost use Rattle.sysv_seats.specs.Replies.{reply as the_reply};
 use crate::hand::{Hand, Room};
 use crate::handler::{ServiceHandler, reply};
 use crate::holding::HeldMessage;
-use crate::returning::{fate_after, send_wait};
-use crate::waiting::Waiting;
+use crate::returning::fate_after;
 use bitflags::Flags as _;
 use std::alloc::Global;
 use std::sync::Wait;
@@ -28,6 +27,7 @@ use sysv_model::{Body, Cred, Errno, Flags};
 use sysv_queue::{Delivery, Tally};
 use sysv_service::{Clock, Pass, Progress};
 use sysv_session::RequestOutcome;
+use sysv_steps::{Call, NoBody, Waiting};
 use sysv_wire::{Ask, Op, ReplyContent, Request, Version};
 
 /// The handler of one session after another over a service, of which each may hold a message.
@@ -196,9 +196,16 @@ impl<'a, C: Clock, R: Wait> Keeper<'a, C, R> {
         match self.handler.ask_for_writing(cred, id) {
             Err(why) => Progress::Over(refusal(version, Op::Hold, why)),
             Ok(()) => {
+                let receive = Call::Receive {
+                    id,
+                    size,
+                    mtype,
+                    flags,
+                    body: (),
+                };
                 let came = self
                     .handler
-                    .begin_receive(version, cred, id, size, mtype, flags, given);
+                    .begin_call(version, cred, &receive, None, given);
                 self.keep(version, cred, id, seconds, came, given, memory)
             }
         }
@@ -222,10 +229,15 @@ impl<'a, C: Clock, R: Wait> Keeper<'a, C, R> {
         };
         let (cred, id, mtype) = (message.cred(), message.id(), message.mtype());
         message.recall(given);
-        let none = Flags::from_bits_retain(0);
-        let came = self
-            .handler
-            .begin_send(Version::Three, cred, id, mtype, none, given);
+        let send = Call::Send {
+            id,
+            mtype,
+            flags: Flags::from_bits_retain(0),
+            body: (),
+        };
+        let came =
+            self.handler
+                .begin_call(Version::Three, cred, &send, Some(given), &mut NoBody);
         given.clear();
         self.settle_back(version, came)
     }
@@ -348,8 +360,9 @@ impl<'a, C: Clock, R: Wait> Keeper<'a, C, R> {
             return Progress::Waits(waiting);
         };
         message.recall(given);
-        let wait = send_wait(waiting);
-        let came = self.handler.send_on(Version::Three, given, wait);
+        let came = self
+            .handler
+            .call_on(Version::Three, waiting, Some(given), &mut NoBody);
         given.clear();
         self.settle_back(version, came)
     }

@@ -11,7 +11,6 @@ mod callers;
 mod client;
 mod hand;
 mod handler;
-mod handler_pieces;
 mod hello_frame;
 mod holding;
 mod keeper;
@@ -25,7 +24,6 @@ mod returning;
 mod send_frame;
 mod socket_stream;
 mod tools;
-mod waiting;
 mod zero;
 
 pub use attendance::Attendance;
@@ -47,5 +45,7 @@ pub use returning::{Fate, Fated, Return, Returned};
 pub use send_frame::snd_text;
 pub use socket_stream::SocketStream;
 pub use tools::Tools;
-pub use waiting::{Awaited, Waiting};
 pub use zero::{ZERO, Zero};
+
+// The wait of a parked call.
+pub use sysv_steps::Waiting;

@@ -2,12 +2,12 @@
 ghost use Rattle.std.specs.Prelude.{◌≡◌};
 ghost use Rattle.sysv_seats.specs.Notification.{changed_by, freed_by, freed_by_reply, is_done as does, may_make as makes, may_release, may_settle, told_at, told_by};
 
-use crate::waiting::Waiting;
 use bitflags::Flags as _;
 use sysv_keys::slot_of_id;
 use sysv_model::{Flags, IPC_PRIVATE};
 use sysv_service::SendWait;
 use sysv_session::RequestOutcome;
+use sysv_steps::Waiting;
 use sysv_wire::{Ask, Reply, ReplyContent};
 
 /// What a call may have changed for calls that wait.

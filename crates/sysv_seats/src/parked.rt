@@ -1,7 +1,7 @@
 //! Requests whose calls wait.
 
-use crate::waiting::Waiting;
 use sysv_model::Cred;
+use sysv_steps::Waiting;
 use sysv_wire::Request;
 
 /// A request that was taken up, and whose call waits.

@@ -9,12 +9,12 @@ ghost use Rattle.sysv_seats.specs.Held.{held_after, holder_of};
 use crate::keeper::Keeper;
 use crate::notification::Told;
 use crate::tools::Tools;
-use crate::waiting::Waiting;
 use crate::zero::Zero;
 use std::sync::Wait;
 use sysv_model::Errno;
 use sysv_service::{Progress, SendWait};
 use sysv_session::RequestOutcome;
+use sysv_steps::Waiting;
 use sysv_wire::{ReplyContent, Request};
 
 /// What became of a message that was sent again.

@@ -11,6 +11,8 @@ use Rattle.sysv_keys.specs.declared.identifier.TheConstants.{SLOTS}
 use Rattle.sysv_service.specs.Seats.{FindsWorn}
 use Rattle.sysv_service.specs.Ran.{Pass, Makes}
 use Rattle.sysv_queue.specs.Delivery.{Given}
+use Rattle.sysv_steps.specs.declared.outcome.Outcome.{Outcome}
+use Rattle.sysv_steps.specs.declared.outcome.Outcome.TheVariants as outcome
 use Rattle.sysv_steps.specs.State.{Ending, Id, Zero, Got, Told, Refused}
 
 -- The result of a call that ends with an identifier.
@@ -30,6 +32,17 @@ abbrev pub TellsStat : Ending → Result Stat Errno → Type 0
 TellsStat (Told stat) (Ok told) = told ≡ stat
 TellsStat (Refused why) (Err told) = told ≡ why
 TellsStat ending result = ⊥
+
+-- A call that returns no value may end with this outcome.
+abbrev pub IsZeroEnd : Outcome → Type 0
+IsZeroEnd outcome.Zero = ⊤
+IsZeroEnd (outcome.Refused why) = ⊤
+IsZeroEnd other = ⊥
+
+-- The outcome is an error.
+abbrev pub IsRefusal : Outcome → Type 0
+IsRefusal (outcome.Refused why) = ⊤
+IsRefusal other = ⊥
 
 -- The result of a receive: the message's type, its body, which is in `out`, and the length of the
 -- body. After an error `out` is empty.

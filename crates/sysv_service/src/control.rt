@@ -7,20 +7,29 @@ ghost use Rattle.sysv_steps.specs.State.{Over, Ending as Ends};
 ghost use Rattle.sysv_service.specs.Seats.{AreOf};
 ghost use Rattle.sysv_steps.specs.Stepping.{no_moment};
 ghost use Rattle.sysv_service.specs.Ran.{Comes};
-ghost use Rattle.sysv_service.specs.Told.{TellsZero, TellsStat, TellsRow};
+ghost use Rattle.sysv_steps.specs.Answered.{outcome_of};
+ghost use Rattle.sysv_service.specs.Told.{TellsZero, TellsStat, TellsRow, IsRefusal, IsZeroEnd};
 
-use crate::AtGates;
 use crate::pass::Pass;
-use crate::running::Stepper;
 use crate::service::Service;
 use std::sync::Wait as MayWait;
 use sysv_keys::SLOTS;
 use sysv_model::{Cred, Errno, Row, SetTo, Stat};
 use sysv_objects::{ObjectCall, ObjectReply, SlotCall, SlotReply};
-use sysv_steps::{
-    Clock, NoWait, RemoveState, RemoveStep, SetState, SetStep, StatState, StatStep, remove_step,
-    set_step, stat_step,
-};
+use sysv_steps::{Call, Clock, Ended, NoBody, Outcome};
+
+/// A clock for the calls whose steps use no time.
+struct NoTime;
+
+impl Clock for NoTime {
+    ghost use Rattle.std.specs.Prelude.{⊤};
+
+    ghost may = { λ _ _. ⊤ };
+
+    fn now(&self) -> u64 {
+        0
+    }
+}
 
 impl Service {
     /// Returns the attributes of the queue `id`, the number of queued messages and the number of
@@ -50,7 +59,13 @@ impl Service {
             × Comes no_moment (begins cred (MsgctlStat id) 0) pass.old (Over ending) pass.new
             × TellsStat ending result }
     {
-        self.finish(rt, pass, &StatStepper, StatStep::begin(cred, id))
+        let stat: Call<(), ()> = Call::Stat { id };
+        let ended = self.call(rt, pass, &NoTime, cred, &stat, None, &mut NoBody);
+        match ended.outcome {
+            Outcome::Stat(stat) => Ok(stat),
+            Outcome::Refused(why) => Err(why),
+            _other => unreachable!(),
+        }
     }
 
     /// Sets the owner, the mode and the limit `qbytes` of the queue `id`, and its time of change
@@ -84,8 +99,8 @@ impl Service {
             × Comes (C.may clock.now) (begins cred (MsgctlSet id to) 0) pass.old
             (Over ending) pass.new × TellsZero ending result }
     {
-        let stepper = SetStepper { clock };
-        self.finish(rt, pass, &stepper, SetStep::begin(cred, id, to))
+        let set: Call<(), ()> = Call::Set { id, to };
+        zero_of(self.call(rt, pass, clock, cred, &set, None, &mut NoBody))
     }
 
     /// Removes the queue `id` and discards its queued messages (POSIX.1-2017, `msgctl`, IPC_RMID).
@@ -115,7 +130,8 @@ impl Service {
             × Comes no_moment (begins cred (MsgctlRmid id) 0) pass.old (Over ending) pass.new
             × TellsZero ending result }
     {
-        self.finish(rt, pass, &RemoveStepper, RemoveStep::begin(cred, id))
+        let remove: Call<(), ()> = Call::Remove { id };
+        zero_of(self.call(rt, pass, &NoTime, cred, &remove, None, &mut NoBody))
     }
 
     /// Returns the row of the live queue in this slot, or `None` if no queue is live there (this
@@ -155,115 +171,25 @@ impl Service {
     }
 }
 
-/// The steps of an IPC_STAT.
-struct StatStepper;
-
-impl Stepper for StatStepper {
-    ghost use Rattle.sysv_steps.specs.Call.{Stats};
-    ghost use Rattle.sysv_steps.specs.State.{Told};
-    ghost use Rattle.sysv_steps.specs.Seen.{stat_phase, no_wait};
-
-    type Step = StatStep;
-
-    type Wait = NoWait;
-
-    type Done = Stat;
-
-    ghost kind = { Stats };
-
-    ghost phase = { λ _. stat_phase };
-
-    ghost wait = { λ _. no_wait };
-
-    ghost ending = { λ _. Told };
-
-    ghost is_refused = { λ _ _. tt };
-
-    fn step(
-        &self,
-        rt: &impl MayWait,
-        service: &Service,
-        pass: &mut Pass,
-        step: StatStep,
-    ) -> StatState {
-        let gates = AtGates::of(rt, &service.gates);
-        stat_step(&gates, &mut pass.seats, step)
+/// Returns the result of a call that returns no value.
+pub(crate) fn zero_of(ended: Ended) -> Result<(), Errno>
+    requires { IsZeroEnd ended.outcome }
+    ensures { (ending : Ending) → ended.outcome ≡ outcome_of ending → TellsZero ending result }
+{
+    match ended.outcome {
+        Outcome::Zero => Ok(()),
+        Outcome::Refused(why) => Err(why),
+        _other => unreachable!(),
     }
 }
 
-/// The steps of an IPC_SET.
-#[derive(Drop)]
-struct SetStepper<'a, C> {
-    clock: &'a C,
-}
-
-impl<'a, C: Clock> Stepper for SetStepper<'a, C> {
-    ghost use Rattle.sysv_steps.specs.Call.{Sets};
-    ghost use Rattle.sysv_steps.specs.State.{Zero};
-    ghost use Rattle.sysv_steps.specs.Seen.{set_phase, no_wait};
-
-    type Step = SetStep;
-
-    type Wait = NoWait;
-
-    type Done = ();
-
-    ghost may = { λ s. C.may s.clock.now };
-
-    ghost kind = { Sets };
-
-    ghost phase = { λ _. set_phase };
-
-    ghost wait = { λ _. no_wait };
-
-    ghost ending = { λ _ _. Zero };
-
-    ghost is_refused = { λ _ _. tt };
-
-    fn step(
-        &self,
-        rt: &impl MayWait,
-        service: &Service,
-        pass: &mut Pass,
-        step: SetStep,
-    ) -> SetState {
-        let gates = AtGates::of(rt, &service.gates);
-        set_step(&gates, &mut pass.seats, &mut pass.held, self.clock, step)
-    }
-}
-
-/// The steps of an IPC_RMID.
-struct RemoveStepper;
-
-impl Stepper for RemoveStepper {
-    ghost use Rattle.sysv_steps.specs.Call.{Removes};
-    ghost use Rattle.sysv_steps.specs.State.{Zero};
-    ghost use Rattle.sysv_steps.specs.Seen.{remove_phase, no_wait};
-
-    type Step = RemoveStep;
-
-    type Wait = NoWait;
-
-    type Done = ();
-
-    ghost kind = { Removes };
-
-    ghost phase = { λ _. remove_phase };
-
-    ghost wait = { λ _. no_wait };
-
-    ghost ending = { λ _ _. Zero };
-
-    ghost is_refused = { λ _ _. tt };
-
-    fn step(
-        &self,
-        rt: &impl MayWait,
-        service: &Service,
-        pass: &mut Pass,
-        step: RemoveStep,
-    ) -> RemoveState {
-        let gates = AtGates::of(rt, &service.gates);
-        remove_step(&gates, &mut pass.seats, &mut pass.held, step)
+/// Returns the error of a call that failed.
+pub(crate) fn refused_of(outcome: Outcome) -> Errno
+    requires { IsRefusal outcome }
+    ensures { outcome ≡ Outcome.Refused result }
+{
+    match outcome {
+        Outcome::Refused(why) => why,
+        _other => unreachable!(),
     }
 }

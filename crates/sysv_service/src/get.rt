@@ -9,12 +9,10 @@ ghost use Rattle.sysv_service.specs.Ran.{Comes};
 ghost use Rattle.sysv_service.specs.Told.{TellsId};
 
 use crate::pass::Pass;
-use crate::running::{Stepper, Waiter};
 use crate::service::Service;
-use crate::{AtGates, SharedCount};
 use std::sync::Wait as MayWait;
 use sysv_model::{Cred, Errno, Flags};
-use sysv_steps::{Clock, GetState, GetStep, GetWait, Getting, get_step};
+use sysv_steps::{Call, Clock, NoBody, Outcome};
 
 impl Service {
     /// Returns the identifier of the queue with this key, or that of a new queue (POSIX.1-2017,
@@ -52,58 +50,12 @@ impl Service {
             × Comes (C.may clock.now) (begins cred (Msgget key flags) 0) pass.old
             (Over ending) pass.new × TellsId ending result }
     {
-        let stepper = GetStepper { clock };
-        self.run(rt, pass, &stepper, Getting::begin(cred, key, flags))
-    }
-}
-
-/// The steps of a `msgget`.
-#[derive(Drop)]
-pub(crate) struct GetStepper<'a, C> {
-    pub(crate) clock: &'a C,
-}
-
-impl<'a, C: Clock> Stepper for GetStepper<'a, C> {
-    ghost use Rattle.sysv_steps.specs.Call.{Gets};
-    ghost use Rattle.sysv_steps.specs.State.{Id};
-    ghost use Rattle.sysv_steps.specs.Seen.{get_phase, get_wait};
-
-    type Step = GetStep;
-
-    type Wait = GetWait;
-
-    type Done = i32;
-
-    ghost kind = { Gets };
-
-    ghost may = { λ s. C.may s.clock.now };
-
-    ghost phase = { λ _. get_phase };
-
-    ghost wait = { λ _. get_wait };
-
-    ghost ending = { λ _. Id };
-
-    ghost is_refused = { λ _ _. tt };
-
-    fn step(
-        &self,
-        rt: &impl MayWait,
-        service: &Service,
-        pass: &mut Pass,
-        step: GetStep,
-    ) -> GetState {
-        let gates = AtGates::of(rt, &service.gates);
-        get_step(&gates, &mut pass.seats, self.clock, step)
-    }
-}
-
-impl<C: Clock> Waiter for GetStepper<'_, C> {
-    fn awaited(&self, waits: &GetWait) -> (SharedCount, u64) {
-        (SharedCount::Settled, waits.above)
-    }
-
-    fn resume(&self, waits: GetWait, _value: u64) -> GetStep {
-        waits.resume()
+        let get: Call<(), ()> = Call::Get { key, flags };
+        let ended = self.call(rt, pass, clock, cred, &get, None, &mut NoBody);
+        match ended.outcome {
+            Outcome::Id(id) => Ok(id),
+            Outcome::Refused(why) => Err(why),
+            _other => unreachable!(),
+        }
     }
 }

@@ -17,22 +17,18 @@ mod control;
 mod counts;
 mod gates;
 mod get;
-mod getting;
 mod kinds;
 mod laws;
-mod looking;
 mod making;
 mod object;
 mod opening;
 mod pass;
+mod pending;
 mod progress;
 mod receive;
-mod receiving;
-mod running;
 mod seat_laws;
 mod seats;
 mod send;
-mod sending;
 mod service;
 mod shared_count;
 mod sharing;
@@ -60,4 +56,6 @@ pub use stopping::Stop;
 // The types that the signatures use.
 pub use sysv_model::{Body, Cred, Errno, Flags, NoMemory, Perm, Row, SetTo, Stat};
 pub use sysv_queue::{Delivery, Tally};
-pub use sysv_steps::{Clock, GetWait, Getting, ReceiveWait, Receiving, SendWait, Sending};
+pub use sysv_steps::{
+    Call, Clock, Ended, Fill, GetWait, NoBody, Outcome, ReceiveWait, SendWait, Step, Waiting,
+};

@@ -1,27 +1,21 @@
 //! `msgrcv`.
 
-ghost use Rattle.std.specs.Prelude.{◌≡◌, ℕ, List, IfOk};
+ghost use Rattle.std.specs.Prelude.{IfOk};
 ghost use Rattle.sysv_steps.specs.Call.{Msgrcv};
 ghost use Rattle.sysv_steps.specs.Begin.{begin as begins};
 ghost use Rattle.sysv_steps.specs.State.{Over, Ending as Ends};
-ghost use Rattle.sysv_steps.specs.Seen.{receive_wait, receive_state};
-ghost use Rattle.sysv_steps.specs.Giving.{GivesNothing};
 ghost use Rattle.sysv_service.specs.Seats.{AreOf};
 ghost use Rattle.sysv_service.specs.Ran.{Comes};
-ghost use Rattle.sysv_steps.specs.Bodies.{IsSized};
-ghost use Rattle.sysv_service.specs.Waited.{EndsWait};
 ghost use Rattle.sysv_service.specs.Told.{TellsGot};
-ghost use Rattle.sysv_service.specs.Delivered.{HasGiven, StepsGiving};
+ghost use Rattle.sysv_service.specs.Delivered.{HasGiven};
 
+use crate::control::refused_of;
 use crate::pass::Pass;
-use crate::progress::Progress;
 use crate::service::Service;
-use crate::waiting::Waited;
-use crate::{AtGates, SharedCount};
 use std::sync::Wait as MayWait;
 use sysv_model::{Body, Cred, Errno, Flags};
 use sysv_queue::Delivery;
-use sysv_steps::{Clock, ReceiveState, ReceiveStep, ReceiveWait, Receiving, State, receive_step};
+use sysv_steps::{Call, Clock};
 
 impl Service {
     /// Takes a message from the queue `id` and writes its body to `out` (POSIX.1-2017, `msgrcv`).
@@ -72,57 +66,17 @@ impl Service {
             HasGiven (C.may clock.now) (begins cred (Msgrcv id size mtype flags) 0) pass.old told
             pass.new) }
     {
-        let mut state = Receiving::begin(cred, id, size, mtype, flags);
-        for _ in rt.forever() {
-            state = match self.receive_on(rt, pass, clock, out, state) {
-                Progress::Waits(wait) => self.wait_for_message(rt, pass, wait),
-                Progress::Over(told) => return told,
-            };
+        let receive: Call<(), ()> = Call::Receive {
+            id,
+            size,
+            mtype,
+            flags,
+            body: (),
+        };
+        let ended = self.call(rt, pass, clock, cred, &receive, None, out);
+        match ended.delivery {
+            Some(delivery) => Ok(delivery),
+            None => Err(refused_of(ended.outcome)),
         }
-        unreachable!()
-    }
-
-    /// Waits until the wait of a receive is over. Returns the state of the receive afterwards: it
-    /// continues, or is over because a gate is worn out. It still waits only if no count can be
-    /// above the value of its wait.
-    fn wait_for_message(
-        &self,
-        rt: &impl MayWait,
-        pass: &mut Pass,
-        wait: ReceiveWait,
-    ) -> ReceiveState
-        requires { AreOf self.now pass.old.seats }
-        ensures pass { AreOf self.now pass.new.seats }
-        ensures ended { (out : List ℕ) →
-            EndsWait (receive_wait wait) pass.old (receive_state result out) pass.new }
-        ensures nothing { (out : List ℕ) → GivesNothing (receive_state result out) }
-    {
-        let id = wait.receive.id;
-        match self.wait_above(rt, pass, SharedCount::Arrived { id }, wait.above) {
-            Waited::Above(_value) => State::Goes(wait.resume()),
-            Waited::Still => State::Waits(wait),
-            Waited::Worn => State::Over(Err(Errno::EOVERFLOW)),
-        }
-    }
-
-    /// Makes one step of a receive that writes to `out`.
-    #[inline(always)]
-    pub(crate) fn receive_step<C: Clock>(
-        &self,
-        rt: &impl MayWait,
-        pass: &mut Pass,
-        clock: &C,
-        out: &mut Body,
-        step: ReceiveStep,
-    ) -> ReceiveState
-        requires pass { AreOf self.now pass.old.seats }
-        requires sized { IsSized (State.Goes step) out.old }
-        ensures pass { AreOf self.now pass.new.seats }
-        ensures sized { IsSized result out.new }
-        ensures steps { StepsGiving (C.may clock.now) step out.old pass.old result out.new
-            pass.new }
-    {
-        let gates = AtGates::of(rt, &self.gates);
-        receive_step(&gates, &mut pass.seats, &mut pass.held, clock, out, step)
     }
 }

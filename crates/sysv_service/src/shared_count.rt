@@ -2,11 +2,13 @@
 
 ghost use Rattle.std.specs.Prelude.{◌≡◌, ◌<◌, ◌+◌};
 ghost use Rattle.sysv_keys.specs.declared.identifier.TheConstants.{SLOTS};
-ghost use Rattle.sysv_service.specs.SharedCounts.{place_with, count_there};
+ghost use Rattle.sysv_steps.specs.Pending.{count_meant};
+ghost use Rattle.sysv_service.specs.SharedCounts.{count_of, place_with, count_there};
 
 use crate::gates::{FIRST_SLOT, POOL, REGISTRY};
 use sysv_gate::Count;
 use sysv_keys::slot_of_id;
+use sysv_steps::Awaited;
 
 /// A count of one of the objects behind gates.
 #[derive(Clone, Copy)]
@@ -22,6 +24,18 @@ pub enum SharedCount {
 }
 
 impl SharedCount {
+    /// Returns the count for which a call waits.
+    pub(crate) fn of_awaited(count: Awaited) -> SharedCount
+        ensures { count_of result ≡ count_meant count }
+    {
+        match count {
+            Awaited::Settled => SharedCount::Settled,
+            Awaited::Released => SharedCount::Released,
+            Awaited::Arrived { id } => SharedCount::Arrived { id },
+            Awaited::Freed { id } => SharedCount::Freed { id },
+        }
+    }
+
     /// Returns the place in the bank of the object that has the count.
     pub(crate) fn place(self) -> usize
         ensures place { result ≡ place_with self }

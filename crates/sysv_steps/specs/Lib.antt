@@ -37,3 +37,4 @@ pub mod Pending
 pub mod Stepping
 pub mod Giving
 pub mod Telling
+pub mod Driven

@@ -1,8 +1,11 @@
 //! What the state of each call leads to: the call is pending, or it is over.
 
-ghost use Rattle.std.specs.Prelude.{◌≡◌, ℕ, List, Option, Some, false};
+ghost use Rattle.std.specs.Prelude.{◌≡◌, ℕ, List, [], Option, Some, None, false};
+ghost use Rattle.sysv_model.specs.Turn.{Op};
 ghost use Rattle.sysv_steps.specs.Answered.{is_got, outcome_of};
-ghost use Rattle.sysv_steps.specs.Bodies.{StillCanSend};
+ghost use Rattle.sysv_steps.specs.Bodies.{IsSized, StillCanSend};
+ghost use Rattle.sysv_steps.specs.Driven.{HasReturned, Leads};
+ghost use Rattle.sysv_steps.specs.Giving.{GivesNothing, HasWhatItGives};
 ghost use Rattle.sysv_steps.specs.Pending.{ComesTo, StillCanGoOn};
 ghost use Rattle.sysv_steps.specs.Seen.{ending_of, get_state, send_state, receive_state, stat_state, set_state, remove_state};
 ghost use Rattle.sysv_steps.specs.State.{Zero};
@@ -23,6 +26,8 @@ use sysv_model::{Body, Errno};
 pub(crate) fn of_get(state: GetState) -> Progress
     ensures comes { (body : Option (List ℕ)) → ComesTo (get_state state) result body }
     ensures can { (body : Option (List ℕ)) → StillCanGoOn result body }
+    ensures leads { (text : List ℕ) (out : List ℕ) → Leads (get_state state) result text out }
+    ensures returns { (ops : List Op) (out : List ℕ) → HasReturned result ops out }
 {
     match state {
         State::Goes(step) => Progress::On(Pending::At(Step::Get(step))),
@@ -36,6 +41,8 @@ pub(crate) fn of_get(state: GetState) -> Progress
 pub(crate) fn of_send(state: SendState) -> Progress
     ensures comes { (text : List ℕ) → ComesTo (send_state state text) result (Some text) }
     ensures can { (text : List ℕ) → StillCanSend state text → StillCanGoOn result (Some text) }
+    ensures leads { (text : List ℕ) (out : List ℕ) → Leads (send_state state text) result text out }
+    ensures returns { (ops : List Op) (out : List ℕ) → HasReturned result ops out }
 {
     match state {
         State::Goes(step) => Progress::On(Pending::At(Step::Send(step))),
@@ -48,6 +55,9 @@ pub(crate) fn of_send(state: SendState) -> Progress
 pub(crate) fn of_receive(state: ReceiveState, out: &mut Body) -> Progress
     ensures comes { ComesTo (receive_state state out.old) result (Some out.new) }
     ensures can { StillCanGoOn result (Some out.new) }
+    ensures leads { (text : List ℕ) → Leads (receive_state state out.old) result text out.new }
+    ensures returns { (ops : List Op) → HasWhatItGives state ops → IsSized state out.old →
+        HasReturned result ops out.new }
 {
     match state {
         State::Goes(step) => Progress::On(Pending::At(Step::Receive(step))),
@@ -71,10 +81,32 @@ pub(crate) fn of_receive(state: ReceiveState, out: &mut Body) -> Progress
     }
 }
 
+/// Returns what a receive leads to that is at its start, and has taken no message.
+pub(crate) fn of_received(state: ReceiveState) -> Progress
+    requires { GivesNothing (receive_state state []) }
+    ensures can { StillCanGoOn result (Some []) }
+    ensures leads { (text : List ℕ) (out : List ℕ) →
+        Leads (receive_state state out) result text out }
+    ensures returns { (out : List ℕ) → HasReturned result [] out }
+{
+    match state {
+        State::Goes(step) => Progress::On(Pending::At(Step::Receive(step))),
+        State::Waits(wait) => Progress::On(Pending::Waits(Waiting::Receive(wait))),
+        State::Over(Ok(_delivery)) => unreachable!(),
+        State::Over(Err(why)) => Progress::Over(Ended {
+            outcome: Outcome::Refused(why),
+            receives: true,
+            delivery: None,
+        }),
+    }
+}
+
 /// Returns what an IPC_STAT in this state leads to.
 pub(crate) fn of_stat(state: StatState) -> Progress
     ensures comes { (body : Option (List ℕ)) → ComesTo (stat_state state) result body }
     ensures can { (body : Option (List ℕ)) → StillCanGoOn result body }
+    ensures leads { (text : List ℕ) (out : List ℕ) → Leads (stat_state state) result text out }
+    ensures returns { (ops : List Op) (out : List ℕ) → HasReturned result ops out }
 {
     match state {
         State::Goes(step) => Progress::On(Pending::At(Step::Stat(step))),
@@ -87,6 +119,8 @@ pub(crate) fn of_stat(state: StatState) -> Progress
 pub(crate) fn of_set(state: SetState) -> Progress
     ensures comes { (body : Option (List ℕ)) → ComesTo (set_state state) result body }
     ensures can { (body : Option (List ℕ)) → StillCanGoOn result body }
+    ensures leads { (text : List ℕ) (out : List ℕ) → Leads (set_state state) result text out }
+    ensures returns { (ops : List Op) (out : List ℕ) → HasReturned result ops out }
 {
     match state {
         State::Goes(step) => Progress::On(Pending::At(Step::Set(step))),
@@ -98,6 +132,8 @@ pub(crate) fn of_set(state: SetState) -> Progress
 pub(crate) fn of_remove(state: RemoveState) -> Progress
     ensures comes { (body : Option (List ℕ)) → ComesTo (remove_state state) result body }
     ensures can { (body : Option (List ℕ)) → StillCanGoOn result body }
+    ensures leads { (text : List ℕ) (out : List ℕ) → Leads (remove_state state) result text out }
+    ensures returns { (ops : List Op) (out : List ℕ) → HasReturned result ops out }
 {
     match state {
         State::Goes(step) => Progress::On(Pending::At(Step::Remove(step))),
@@ -121,6 +157,7 @@ fn no_receive(outcome: Outcome) -> Ended
     requires { is_got outcome ≡ false }
     ensures outcome { result.outcome ≡ outcome }
     ensures receives { result.receives ≡ false }
+    ensures delivery { result.delivery ≡ None }
 {
     Ended {
         outcome,

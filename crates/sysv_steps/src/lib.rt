@@ -8,6 +8,7 @@
 
 mod call;
 mod clock;
+mod fill;
 mod get;
 mod laws;
 mod leading;
@@ -24,6 +25,7 @@ mod worn;
 
 pub use call::Call;
 pub use clock::Clock;
+pub use fill::{Fill, NoBody};
 pub use get::{GetState, GetStep, GetWait, Getting, get_step};
 pub use laws::{
     after_removal, each_answer_is_right, each_has_one_effect, each_holds_its_blocks,

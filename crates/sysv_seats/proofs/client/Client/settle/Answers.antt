@@ -9,7 +9,7 @@ use Rattle.sysv_session.specs.declared.served.End.{End}
 use Rattle.sysv_session.specs.Conversation.{Puts}
 use Rattle.sysv_seats.specs.declared.notification.Told.{Told}
 use Rattle.sysv_seats.specs.declared.tools.Tools.{Tools}
-use Rattle.sysv_seats.specs.declared.waiting.Waiting.{Waiting}
+use Rattle.sysv_steps.specs.declared.pending.Waiting.{Waiting}
 use Rattle.sysv_seats.specs.Notification.{Keeps as KeepsNotification, notifications_of, told_of}
 use Rattle.sysv_wire.specs.declared.request.Ask.{Ask}
 use Rattle.sysv_seats.specs.Holding.{timed}

@@ -2,7 +2,7 @@
 use Rattle.std.proofs.Common.{◌≡◌, [], refl, subst, sym}
 use Rattle.sysv_service.specs.Ran.{Pass}
 use Rattle.sysv_wire.specs.declared.frame.Version.TheVariants.{Three}
-use Rattle.sysv_seats.specs.declared.waiting.Waiting.TheVariants.{Send}
+use Rattle.sysv_steps.specs.declared.pending.Waiting.TheVariants.{Send}
 use Rattle.sysv_seats.specs.Held.{holder_of}
 use Rattle.sysv_seats.specs.Parked.{GoesOn}
 use Rattle.sysv_seats.proofs.HeldPieces.{back_came_on, back_looked}

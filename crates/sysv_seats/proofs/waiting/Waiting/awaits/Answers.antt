@@ -1,7 +1,7 @@
 -- The count is that of the wait in each case.
 use Rattle.std.proofs.Common.{rules, ◌≡◌, ℕ, List, sym, subst}
 use Rattle.sysv_steps.specs.Resume.{Count, awaited}
-use Rattle.sysv_seats.specs.declared.waiting.Waiting.{Waiting}
+use Rattle.sysv_steps.specs.declared.pending.Waiting.{Waiting}
 use Rattle.sysv_seats.specs.Parked.{wait_in}
 use Rattle.sysv_seats.proofs.waiting.Waiting.awaits.Goals as goal
 
