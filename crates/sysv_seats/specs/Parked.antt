@@ -1,7 +1,7 @@
 -- Requests that are made in pieces. A request is begun and makes its steps until it waits or is
 -- over. Only a get, a send and a receive wait. A call that waits is parked. Later it looks at the
 -- count for which it waits, and goes on once the count is at its goal. This project's profile.
-use Rattle.std.specs.Prelude.{◌≡◌, ◌≤◌, ◌⊎◌, ⊤, ℕ, List, [], length}
+use Rattle.std.specs.Prelude.{◌≡◌, ◌≤◌, ◌⊎◌, ⊤, ℕ, Bool, true, List, [], length, Option, is_some}
 use Rattle.sysv_model.specs.declared.cred.Cred.{Cred}
 use Rattle.sysv_model.specs.declared.limits.TheConstants.{MESSAGE_BYTES}
 use Rattle.sysv_session.specs.declared.handler.RequestOutcome.{RequestOutcome}
@@ -10,8 +10,8 @@ use Rattle.sysv_service.specs.declared.progress.Progress.{Progress}
 use Rattle.sysv_service.specs.declared.progress.Progress.TheVariants as progress
 use Rattle.sysv_service.specs.Ran.{Pass}
 use Rattle.sysv_steps.specs.Seen.{get_wait, receive_wait, send_wait}
-use Rattle.sysv_service.specs.Pending.{Begins, GoesTo, IsReached, StillWaits}
-use Rattle.sysv_steps.specs.Call.{Kind, SystemCall, Msgget, Msgsnd, Msgrcv, kind_of}
+use Rattle.sysv_service.specs.Pending.{GoesTo, IsReached, StillWaits}
+use Rattle.sysv_steps.specs.Call.{Kind, Msgget, Msgsnd, Msgrcv}
 use Rattle.sysv_steps.specs.declared.progress.Ended.{Ended}
 use Rattle.sysv_steps.specs.Pending.{kind_waiting, wait_of}
 use Rattle.sysv_steps.specs.State.{Phase, Goes, Waits}
@@ -32,6 +32,12 @@ IsWaitOf (Snd id mtype flags) (Send w) = ⊤
 IsWaitOf (Rcv id size mtype flags) (Receive w) = ⊤
 IsWaitOf (AskGet key flags) (Get w) = ⊤
 IsWaitOf ask waiting = ⊥
+
+-- The handler has what the call of the request needs: a body to send, or one to fill.
+abbrev pub CanAsk : Ask → Option (List ℕ) → Bool → Type 0
+CanAsk (Snd id mtype flags) text fills = is_some text ≡ true
+CanAsk (Rcv id size mtype flags) text fills = fills ≡ true
+CanAsk ask text fills = ⊤
 
 -- A request was begun with the pass `before`, and is parked with the pass `after`. The steps of its
 -- call led to this wait. A send read the released count at its start, and its body is not too long.
@@ -72,12 +78,6 @@ IsReplied (progress.Over outcome) = HasReply outcome
 abbrev pub progress_by : Version → Op → Progress Waiting Ended → Progress Waiting RequestOutcome
 progress_by version o (progress.Waits waiting) = progress.Waits waiting
 progress_by version o (progress.Over ended) = progress.Over (outcome_by version o ended)
-
--- The call of a request was begun, and the request has come so far.
-abbrev pub CallBegun : (ℕ → Type 0) → Version → Cred → SystemCall → List ℕ → Pass → Progress Waiting RequestOutcome →
-    List ℕ → Pass → Type 0
-CallBegun may version cred asked text before result given after = (came : Progress Waiting Ended)
-    × Begins may cred asked text before came given after × (result ≡ progress_by version (op_for (kind_of asked)) came)
 
 -- ---- a parked call goes on
 

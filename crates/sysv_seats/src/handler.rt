@@ -6,17 +6,16 @@ ghost use Rattle.sysv_model.specs.Instrumented.{stream_of, KeepsStream};
 ghost use Rattle.sysv_service.specs.Ran.{Pass as Seen};
 ghost use Rattle.sysv_service.specs.Seats.{AreOf};
 ghost use Rattle.sysv_steps.specs.Asked.{asked_by};
-ghost use Rattle.sysv_steps.specs.Call.{kind_of};
-ghost use Rattle.sysv_steps.specs.Driven.{CanAwait, CanStart, sent};
-ghost use Rattle.sysv_steps.specs.Pending.{kind_waiting, text_in};
+ghost use Rattle.sysv_steps.specs.Driven.{CanAwait, sent};
+ghost use Rattle.sysv_steps.specs.Pending.{text_in};
 ghost use Rattle.sysv_wire.specs.Requests.{op_of};
 ghost use Rattle.sysv_session.specs.Answers.{MayAnswer};
 ghost use Rattle.sysv_session.specs.Parse.{Parse, Follows, Takes};
 ghost use Rattle.sysv_session.specs.Failing.{is_failed_read, is_failed_write};
 ghost use Rattle.sysv_seats.specs.Asked.{Asks, ServesPass, Shows, asked_in};
 ghost use Rattle.sysv_seats.specs.Held.{AsksForWriting};
-ghost use Rattle.sysv_seats.specs.Parked.{CallBegun, GoesOn, HasBegun, IsParked, IsWaitOf, MayProgress, progress_by};
-ghost use Rattle.sysv_seats.specs.Replies.{content_by, op_for, outcome_by, reply as the_reply, shown_stat as stat_shown, shown_row as row_shown};
+ghost use Rattle.sysv_seats.specs.Parked.{CanAsk, GoesOn, HasBegun, IsParked, IsWaitOf, MayProgress, progress_by};
+ghost use Rattle.sysv_seats.specs.Replies.{content_by, outcome_by, reply as the_reply, shown_stat as stat_shown, shown_row as row_shown};
 
 use std::alloc::Global;
 use std::io::{Read, Write};
@@ -143,35 +142,35 @@ impl<'a, C: Clock, R: Wait> ServiceHandler<'a, C, R> {
         ensures answer { MayProgress request.now.version request.now.ask result given.new }
         ensures handles { KeepsHandles self.old self.new }
     {
-        let version = request.version;
-        match call_of(request.ask) {
-            Some(call) => self.begin_call(version, cred, &call, Some(text), given),
-            None => Progress::Over(self.beside(request)),
-        }
+        self.begin_ask(request.version, cred, request.ask, Some(text), given)
     }
 
-    /// Begins a call: makes its steps until it waits or is over.
+    /// Begins a request like `begin`. `text` is the body of a send, and a receive fills `given`.
     #[inline(always)]
-    pub(crate) fn begin_call<O: Fill>(
+    pub(crate) fn begin_ask<O: Fill>(
         &mut self,
         version: Version,
         cred: Cred,
-        call: &Call<(), ()>,
+        ask: Ask,
         text: Option<&Body>,
         given: &mut O,
     ) -> Progress<Waiting, RequestOutcome>
-        requires { CanStart (kind_of (asked_by (λ _. text_in (sent text)) call.now)) (sent text)
-            O.fills }
-        ensures begun { CallBegun (C.may self.old.clock.now) version cred
-            (asked_by (λ _. text_in (sent text.entry)) call.now) (text_in (sent text.entry))
-            self.old.pass result (O.bytes given.new) self.new.pass }
+        requires asked { op_of ask ≢ Op.Hello }
+        requires bodies { CanAsk ask (sent text) O.fills }
+        requires empty { O.bytes given.old ≡ [] }
+        ensures begun { HasBegun (C.may self.old.clock.now) version cred ask
+            (text_in (sent text.entry)) self.old.pass result (O.bytes given.new) self.new.pass }
+        ensures answer { MayProgress version ask result (O.bytes given.new) }
         ensures handles { KeepsHandles self.old self.new }
     {
+        let Some(call) = call_of(ask) else {
+            return Progress::Over(self.beside(version, ask));
+        };
         let pass = &mut self.pass;
         let came = self
             .service
-            .begin(self.rt, pass, self.clock, cred, call, text, given);
-        progress_of(version, op_of_call(call), came)
+            .begin(self.rt, pass, self.clock, cred, &call, text, given);
+        progress_of(version, ask.op(), came)
     }
 
     /// Continues a request that waits, if its wait is over. Looks once at the count for which the
@@ -206,17 +205,20 @@ impl<'a, C: Clock, R: Wait> ServiceHandler<'a, C, R> {
         ensures answer { MayProgress request.now.version request.now.ask result given.new }
         ensures handles { KeepsHandles self.old self.new }
     {
-        self.call_on(request.version, waiting, Some(text), given)
+        self.call_on(request.version, request.ask, waiting, Some(text), given)
     }
 
-    /// Continues a call that waits, if its wait is over.
+    /// Continues a request that waits like `go_on`. `text` is the body of a send, and a receive
+    /// fills `given`.
     pub(crate) fn call_on<O: Fill>(
         &mut self,
         version: Version,
+        ask: Ask,
         waiting: Waiting,
         text: Option<&Body>,
         given: &mut O,
     ) -> Progress<Waiting, RequestOutcome>
+        requires kind { IsWaitOf ask waiting }
         requires bodies { CanAwait waiting (sent text) O.fills }
         requires empty { O.bytes given.old ≡ [] }
         ensures looks { GoesOn (C.may self.old.clock.now) version waiting
@@ -230,26 +232,22 @@ impl<'a, C: Clock, R: Wait> ServiceHandler<'a, C, R> {
         let came = self
             .service
             .go_on(self.rt, pass, self.clock, step, text, given);
-        progress_of(version, op_of_wait(&waiting), came)
+        progress_of(version, ask.op(), came)
     }
 
     /// Carries out a request that is no call of the service. A handler has no memory for a held
     /// message, so it refuses each operation on one.
-    fn beside(&mut self, request: &Request) -> RequestOutcome
-        requires asked { op_of request.now.ask ≢ Op.Hello }
-        requires beside { asked_in request.now.ask [] ≡ None }
-        ensures asks { (cred : Cred) (text : List ℕ) → Asks (C.may self.old.clock.now) ⊥
-            request.now.version cred request.now.ask text self.old.pass result [] self.new.pass }
-        ensures answer { MayAnswer request.now.version request.now.ask result [] }
+    fn beside(&mut self, version: Version, ask: Ask) -> RequestOutcome
+        requires asked { op_of ask ≢ Op.Hello }
+        requires beside { asked_in ask [] ≡ None }
+        ensures asks { (cred : Cred) (text : List ℕ) → Asks (C.may self.old.clock.now) ⊥ version
+            cred ask text self.old.pass result [] self.new.pass }
+        ensures answer { MayAnswer version ask result [] }
         ensures handles { KeepsHandles self.old self.new }
     {
-        match request.ask {
-            Ask::Row { slot } => self.row(request.version, slot),
-            ask => reply(
-                request.version,
-                ask.op(),
-                ReplyContent::Refused(Errno::EINVAL),
-            ),
+        match ask {
+            Ask::Row { slot } => self.row(version, slot),
+            other => reply(version, other.op(), ReplyContent::Refused(Errno::EINVAL)),
         }
     }
 
@@ -309,7 +307,7 @@ impl<C: Clock, R: Wait> Handler for ServiceHandler<'_, C, R> {
         given: &mut Body,
     ) -> RequestOutcome {
         let Some(call) = call_of(request.ask) else {
-            return self.beside(request);
+            return self.beside(request.version, request.ask);
         };
         let pass = &mut self.pass;
         let ended = self
@@ -348,31 +346,6 @@ fn call_of(ask: Ask) -> Option<Call<(), ()>>
         Ask::Rm { id } => Call::Remove { id },
         _beside => return None,
     })
-}
-
-/// Returns the operation of a request that makes this call.
-fn op_of_call(call: &Call<(), ()>) -> Op
-    ensures { (text : List ℕ) → result ≡ op_for (kind_of (asked_by (λ _. text) call.now)) }
-{
-    match call {
-        Call::Get { .. } => Op::Get,
-        Call::Send { .. } => Op::Snd,
-        Call::Receive { .. } => Op::Rcv,
-        Call::Stat { .. } => Op::Stat,
-        Call::Set { .. } => Op::Set,
-        Call::Remove { .. } => Op::Rm,
-    }
-}
-
-/// Returns the operation of a request whose call is in this wait.
-fn op_of_wait(waiting: &Waiting) -> Op
-    ensures { result ≡ op_for (kind_waiting waiting.now) }
-{
-    match waiting {
-        Waiting::Get(_) => Op::Get,
-        Waiting::Send(_) => Op::Snd,
-        Waiting::Receive(_) => Op::Rcv,
-    }
 }
 
 /// Returns how far a request has come whose call has come so far.

@@ -27,7 +27,7 @@ use sysv_model::{Body, Cred, Errno, Flags};
 use sysv_queue::{Delivery, Tally};
 use sysv_service::{Clock, Pass, Progress};
 use sysv_session::RequestOutcome;
-use sysv_steps::{Call, NoBody, Waiting};
+use sysv_steps::{NoBody, Waiting};
 use sysv_wire::{Ask, Op, ReplyContent, Request, Version};
 
 /// The handler of one session after another over a service, of which each may hold a message.
@@ -196,16 +196,10 @@ impl<'a, C: Clock, R: Wait> Keeper<'a, C, R> {
         match self.handler.ask_for_writing(cred, id) {
             Err(why) => Progress::Over(refusal(version, Op::Hold, why)),
             Ok(()) => {
-                let receive = Call::Receive {
-                    id,
-                    size,
-                    mtype,
-                    flags,
-                    body: (),
-                };
+                let receive = receive_of(version, id, size, mtype, flags);
                 let came = self
                     .handler
-                    .begin_call(version, cred, &receive, None, given);
+                    .begin_ask(version, cred, receive.ask, None, given);
                 self.keep(version, cred, id, seconds, came, given, memory)
             }
         }
@@ -227,17 +221,11 @@ impl<'a, C: Clock, R: Wait> Keeper<'a, C, R> {
         let Some(message) = self.hand.message() else {
             return Progress::Over(refusal(version, Op::Back, Errno::EINVAL));
         };
-        let (cred, id, mtype) = (message.cred(), message.id(), message.mtype());
+        let (cred, send) = (message.cred(), message.send());
         message.recall(given);
-        let send = Call::Send {
-            id,
-            mtype,
-            flags: Flags::from_bits_retain(0),
-            body: (),
-        };
         let came =
             self.handler
-                .begin_call(Version::Three, cred, &send, Some(given), &mut NoBody);
+                .begin_ask(Version::Three, cred, send.ask, Some(given), &mut NoBody);
         given.clear();
         self.settle_back(version, came)
     }
@@ -359,10 +347,15 @@ impl<'a, C: Clock, R: Wait> Keeper<'a, C, R> {
         let Some(message) = self.hand.message() else {
             return Progress::Waits(waiting);
         };
+        let send = message.send();
         message.recall(given);
-        let came = self
-            .handler
-            .call_on(Version::Three, waiting, Some(given), &mut NoBody);
+        let came = self.handler.call_on(
+            Version::Three,
+            send.ask,
+            waiting,
+            Some(given),
+            &mut NoBody,
+        );
         given.clear();
         self.settle_back(version, came)
     }

@@ -16,8 +16,7 @@ pub mod OrderedHistories
 pub mod ClosedParts
 pub mod ReadsInOrder
 pub mod Crossing
-pub mod ProceedsByStep
-pub mod ReceiveGivesTaken
+pub mod Driving
 pub mod FirstPassFits
 pub mod SlotBySlot
 pub mod RetryAtGoal

@@ -34,6 +34,7 @@ pub mod RightAnswers
 pub mod Delivered
 pub mod Pending
 pub mod Pieces
+pub mod Results
 pub mod Retried
 pub mod Marks
 pub mod TurnsLeft

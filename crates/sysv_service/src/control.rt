@@ -61,7 +61,7 @@ impl Service {
     {
         let stat: Call<(), ()> = Call::Stat { id };
         let ended = self.call(rt, pass, &NoTime, cred, &stat, None, &mut NoBody);
-        match ended.outcome {
+        match ended.into_outcome() {
             Outcome::Stat(stat) => Ok(stat),
             Outcome::Refused(why) => Err(why),
             _other => unreachable!(),
@@ -176,7 +176,7 @@ pub(crate) fn zero_of(ended: Ended) -> Result<(), Errno>
     requires { IsZeroEnd ended.outcome }
     ensures { (ending : Ending) → ended.outcome ≡ outcome_of ending → TellsZero ending result }
 {
-    match ended.outcome {
+    match ended.into_outcome() {
         Outcome::Zero => Ok(()),
         Outcome::Refused(why) => Err(why),
         _other => unreachable!(),

@@ -52,7 +52,7 @@ impl Service {
     {
         let get: Call<(), ()> = Call::Get { key, flags };
         let ended = self.call(rt, pass, clock, cred, &get, None, &mut NoBody);
-        match ended.outcome {
+        match ended.into_outcome() {
             Outcome::Id(id) => Ok(id),
             Outcome::Refused(why) => Err(why),
             _other => unreachable!(),

@@ -80,7 +80,11 @@ impl Service {
         let value = self
             .gates
             .count(&mut pass.seats, SharedCount::of_awaited(count));
-        (value > above).then(|| wait.resume(value))
+        if value > above {
+            Some(wait.resume(value))
+        } else {
+            None
+        }
     }
 
     /// Continues a call at this step, after its wait is over: makes its steps until it waits again

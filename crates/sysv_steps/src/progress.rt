@@ -1,6 +1,6 @@
 //! What a start or a step of a call leads to: the call is pending, or it is over.
 
-ghost use Rattle.std.specs.Prelude.{◌≡◌, is_some};
+ghost use Rattle.std.specs.Prelude.{◌≡◌, is_some, false};
 ghost use Rattle.sysv_steps.specs.Answered.{is_got};
 
 use crate::outcome::Outcome;
@@ -26,4 +26,17 @@ pub struct Ended {
     /// passed on.
     pub delivery: Option<Delivery>,
     pub ghost delivered: { is_some delivery ≡ is_got outcome },
+}
+
+impl Ended {
+    /// Returns the outcome of a call that returns no message.
+    pub fn into_outcome(self) -> Outcome
+        requires { is_got self.outcome ≡ false }
+        ensures { result ≡ self.outcome }
+    {
+        match self.delivery {
+            Some(_delivery) => unreachable!(),
+            None => self.outcome,
+        }
+    }
 }

@@ -1,17 +1,25 @@
 //! Calls in pieces: a call that waits is a value, and goes on when its count has risen.
 
+ghost use Rattle.std.specs.Prelude.{◌≡◌, ◌≤◌, Bool, List, [], Option, Some, length, true, ℕ};
+ghost use Rattle.sysv_model.specs.declared.limits.TheConstants.{MESSAGE_BYTES as most_bytes};
 ghost use Rattle.sysv_service.specs.Seats.{AreOf};
+ghost use Rattle.sysv_steps.specs.Driven.{CanAwait, CanDrive, HasMessage};
+ghost use Rattle.sysv_steps.specs.declared.pending.Pending.TheVariants.{At};
 
 use crate::parts::{CLOCK, assert_is, body_of, closed, opened, waiting};
 use std::alloc::Global;
 use std::process::Abort;
 use std::sync::Wait;
 use sysv_model::{Body, Errno, Flags, MESSAGE_BYTES, SetTo};
-use sysv_queue::{Delivery, Tally};
+use sysv_queue::Tally;
 use sysv_service::{
-    GetWait, Getting, Pass, Progress, ReceiveWait, Receiving, SendWait, Sending, Service,
+    Call, Ended, GetWait, NoBody, Outcome, Pass, Progress, Service, Step, Waiting,
 };
+use sysv_steps::{Getting, Pending};
 use tests_kit::{USER, creating};
+
+/// The end of a receive of "ping".
+const GOT: Outcome = Outcome::Got { mtype: 5, len: 4 };
 
 /// Opens a service of 128 blocks with queue 0.
 fn one_queue(rt: &(impl Abort + Wait), alloc: Global) -> (Service, Pass)
@@ -48,52 +56,89 @@ fn begin_receive(
     pass: &mut Pass,
     out: &mut Body,
     flags: Flags,
-) -> Progress<ReceiveWait, Result<Delivery, Errno>>
+) -> Progress<Waiting, Ended>
     requires { AreOf service.now pass.old.seats }
     ensures { AreOf service.now pass.new.seats }
 {
-    service.msgrcv_begin(rt, pass, &CLOCK, USER, 0, out, 100, 5, flags)
+    let receive: Call<(), ()> = Call::Receive {
+        id: 0,
+        size: 100,
+        mtype: 5,
+        flags,
+        body: (),
+    };
+    service.begin(rt, pass, &CLOCK, USER, &receive, None, out)
+}
+
+/// Begins a send of type 5 to queue `id`, which may wait.
+fn begin_send(
+    rt: &(impl Abort + Wait),
+    service: &Service,
+    pass: &mut Pass,
+    id: i32,
+    text: &Body,
+) -> Progress<Waiting, Ended>
+    requires { AreOf service.now pass.old.seats }
+    ensures { AreOf service.now pass.new.seats }
+{
+    let send: Call<(), ()> = Call::Send {
+        id,
+        mtype: 5,
+        flags: waiting(),
+        body: (),
+    };
+    service.begin(rt, pass, &CLOCK, USER, &send, Some(text), &mut NoBody)
+}
+
+/// Ends a call, and returns its outcome.
+fn outcome_of(ended: Ended) -> Outcome {
+    if let Some(delivery) = ended.delivery {
+        delivery.written(&mut Tally::open());
+    }
+    ended.outcome
 }
 
 /// Returns the wait of a receive.
-fn receive_wait(
-    rt: &impl Abort,
-    progress: Progress<ReceiveWait, Result<Delivery, Errno>>,
-) -> ReceiveWait {
+fn receive_wait(rt: &impl Abort, progress: Progress<Waiting, Ended>) -> Waiting
+    ensures { (text : Option (List ℕ)) (fills : Bool) → fills ≡ true → CanAwait result text fills }
+{
     match progress {
-        Progress::Waits(wait) => wait,
-        Progress::Over(Ok(delivery)) => {
-            delivery.lost(&mut Tally::open());
-            panic!(rt; "a message")
-        }
-        Progress::Over(Err(why)) => panic!(rt; "{why}"),
+        Progress::Waits(Waiting::Receive(wait)) => Waiting::Receive(wait),
+        Progress::Waits(wait) => panic!(rt; "{wait:?}"),
+        Progress::Over(ended) => panic!(rt; "{:?}", outcome_of(ended)),
     }
 }
 
-/// Returns the type and the length of the message that a receive returned.
-fn received(
-    rt: &impl Abort,
-    progress: Progress<ReceiveWait, Result<Delivery, Errno>>,
-) -> Result<(i64, usize), Errno> {
+/// Returns the outcome of a call that does not wait.
+fn outcome(rt: &impl Abort, progress: Progress<Waiting, Ended>) -> Outcome {
     match progress {
-        Progress::Waits(_wait) => panic!(rt; "the receive waits"),
-        Progress::Over(Ok(delivery)) => {
-            let told = (delivery.mtype(), delivery.len());
-            delivery.written(&mut Tally::open());
-            Ok(told)
-        }
-        Progress::Over(Err(why)) => Err(why),
+        Progress::Waits(wait) => panic!(rt; "{wait:?}"),
+        Progress::Over(ended) => outcome_of(ended),
     }
 }
 
-/// Looks once for a receive that can go on.
-fn look(rt: &impl Abort, service: &Service, pass: &mut Pass, wait: &ReceiveWait) -> Receiving
+/// Looks once for a call that can go on.
+fn look(rt: &impl Abort, service: &Service, pass: &mut Pass, wait: &Waiting) -> Step
+    requires { AreOf service.now pass.old.seats }
+    ensures pass { AreOf service.now pass.new.seats }
+    ensures bodies { (text : Option (List ℕ)) (fills : Bool) →
+        CanAwait wait.now text fills → CanDrive result text fills }
+    ensures nothing { (out : List ℕ) → HasMessage (At result) [] out }
+{
+    match service.look(pass, wait) {
+        Some(step) => step,
+        None => panic!(rt; "the call still waits"),
+    }
+}
+
+/// Looks once for a call that still waits.
+fn look_in_vain(rt: &impl Abort, service: &Service, pass: &mut Pass, wait: &Waiting)
     requires { AreOf service.now pass.old.seats }
     ensures { AreOf service.now pass.new.seats }
 {
-    match service.msgrcv_look(pass, wait) {
-        Some(receive) => receive,
-        None => panic!(rt; "the receive still waits"),
+    if let Some(step) = service.look(pass, wait) {
+        Pending::At(step).into_chain().end();
+        panic!(rt; "the wait is over");
     }
 }
 
@@ -107,16 +152,16 @@ fn a_receive_goes_on_after_a_send_of_another_pass(rt: HostRuntime) {
     let begun = begin_receive(&rt, &service, &mut pass, &mut out, waiting());
     let wait = receive_wait(&rt, begun);
     assert_is(&rt, out.len(), 0);
-    assert!(rt; service.msgrcv_look(&mut pass, &wait).is_none());
+    look_in_vain(&rt, &service, &mut pass, &wait);
     send(&rt, alloc, &service, &mut other, 6, b"x");
     let again = look(&rt, &service, &mut pass, &wait);
-    let waits = service.msgrcv_go_on(&rt, &mut pass, &CLOCK, &mut out, again);
+    let waits = service.go_on(&rt, &mut pass, &CLOCK, again, None, &mut out);
     let wait = receive_wait(&rt, waits);
-    assert!(rt; service.msgrcv_look(&mut pass, &wait).is_none());
+    look_in_vain(&rt, &service, &mut pass, &wait);
     send(&rt, alloc, &service, &mut other, 5, b"ping");
     let again = look(&rt, &service, &mut pass, &wait);
-    let over = service.msgrcv_go_on(&rt, &mut pass, &CLOCK, &mut out, again);
-    assert_is(&rt, received(&rt, over), Ok((5, 4)));
+    let over = service.go_on(&rt, &mut pass, &CLOCK, again, None, &mut out);
+    assert_is(&rt, outcome(&rt, over), GOT);
     assert_is(&rt, out.len(), 4);
     service.join_pass(&mut pass, other);
     assert_is(&rt, service.close(pass), closed(1, 128));
@@ -128,11 +173,11 @@ fn a_receive_that_need_not_wait_is_over_at_once(rt: HostRuntime) {
     let (service, mut pass) = one_queue(&rt, alloc);
     let mut out = body_of(&rt, alloc, b"what was there before");
     let begun = begin_receive(&rt, &service, &mut pass, &mut out, Flags::IPC_NOWAIT);
-    assert_is(&rt, received(&rt, begun), Err(Errno::ENOMSG));
+    assert_is(&rt, outcome(&rt, begun), Outcome::Refused(Errno::ENOMSG));
     assert_is(&rt, out.len(), 0);
     send(&rt, alloc, &service, &mut pass, 5, b"ping");
     let begun = begin_receive(&rt, &service, &mut pass, &mut out, waiting());
-    assert_is(&rt, received(&rt, begun), Ok((5, 4)));
+    assert_is(&rt, outcome(&rt, begun), GOT);
     assert_is(&rt, service.close(pass), closed(0, 128));
 }
 
@@ -151,35 +196,25 @@ fn a_receive_that_is_dropped_takes_nothing(rt: HostRuntime) {
     }
     send(&rt, alloc, &service, &mut pass, 5, b"ping");
     let begun = begin_receive(&rt, &service, &mut pass, &mut out, waiting());
-    assert_is(&rt, received(&rt, begun), Ok((5, 4)));
+    assert_is(&rt, outcome(&rt, begun), GOT);
     assert_is(&rt, service.close(pass), closed(0, 128));
 }
 
 /// Returns the wait of a send.
-fn send_wait(rt: &impl Abort, progress: Progress<SendWait, Result<(), Errno>>) -> SendWait {
+fn send_wait(rt: &impl Abort, progress: Progress<Waiting, Ended>) -> Waiting
+    ensures { (text : List ℕ) (fills : Bool) → length text ≤ most_bytes →
+        CanAwait result (Some text) fills }
+{
     match progress {
-        Progress::Waits(wait) => wait,
-        Progress::Over(told) => panic!(rt; "{told:?}"),
+        Progress::Waits(Waiting::Send(wait)) => Waiting::Send(wait),
+        Progress::Waits(wait) => panic!(rt; "{wait:?}"),
+        Progress::Over(ended) => panic!(rt; "{:?}", outcome_of(ended)),
     }
 }
 
 /// Asserts that a send has sent its message.
-fn assert_sent(rt: &impl Abort, progress: Progress<SendWait, Result<(), Errno>>) {
-    match progress {
-        Progress::Waits(_wait) => panic!(rt; "the send waits"),
-        Progress::Over(told) => assert_is(rt, told, Ok(())),
-    }
-}
-
-/// Looks once for a send that can go on.
-fn look_for_send(rt: &impl Abort, service: &Service, pass: &mut Pass, wait: &SendWait) -> Sending
-    requires { AreOf service.now pass.old.seats }
-    ensures { AreOf service.now pass.new.seats }
-{
-    match service.msgsnd_look(pass, wait) {
-        Some(send) => send,
-        None => panic!(rt; "the send still waits"),
-    }
+fn assert_sent(rt: &impl Abort, progress: Progress<Waiting, Ended>) {
+    assert_is(rt, outcome(rt, progress), Outcome::Zero);
 }
 
 /// Takes the message of queue `id`.
@@ -218,12 +253,12 @@ fn a_send_that_is_dropped_sends_nothing(rt: HostRuntime) {
     let (service, mut pass) = small_queue(&rt, alloc);
     send(&rt, alloc, &service, &mut pass, 5, b"ping");
     let text = body_of(&rt, alloc, b"pong");
-    let begun = service.msgsnd_begin(&rt, &mut pass, &CLOCK, USER, 0, 5, &text, waiting());
+    let begun = begin_send(&rt, &service, &mut pass, 0, &text);
     let _dropped = send_wait(&rt, begun);
     take(&rt, alloc, &service, &mut pass, 0);
     let mut out = body_of(&rt, alloc, b"");
     let begun = begin_receive(&rt, &service, &mut pass, &mut out, Flags::IPC_NOWAIT);
-    assert_is(&rt, received(&rt, begun), Err(Errno::ENOMSG));
+    assert_is(&rt, outcome(&rt, begun), Outcome::Refused(Errno::ENOMSG));
     assert_is(&rt, service.close(pass), closed(0, 128));
 }
 
@@ -234,14 +269,14 @@ fn a_send_goes_on_after_a_receive_of_another_pass(rt: HostRuntime) {
     let mut other = service.split_pass(alloc, &mut pass).expect(&rt, "a split");
     let text = body_of(&rt, alloc, b"ping");
     assert!(rt; text.len() <= MESSAGE_BYTES);
-    let begun = service.msgsnd_begin(&rt, &mut pass, &CLOCK, USER, 0, 5, &text, waiting());
+    let begun = begin_send(&rt, &service, &mut pass, 0, &text);
     assert_sent(&rt, begun);
-    let begun = service.msgsnd_begin(&rt, &mut pass, &CLOCK, USER, 0, 5, &text, waiting());
+    let begun = begin_send(&rt, &service, &mut pass, 0, &text);
     let wait = send_wait(&rt, begun);
-    assert!(rt; service.msgsnd_look(&mut pass, &wait).is_none());
+    look_in_vain(&rt, &service, &mut pass, &wait);
     take(&rt, alloc, &service, &mut other, 0);
-    let again = look_for_send(&rt, &service, &mut pass, &wait);
-    let over = service.msgsnd_go_on(&rt, &mut pass, &CLOCK, &text, again);
+    let again = look(&rt, &service, &mut pass, &wait);
+    let over = service.go_on(&rt, &mut pass, &CLOCK, again, Some(&text), &mut NoBody);
     assert_sent(&rt, over);
     service.join_pass(&mut pass, other);
     assert_is(&rt, service.close(pass), closed(1, 128));
@@ -258,7 +293,7 @@ fn a_send_that_waits_for_blocks_is_dropped(rt: HostRuntime) {
     let sent = service.msgsnd(&rt, &mut pass, &CLOCK, USER, 1, 5, &all, waiting());
     assert_is(&rt, sent, Ok(()));
     let text = body_of(&rt, alloc, b"ping");
-    let begun = service.msgsnd_begin(&rt, &mut pass, &CLOCK, USER, 0, 5, &text, waiting());
+    let begun = begin_send(&rt, &service, &mut pass, 0, &text);
     let _dropped = send_wait(&rt, begun);
     assert_is(&rt, service.close(pass), closed(1, 128));
 }
@@ -270,26 +305,18 @@ fn a_send_goes_on_after_blocks_were_released(rt: HostRuntime) {
     let second = service.msgget(&rt, &mut pass, &CLOCK, USER, 8, creating());
     assert_is(&rt, second, Ok(1));
     let all = body_of(&rt, alloc, &[b'x'; 8192]);
-    let begun = service.msgsnd_begin(&rt, &mut pass, &CLOCK, USER, 1, 5, &all, waiting());
+    let begun = begin_send(&rt, &service, &mut pass, 1, &all);
     assert_sent(&rt, begun);
     let text = body_of(&rt, alloc, b"ping");
     assert!(rt; text.len() <= MESSAGE_BYTES);
-    let begun = service.msgsnd_begin(&rt, &mut pass, &CLOCK, USER, 0, 5, &text, waiting());
+    let begun = begin_send(&rt, &service, &mut pass, 0, &text);
     let wait = send_wait(&rt, begun);
-    assert!(rt; service.msgsnd_look(&mut pass, &wait).is_none());
+    look_in_vain(&rt, &service, &mut pass, &wait);
     take(&rt, alloc, &service, &mut pass, 1);
-    let again = look_for_send(&rt, &service, &mut pass, &wait);
-    let over = service.msgsnd_go_on(&rt, &mut pass, &CLOCK, &text, again);
+    let again = look(&rt, &service, &mut pass, &wait);
+    let over = service.go_on(&rt, &mut pass, &CLOCK, again, Some(&text), &mut NoBody);
     assert_sent(&rt, over);
     assert_is(&rt, service.close(pass), closed(1, 128));
-}
-
-/// Returns the identifier that a get returned.
-fn id_of(rt: &impl Abort, progress: Progress<GetWait, Result<i32, Errno>>) -> Result<i32, Errno> {
-    match progress {
-        Progress::Waits(_wait) => panic!(rt; "the get waits"),
-        Progress::Over(told) => told,
-    }
 }
 
 // The second get goes on as one that has waited for the queue of its key.
@@ -301,14 +328,16 @@ fn a_get_goes_on_after_a_queue_was_made(rt: HostRuntime) {
         key: 7,
         flags: creating(),
     };
-    let wait = GetWait { above: 0, get };
-    assert!(rt; service.msgget_look(&mut pass, &wait).is_none());
-    let made = service.msgget_begin(&rt, &mut pass, &CLOCK, USER, 7, creating());
-    assert_is(&rt, id_of(&rt, made), Ok(0));
-    let Some(again) = service.msgget_look(&mut pass, &wait) else {
-        panic!(rt; "the get still waits")
+    let wait = Waiting::Get(GetWait { above: 0, get });
+    look_in_vain(&rt, &service, &mut pass, &wait);
+    let get: Call<(), ()> = Call::Get {
+        key: 7,
+        flags: creating(),
     };
-    let found = service.msgget_go_on(&rt, &mut pass, &CLOCK, again);
-    assert_is(&rt, id_of(&rt, found), Ok(0));
+    let made = service.begin(&rt, &mut pass, &CLOCK, USER, &get, None, &mut NoBody);
+    assert_is(&rt, outcome(&rt, made), Outcome::Id(0));
+    let again = look(&rt, &service, &mut pass, &wait);
+    let found = service.go_on(&rt, &mut pass, &CLOCK, again, None, &mut NoBody);
+    assert_is(&rt, outcome(&rt, found), Outcome::Id(0));
     assert_is(&rt, service.close(pass), closed(0, 128));
 }

@@ -15,11 +15,12 @@ use std::alloc::Global;
 use std::process::Abort;
 use std::sync::Wait;
 use std::thread::{Threads, join_mut};
-use sysv_model::{Body, Errno, Flags, MESSAGE_BYTES, Selector, SetTo};
+use sysv_model::{Body, Errno, Flags, MESSAGE_BYTES, SetTo};
 use sysv_queue::Tally;
-use sysv_seats::{Awaited, ServiceHandler, Waiting, snd_text};
+use sysv_seats::{ServiceHandler, Waiting, snd_text};
 use sysv_service::{Clock, Pass, Progress, Service};
 use sysv_session::RequestOutcome;
+use sysv_steps::Awaited;
 use sysv_wire::{Ask, Op, Reply, ReplyContent, Request, Version};
 use tests_kit::{USER, creating, open_body};
 
@@ -296,8 +297,7 @@ fn a_parked_receive_goes_on_after_a_send(rt: HostRuntime) {
     let receive = request(receiving());
     let begun = receiver.begin(USER, &receive, &empty, &mut given);
     let first = parked(&rt, begun);
-    assert_is(&rt, first.awaits(), Awaited::Arrived { slot: 0 });
-    assert_is(&rt, first.selector(), Some(Selector::Exactly(5)));
+    assert_is(&rt, first.awaits().0, Awaited::Arrived { id: 0 });
     let again = receive_on(&rt, alloc, &mut receiver, &mut given, first);
     assert_that(&rt, parked(&rt, again) == first);
     send(&rt, alloc, &mut sender, &sending(0, 6), b"x");
@@ -337,8 +337,7 @@ fn a_parked_send_goes_on_after_a_receive(rt: HostRuntime) {
     let (text, mut given) = (body_of(&rt, alloc, b"pong"), empty_body(&rt, alloc));
     let begun = sender.begin(USER, &sending(0, 5), &text, &mut given);
     let waiting = parked(&rt, begun);
-    assert_is(&rt, waiting.awaits(), Awaited::Freed { slot: 0 });
-    assert_is(&rt, waiting.selector(), None);
+    assert_is(&rt, waiting.awaits().0, Awaited::Freed { id: 0 });
     let again = send_on(&rt, alloc, &mut sender, &text, waiting);
     assert_that(&rt, parked(&rt, again) == waiting);
     take(&rt, alloc, &mut receiver, 0, 4);
@@ -360,7 +359,7 @@ fn a_parked_send_goes_on_after_blocks_were_released(rt: HostRuntime) {
     let (text, mut given) = (body_of(&rt, alloc, b"ping"), empty_body(&rt, alloc));
     let begun = sender.begin(USER, &sending(0, 5), &text, &mut given);
     let waiting = parked(&rt, begun);
-    assert_is(&rt, waiting.awaits(), Awaited::Released);
+    assert_is(&rt, waiting.awaits().0, Awaited::Released);
     take(&rt, alloc, &mut receiver, 1, 8192);
     let over = send_on(&rt, alloc, &mut sender, &text, waiting);
     assert_replied(&rt, over, Op::Snd, ReplyContent::Snd);
@@ -381,8 +380,7 @@ fn get_settled<R: Abort + Wait>(
     stage.await_begun(rt);
     let begun = handler.begin(USER, &getting(), &empty, &mut given);
     let waiting = parked(rt, begun);
-    assert_is(rt, waiting.awaits(), Awaited::Settled);
-    assert_is(rt, waiting.selector(), None);
+    assert_is(rt, waiting.awaits().0, Awaited::Settled);
     let again = get_on(rt, alloc, handler, waiting);
     assert_that(rt, parked(rt, again) == waiting);
     stage.finish(rt);

@@ -1,66 +1,37 @@
-use Rattle.std.proofs.Common.{subst, rules, w32, w64, to_z, of_z}
+use Rattle.std.proofs.Common.{sym, subst, ◌∙◌, Some}
 use Rattle.std.proofs.lemmas.Int.{to_z-of_z}
-use Rattle.sysv_steps.specs.Seen.{receive_wait, receive_state}
-use Rattle.sysv_steps.specs.State.{Waits}
-use Rattle.sysv_steps.specs.Giving.{GivesNothing}
-use Rattle.sysv_service.specs.Pending.{ReceivesOn}
-use Rattle.sysv_service.specs.Pieces.{comes_on, if_given}
-use Rattle.sysv_service.proofs.ProceedsByStep.{first_at, comes_wait}
-use Rattle.sysv_service.proofs.ReceiveGivesTaken.{begin_gives_nothing}
+use Rattle.std.specs.Prelude.{IfSome}
+use Rattle.sysv_service.specs.Pending.{Delivers}
+use Rattle.sysv_service.specs.Results.{ended_at, got_told, got_refused}
 use Rattle.sysv_service.proofs.service.Service.msgrcv.Goals as goal
 
-pub loop-init : goal.loop-init
-loop-init g c =
-    let may = g.C.Clock.may c.args.clock.now in
-    let starts = c.begin-state.ensures c.args.out.now 0 in
-    record {
-      pass = c.requires;
-      nothing = subst GivesNothing starts
-          (begin_gives_nothing c.args.cred (to_z w32 (of_z w32 c.args.id)) c.args.size
-          (to_z w64 (of_z w64 c.args.mtype))
-          c.args.flags);
-      comes = first_at may _ _ _ starts;
-      goes_on = search rules;
-    }
-
-pub loop-preserved : goal.loop-preserved
-loop-preserved g c =
-    let may = g.C.Clock.may c.args.clock.now in
-    let wait = receive_wait c.in-Waits.wait in
-    let out = c.receive_on.new.out in
-    let on = subst (λ p.
-    ReceivesOn may (receive_state c.loop.state c.loop.out) c.loop.pass p out c.receive_on.new.pass)
-    c.in-Waits.is c.receive_on.ensures.ran in
-    let there = comes_on may _ _ _ _ (Waits wait) c.receive_on.new.pass c.loop.invariant.comes on.0 in
-    record {
-      pass = c.wait_for_message.ensures.pass;
-      nothing = c.wait_for_message.ensures.nothing out;
-      comes = comes_wait may _ _ wait c.receive_on.new.pass _ c.wait_for_message.new.pass there
-          (c.wait_for_message.ensures.ended out);
-      goes_on = search rules;
-    }
-
-pub returns-in-Over-clause-ran : goal.returns-in-Over-clause-ran
-returns-in-Over-clause-ran g c =
-    let may = g.C.Clock.may c.args.clock.now in
-    let on =
-    subst (λ p.
-    ReceivesOn may (receive_state c.loop.state c.loop.out) c.loop.pass p c.receive_on.new.out c.receive_on.new.pass)
-    c.in-Over.is c.receive_on.ensures.ran in
-    let comes = comes_on may _ _ _ _ _ c.receive_on.new.pass c.loop.invariant.comes on.0.1 in
+pub returns-in-Some-clause-ran : goal.returns-in-Some-clause-ran
+returns-in-Some-clause-ran g c =
     let id = c.ranges.id in
     let mtype = c.ranges.mtype in
-    let there = simp to_z-of_z at comes in
-    (on.0.0, there, on.0.2)
+    let ran = c.call-ended.ensures.ran in
+    let so = ended_at _ _ _ c.args.pass.now _ _ _ ran.0 ran.1 ran.2 ran.3 in
+    let gives = subst (λ d. IfSome d (Delivers _ _ c.args.pass.now c.call-ended.result c.call-ended.new.out
+    c.call-ended.new.pass)) c.in-Some.is so.2 in
+    let comes = simp to_z-of_z at so.0.1 in
+    (so.0.0, comes, got_told so.0.0 c.in-Some.delivery _ (sym gives.1 ∙ so.0.2) gives.2 gives.3 so.0.3)
 
-pub returns-in-Over-clause-given : goal.returns-in-Over-clause-given
-returns-in-Over-clause-given g c =
-    let may = g.C.Clock.may c.args.clock.now in
-    let on =
-    subst (λ p.
-    ReceivesOn may (receive_state c.loop.state c.loop.out) c.loop.pass p c.receive_on.new.out c.receive_on.new.pass)
-    c.in-Over.is c.receive_on.ensures.ran in
-    let given = if_given may _ _ _ _ c.in-Over.told c.receive_on.new.pass c.loop.invariant.comes on.1 in
+pub returns-in-Some-clause-given : goal.returns-in-Some-clause-given
+returns-in-Some-clause-given g c =
     let id = c.ranges.id in
     let mtype = c.ranges.mtype in
-    simp to_z-of_z at given
+    let ran = c.call-ended.ensures.ran in
+    let so = ended_at _ _ _ c.args.pass.now _ _ _ ran.0 ran.1 ran.2 ran.3 in
+    let gives = subst (λ d. IfSome d (Delivers _ _ c.args.pass.now c.call-ended.result c.call-ended.new.out
+    c.call-ended.new.pass)) c.in-Some.is so.2 in
+    let has = gives.0 in
+    simp to_z-of_z at has
+
+pub returns-in-None-clause-ran : goal.returns-in-None-clause-ran
+returns-in-None-clause-ran g c =
+    let id = c.ranges.id in
+    let mtype = c.ranges.mtype in
+    let ran = c.call-ended.ensures.ran in
+    let so = ended_at _ _ _ c.args.pass.now _ _ _ ran.0 ran.1 ran.2 ran.3 in
+    let comes = simp to_z-of_z at so.0.1 in
+    (so.0.0, comes, got_refused so.0.0 c.refused_of.result _ (sym c.refused_of.ensures ∙ so.0.2) so.0.3)

@@ -1,54 +1,30 @@
-use Rattle.std.proofs.Common.{ap, subst, rules}
-use Rattle.sysv_steps.specs.Seen.{state_of}
-use Rattle.sysv_service.proofs.ProceedsByStep.{comes_first, moved, comes_step}
+-- The call makes its steps, one after another.
+use Rattle.std.proofs.Common.{rules, subst, sym, ap, ◌∙◌, refl}
+use Rattle.sysv_steps.specs.Driven.{StillDriven, sent}
+use Rattle.sysv_steps.specs.Pending.{text_in}
+use Rattle.sysv_service.specs.Pending.{CameTo}
+use Rattle.sysv_service.proofs.Driving.{came_on, came_to_wait, came_with, came_without}
 use Rattle.sysv_service.proofs.service.Service.run_on.Goals as goal
 
 pub loop-init : goal.loop-init
 loop-init g c = record {
   pass = c.requires.pass;
-  can = c.requires.can;
-  comes = comes_first (g.S.Stepper.may c.args.stepper.now) _ _;
+  driven = c.requires.driven;
+  came = λ kind from old first. first;
   goes_on = search rules;
 }
 
+pub drive-requires-clause-bodies : goal.drive-requires-clause-bodies
+drive-requires-clause-bodies g c =
+    subst (λ s. StillDriven s (sent c.args.text) g.O.Fill.fills) c.in-On-At.is c.loop.invariant.driven
+
 pub loop-preserved : goal.loop-preserved
-loop-preserved g c =
-    let stepper = c.args.stepper.now in
-    let may = g.S.Stepper.may stepper in
-    let phase = g.S.Stepper.phase stepper in
-    let wait = g.S.Stepper.wait stepper in
-    let ending = g.S.Stepper.ending stepper in
-    let there =
-    moved may _ _ _ _ c.loop.pass (ap (state_of phase wait ending) c.in-Goes.is) c.loop.invariant.comes in
-    record {
-      pass = c.step.ensures.pass;
-      can = c.step.ensures.can;
-      comes = comes_step may _ _ (phase c.in-Goes.step) c.loop.pass _ c.step.new.pass there c.step.ensures.steps;
-      goes_on = search rules;
-    }
-
-pub step-requires-clause-can : goal.step-requires-clause-can
-step-requires-clause-can g c =
-    subst (g.S.Stepper.can c.args.stepper.now) c.in-Goes.is c.loop.invariant.can
-
-pub returns-in-Waits-clause-can : goal.returns-in-Waits-clause-can
-returns-in-Waits-clause-can g c =
-    subst (g.S.Stepper.can c.args.stepper.now) c.in-Waits.is c.loop.invariant.can
-
-pub returns-in-Over-clause-can : goal.returns-in-Over-clause-can
-returns-in-Over-clause-can g c =
-    subst (g.S.Stepper.can c.args.stepper.now) c.in-Over.is c.loop.invariant.can
-
-pub returns-in-Waits-clause-ran : goal.returns-in-Waits-clause-ran
-returns-in-Waits-clause-ran g c =
-    let stepper = c.args.stepper.now in
-    moved (g.S.Stepper.may stepper) _ _ _ _ c.loop.pass
-    (ap (state_of (g.S.Stepper.phase stepper) (g.S.Stepper.wait stepper) (g.S.Stepper.ending stepper)) c.in-Waits.is)
-    c.loop.invariant.comes
-
-pub returns-in-Over-clause-ran : goal.returns-in-Over-clause-ran
-returns-in-Over-clause-ran g c =
-    let stepper = c.args.stepper.now in
-    moved (g.S.Stepper.may stepper) _ _ _ _ c.loop.pass
-    (ap (state_of (g.S.Stepper.phase stepper) (g.S.Stepper.wait stepper) (g.S.Stepper.ending stepper)) c.in-Over.is)
-    c.loop.invariant.comes
+loop-preserved g c = record {
+  pass = c.drive.ensures.pass;
+  driven = c.drive.ensures.driven;
+  came = λ kind from old first.
+      came_on (g.C.Clock.may c.args.clock.now) (text_in (sent c.args.text)) _ _ _ _ _ _ from old
+      (subst (λ s. CameTo _ from old _ s _ _) c.in-On-At.is (c.loop.invariant.came kind from old first))
+      c.drive.ensures.drives;
+  goes_on = search rules;
+}

@@ -1,7 +1,0 @@
-use Rattle.sysv_service.proofs.ProceedsByStep.{sends_on}
-use Rattle.sysv_service.proofs.service.Service.msgsnd_go_on.Goals as goal
-
-pub returns-clause-ran : goal.returns-clause-ran
-returns-clause-ran g c =
-    sends_on (g.C.Clock.may c.args.clock.now) _ c.args.pass.now c.run_on.result c.args.text.now c.run_on.new.pass
-    c.run_on.ensures.ran c.run_on.ensures.can
