@@ -63,7 +63,11 @@ use Rattle.sysv_seats.specs.LettingIn.{denial_frame}
 use Rattle.sysv_seats.specs.Holding.{Holder, Message, Timed, back_outcome, begun_with, done_outcome, hold_outcome}
 use Rattle.sysv_seats.specs.Holding.{no_flags, timed}
 use Rattle.sysv_seats.specs.Parked.{GoesOn, IsReplied, IsWaitOf, Proceeds}
-use Rattle.sysv_seats.specs.Parked.{kind_in, get_progress, receive_progress, send_progress}
+use Rattle.sysv_seats.specs.Parked.{progress_by}
+use Rattle.sysv_seats.specs.Replies.{op_for, outcome_with}
+use Rattle.sysv_steps.specs.declared.outcome.Outcome.{Outcome}
+use Rattle.sysv_steps.specs.declared.progress.Ended.{Ended}
+use Rattle.sysv_steps.specs.Pending.{kind_waiting}
 use Rattle.sysv_seats.specs.Replies.{done_reply, given_reply, id_reply, row_reply, stat_reply}
 use Rattle.sysv_seats.specs.Sits.{Denies, GreetsAs, HasAsked, HasDenied, HasFrame, HasStopped, IsAt, IsBehind}
 use Rattle.sysv_seats.specs.Sits.{IsFree, IsKnown, IsPending, IsReady, means_for}
@@ -285,35 +289,21 @@ begun_replied may version cred ask text before (progress.Waits waiting) given af
 begun_replied may version cred ask text before (progress.Over outcome) given after begun =
     hold_asks_replied may version cred ask text before outcome given after begun
 
-send_has : (version : Version) (came : Progress SendWait (Result ⊤ Errno)) → IsReplied (send_progress version came)
-send_has version (progress.Waits w) = tt
-send_has version (progress.Over told) = done_has version op.Snd content.Snd told
+outcome_has : (version : Version) (o : Op) (result : Outcome) (delivery : Option Given) →
+    HasReply (outcome_with version o result delivery)
+outcome_has version o result None = tt
+outcome_has version o result (Some given) = tt
 
-receive_has : (version : Version) (came : Progress ReceiveWait (Result Given Errno)) →
-    IsReplied (receive_progress version came)
-receive_has version (progress.Waits w) = tt
-receive_has version (progress.Over told) = given_has version told
-
-get_has : (version : Version) (came : Progress GetWait (Result ℤ Errno)) → IsReplied (get_progress version came)
-get_has version (progress.Waits w) = tt
-get_has version (progress.Over told) = id_has version told
-
-proceeds_replied : (may : ℕ → Type 0) (version : Version) (waiting : Waiting) (text : List ℕ)
-    (phase : Phase (kind_in waiting)) (before : Pass) (came : Progress Waiting RequestOutcome) (given : List ℕ)
-    (after : Pass) → Proceeds may version waiting text phase before came given after → IsReplied came
-proceeds_replied may version (Send w) text phase before came given after on =
-    subst IsReplied (sym on.2) (send_has version on.0)
-proceeds_replied may version (Receive w) text phase before came given after on =
-    subst IsReplied (sym on.2) (receive_has version on.0)
-proceeds_replied may version (Get w) text phase before came given after on =
-    subst IsReplied (sym on.2) (get_has version on.0)
+came_has : (version : Version) (o : Op) (came : Progress Waiting Ended) → IsReplied (progress_by version o came)
+came_has version o (progress.Waits w) = tt
+came_has version o (progress.Over ended) = outcome_has version o ended.outcome ended.delivery
 
 pub goes_replied : (may : ℕ → Type 0) (version : Version) (waiting : Waiting) (text : List ℕ) (before : Pass)
     (came : Progress Waiting RequestOutcome) (given : List ℕ) (after : Pass) →
     GoesOn may version waiting text before came given after → IsReplied came
 goes_replied may version waiting text before came given after (inl still) = subst IsReplied (sym still.1) tt
 goes_replied may version waiting text before came given after (inr went) =
-    proceeds_replied may version waiting text went.0 went.1 came given after went.3
+    subst IsReplied (sym went.3.2) (came_has version (op_for (kind_waiting waiting)) went.3.0)
 
 hold_on_has : (version : Version) (came : Progress Waiting RequestOutcome) → IsReplied came →
     IsReplied (hold_progress version came)

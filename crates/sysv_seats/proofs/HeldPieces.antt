@@ -16,12 +16,12 @@ use Rattle.sysv_session.specs.declared.handler.RequestOutcome.TheVariants.{Reply
 use Rattle.sysv_session.specs.Answers.{MayAnswer, is_received}
 use Rattle.sysv_service.specs.declared.progress.Progress.{Progress}
 use Rattle.sysv_service.specs.declared.progress.Progress.TheVariants as progress
-use Rattle.sysv_service.specs.Pending.{ReceivesOn}
+use Rattle.sysv_service.specs.Pending.{GoesTo}
 use Rattle.sysv_service.specs.Ran.{Pass}
-use Rattle.sysv_steps.specs.declared.receive.ReceiveWait.{ReceiveWait}
-use Rattle.sysv_steps.specs.declared.send.SendWait.{SendWait}
-use Rattle.sysv_steps.specs.Call.{Receives}
+use Rattle.sysv_steps.specs.declared.progress.Ended.{Ended}
+use Rattle.sysv_steps.specs.Call.{Kind}
 use Rattle.sysv_steps.specs.State.{State}
+use Rattle.sysv_wire.specs.declared.frame.Op.{Op}
 use Rattle.sysv_wire.specs.declared.frame.Op.TheVariants as op
 use Rattle.sysv_wire.specs.declared.frame.Version.{Version}
 use Rattle.sysv_wire.specs.declared.frame.Version.TheVariants.{Three}
@@ -42,7 +42,7 @@ use Rattle.sysv_seats.specs.Held.{IsHoldWaitOf, back_progress, held_after, held_
 use Rattle.sysv_seats.specs.Holding as holding
 use Rattle.sysv_seats.specs.Holding.{Holder, Message, back_content, can_hold, kept_by, no_flags}
 use Rattle.sysv_seats.specs.InPieces.{asks_any, goes_on, left}
-use Rattle.sysv_seats.specs.Parked.{GoesOn, HasBegun, IsParked, IsWaitOf, MayProgress, receive_progress}
+use Rattle.sysv_seats.specs.Parked.{GoesOn, HasBegun, IsParked, IsWaitOf, MayProgress, progress_by}
 use Rattle.sysv_seats.specs.Replies.{done_reply, reply as the_reply}
 
 -- A request that is no hold.
@@ -268,62 +268,62 @@ module _ (may : ℕ → Type 0) (version : Version) (cred : Cred) where
       back_begun text message start came after (sym parked.3 ∙ is) begun
       (held ∙ ap (λ (h : Option Message). held_after h came) parked.3)
 
--- No flags are set.
-none_set : (flags : Flags) → flags.0 ≡ 0 → flags ≡ no_flags
-none_set flags none = ap (λ (n : ℕ). let f : Flags = record { 0 = n } in f) none
-
 module _ (may : ℕ → Type 0) (version : Version) (cred : Cred) where
-  -- The send of what is held was begun, by the parts of the message.
-  pub back_came : (text : List ℕ) (message : Message) (who : Cred) (id mtype : ℤ) (flags : Flags) (body : List ℕ)
-      (before : Holder Pass) (came : Progress Waiting RequestOutcome) (after : Holder Pass)
-      (result : Progress Waiting RequestOutcome) (given : List ℕ) → before.message ≡ Some message →
-      who ≡ message.cred → id ≡ message.id → mtype ≡ message.mtype → flags.0 ≡ 0 → body ≡ message.text →
-      HasBegun may Three who (Snd id mtype flags) body before.at came [] after.at →
+  -- The send of what is held was begun.
+  pub back_came : (text : List ℕ) (message : Message) (who : Cred) (ask : Ask) (body : List ℕ) (before : Holder Pass)
+      (came : Progress Waiting RequestOutcome) (after : Holder Pass) (result : Progress Waiting RequestOutcome)
+      (given : List ℕ) → before.message ≡ Some message → who ≡ message.cred →
+      ask ≡ Snd message.id message.mtype no_flags → body ≡ message.text →
+      HasBegun may Three who ask body before.at came [] after.at →
       after.message ≡ held_after before.message came → result ≡ back_progress version came → given ≡ [] →
       HoldBegun may version cred Back text before result given after
-  back_came text message who id mtype flags body before came after result given is same_cred same_id same_type none
-      same_body begun held told empty =
-      let one =
-      subst (λ (c : Cred). HasBegun may Three c (Snd id mtype flags) body before.at came [] after.at) same_cred
-      begun in
-      let two = subst (λ (i : ℤ). HasBegun may Three message.cred (Snd i mtype flags) body before.at came [] after.at)
-      same_id one in
-      let three = subst (λ (t : ℤ). HasBegun may Three message.cred (Snd message.id t flags) body before.at came []
-      after.at) same_type two in
-      let four = subst (λ (f : Flags). HasBegun may Three message.cred (Snd message.id message.mtype f) body before.at
-      came [] after.at) (none_set flags none) three in
-      let five = subst (λ (b : List ℕ). HasBegun may Three message.cred (Snd message.id message.mtype no_flags) b
-      before.at came [] after.at) same_body four in
+  back_came text message who ask body before came after result given is same_cred same_ask same_body begun held told
+      empty =
+      let one = subst (λ (c : Cred). HasBegun may Three c ask body before.at came [] after.at) same_cred begun in
+      let two = subst (λ (a : Ask). HasBegun may Three message.cred a body before.at came [] after.at) same_ask one in
+      let three = subst (λ (b : List ℕ). HasBegun may Three message.cred (Snd message.id message.mtype no_flags) b
+      before.at came [] after.at) same_body two in
       subst₂ (λ (r : Progress Waiting RequestOutcome) (g : List ℕ).
       HoldBegun may version cred Back text before r g after)
-      (sym told) (sym empty) (back_begun may version cred text message before came after is five held)
+      (sym told) (sym empty) (back_begun may version cred text message before came after is three held)
 
   -- It looked at its count once.
-  pub back_looked : (text : List ℕ) (message : Message) (waiting : Waiting) (wait : SendWait) (body : List ℕ)
-      (before : Holder Pass) (came : Progress Waiting RequestOutcome) (after : Holder Pass)
-      (result : Progress Waiting RequestOutcome) (given : List ℕ) → before.message ≡ Some message →
-      body ≡ message.text → waiting ≡ Send wait → GoesOn may Three (Send wait) body before.at came [] after.at →
+  pub back_looked : (text : List ℕ) (message : Message) (waiting : Waiting) (body : List ℕ) (before : Holder Pass)
+      (came : Progress Waiting RequestOutcome) (after : Holder Pass) (result : Progress Waiting RequestOutcome)
+      (given : List ℕ) → before.message ≡ Some message → body ≡ message.text →
+      GoesOn may Three waiting body before.at came [] after.at →
       after.message ≡ held_after before.message came → result ≡ back_progress version came → given ≡ [] →
       AnyGoesOn may version cred Back waiting text before result given after
-  back_looked text message waiting wait body before came after result given is same_body by_send goes held told empty =
-      let one = subst (λ (w : Waiting). GoesOn may Three w body before.at came [] after.at) (sym by_send) goes in
-      let two = subst (λ (b : List ℕ). GoesOn may Three waiting b before.at came [] after.at) same_body one in
-      inr (message, is, came, two, told, held, empty)
+  back_looked text message waiting body before came after result given is same_body goes held told empty =
+      let here = subst (λ (b : List ℕ). GoesOn may Three waiting b before.at came [] after.at) same_body goes in
+      inr (message, is, came, here, told, held, empty)
 
   -- And it has gone on from where it was begun.
-  pub back_came_on : (text : List ℕ) (message : Message) (start : Holder Pass) (waiting : Waiting) (wait : SendWait)
-      (body : List ℕ) (before : Holder Pass) (came : Progress Waiting RequestOutcome) (after : Holder Pass)
+  pub back_came_on : (text : List ℕ) (message : Message) (start : Holder Pass) (waiting : Waiting) (body : List ℕ)
+      (before : Holder Pass) (came : Progress Waiting RequestOutcome) (after : Holder Pass)
       (result : Progress Waiting RequestOutcome) (given : List ℕ) → before.message ≡ Some message →
-      body ≡ message.text → waiting ≡ Send wait → GoesOn may Three (Send wait) body before.at came [] after.at →
+      body ≡ message.text → GoesOn may Three waiting body before.at came [] after.at →
       after.message ≡ held_after before.message came → result ≡ back_progress version came → given ≡ [] →
       HoldParked may cred Back text start waiting before → HoldBegun may version cred Back text start result given after
-  back_came_on text message start waiting wait body before came after result given is same_body by_send goes held told
-      empty parked =
-      let one = subst (λ (w : Waiting). GoesOn may Three w body before.at came [] after.at) (sym by_send) goes in
-      let two = subst (λ (b : List ℕ). GoesOn may Three waiting b before.at came [] after.at) same_body one in
+  back_came_on text message start waiting body before came after result given is same_body goes held told empty
+      parked =
+      let here = subst (λ (b : List ℕ). GoesOn may Three waiting b before.at came [] after.at) same_body goes in
       subst₂ (λ (r : Progress Waiting RequestOutcome) (g : List ℕ).
       HoldBegun may version cred Back text start r g after)
-      (sym told) (sym empty) (back_on may version cred text message start waiting before came after is two held parked)
+      (sym told) (sym empty) (back_on may version cred text message start waiting before came after is here held parked)
+
+-- A receive is begun whatever the body of its request is.
+pub receive_begun : (may : ℕ → Type 0) (version : Version) (cred : Cred) (id : ℤ) (size : ℕ) (mtype : ℤ)
+    (flags : Flags) (body text : List ℕ) (before : Pass) (came : Progress Waiting RequestOutcome) (given : List ℕ)
+    (after : Pass) → HasBegun may version cred (Rcv id size mtype flags) body before came given after →
+    HasBegun may version cred (Rcv id size mtype flags) text before came given after
+receive_begun may version cred id size mtype flags body text before (progress.Waits (Receive w)) given after begun =
+    begun
+receive_begun may version cred id size mtype flags body text before (progress.Waits (Send w)) given after begun =
+    absurd begun.0
+receive_begun may version cred id size mtype flags body text before (progress.Waits (Get w)) given after begun =
+    absurd begun.0
+receive_begun may version cred id size mtype flags body text before (progress.Over outcome) given after begun = begun
 
 -- ---- what is received is short
 
@@ -343,12 +343,12 @@ begun_short may version cred ask text before (progress.Waits waiting) given afte
 begun_short may version cred ask text before (progress.Over outcome) given after begun answers =
     given_short version ask outcome given answers
 
--- A receive that waits has no body.
-waits_empty : (may : ℕ → Type 0) (version : Version) (from : State Receives) (before : Pass) (waiting : Waiting)
-    (came : Progress ReceiveWait (Result Given Errno)) (given : List ℕ) (after : Pass) →
-    ReceivesOn may from before came given after → progress.Waits waiting ≡ receive_progress version came → given ≡ []
-waits_empty may version from before waiting (progress.Waits w) given after on is = on.1
-waits_empty may version from before waiting (progress.Over told) given after on is = absurd (cc is)
+-- A call that waits has no body.
+waits_empty : {kind : Kind} (may : ℕ → Type 0) (version : Version) (o : Op) (from : State kind) (before : Pass)
+    (waiting : Waiting) (text : List ℕ) (came : Progress Waiting Ended) (given : List ℕ) (after : Pass) →
+    GoesTo may from before text came given after → progress.Waits waiting ≡ progress_by version o came → given ≡ []
+waits_empty may version o from before waiting text (progress.Waits w) given after on is = on.1
+waits_empty may version o from before waiting text (progress.Over ended) given after on is = absurd (cc is)
 
 -- What was received by a receive that has gone on.
 pub goes_short : (may : ℕ → Type 0) (version : Version) (id : ℤ) (size : ℕ) (mtype : ℤ) (flags : Flags)
@@ -360,14 +360,10 @@ goes_short may version id size mtype flags waiting text before (progress.Over ou
     given_short version (Rcv id size mtype flags) outcome given answers
 goes_short may version id size mtype flags waiting text before (progress.Waits still) given after is (inl stays)
     answers = rw stays.2 (omega arith)
-goes_short may version id size mtype flags (Receive w) text before (progress.Waits still) given after is (inr went)
+goes_short may version id size mtype flags waiting text before (progress.Waits still) given after is (inr went)
     answers =
-    let none : given ≡ [] = waits_empty may version _ _ still went.3.0 given after went.3.1 went.3.2 in
+    let none : given ≡ [] = waits_empty may version _ _ _ still text went.3.0 given after went.3.1 went.3.2 in
     rw none (omega arith)
-goes_short may version id size mtype flags (Send w) text before (progress.Waits still) given after is (inr went)
-    answers = absurd is
-goes_short may version id size mtype flags (Get w) text before (progress.Waits still) given after is (inr went)
-    answers = absurd is
 
 -- The call of any other request looked at its count once.
 pub looks_beside : (may : ℕ → Type 0) (version : Version) (cred : Cred) (ask : Ask) (waiting : Waiting) (text : List ℕ)

@@ -223,6 +223,7 @@ impl<'a, C: Clock, R: Wait> ServiceHandler<'a, C, R> {
         requires empty { O.bytes given.old ≡ [] }
         ensures looks { GoesOn (C.may self.old.clock.now) version waiting
             (text_in (sent text.entry)) self.old.pass result (O.bytes given.new) self.new.pass }
+        ensures answer { MayProgress version ask result (O.bytes given.new) }
         ensures handles { KeepsHandles self.old self.new }
     {
         let pass = &mut self.pass;

@@ -177,6 +177,15 @@ module _ (may : ℕ → Type 0) where
 
 -- ---- the end of a wait
 
+-- A call of any kind may be refused.
+refused_end : (kind : Kind) → IsEndOf kind (Fails EOVERFLOW)
+refused_end Gets = tt
+refused_end Sends = tt
+refused_end Receives = tt
+refused_end Stats = tt
+refused_end Sets = tt
+refused_end Removes = tt
+
 module _ (may : ℕ → Type 0) (before after : Pass) (text out : List ℕ) (result : Came) where
   -- What follows a wait for a call of its own kind follows it for each call.
   by_kind : (w : Waiting) → ((from : State (kind_waiting w)) (old : Pass) →
@@ -237,7 +246,7 @@ module _ (may : ℕ → Type 0) (w : Waiting) (count : Count) (above : ℕ)
             (subst (λ c. GivesUp c waited.0 before.seats after.seats) (is bytes) waited.2) waited.3;
         leads = (
           fails.0,
-          subst (IsEndOf (kind_waiting w)) (sym fails.0) tt,
+          subst (IsEndOf (kind_waiting w)) (sym fails.0) (refused_end (kind_waiting w)),
           subst (λ d. IfSome d (λ (given : Given). out ≡ [])) (sym fails.1) tt,
         );
         returns = subst (λ d. IfSome d (λ (given : Given). Returns given ended.outcome came.0 out)) (sym fails.1) tt;

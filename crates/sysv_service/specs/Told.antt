@@ -33,12 +33,6 @@ TellsStat (Told stat) (Ok told) = told ≡ stat
 TellsStat (Refused why) (Err told) = told ≡ why
 TellsStat ending result = ⊥
 
--- A call that returns no value may end with this outcome.
-abbrev pub IsZeroEnd : Outcome → Type 0
-IsZeroEnd outcome.Zero = ⊤
-IsZeroEnd (outcome.Refused why) = ⊤
-IsZeroEnd other = ⊥
-
 -- The outcome is an error.
 abbrev pub IsRefusal : Outcome → Type 0
 IsRefusal (outcome.Refused why) = ⊤

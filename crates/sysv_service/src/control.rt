@@ -8,7 +8,8 @@ ghost use Rattle.sysv_service.specs.Seats.{AreOf};
 ghost use Rattle.sysv_steps.specs.Stepping.{no_moment};
 ghost use Rattle.sysv_service.specs.Ran.{Comes};
 ghost use Rattle.sysv_steps.specs.Answered.{outcome_of};
-ghost use Rattle.sysv_service.specs.Told.{TellsZero, TellsStat, TellsRow, IsRefusal, IsZeroEnd};
+ghost use Rattle.sysv_steps.specs.Driven.{IsZeroEnd};
+ghost use Rattle.sysv_service.specs.Told.{TellsZero, TellsStat, TellsRow, IsRefusal};
 
 use crate::pass::Pass;
 use crate::service::Service;

@@ -41,16 +41,38 @@ bytes_among kind text out = text_in (body_among kind text out)
 
 -- ---- ends
 
+-- A call that returns an identifier may end with this outcome.
+abbrev pub IsIdEnd : Outcome → Type 0
+IsIdEnd (outcome.Id id) = ⊤
+IsIdEnd (outcome.Refused why) = ⊤
+IsIdEnd other = ⊥
+
+-- The same of a call that returns no value.
+abbrev pub IsZeroEnd : Outcome → Type 0
+IsZeroEnd outcome.Zero = ⊤
+IsZeroEnd (outcome.Refused why) = ⊤
+IsZeroEnd other = ⊥
+
+-- The same of a call that returns a message.
+abbrev pub IsGotEnd : Outcome → Type 0
+IsGotEnd (outcome.Got mtype len) = ⊤
+IsGotEnd (outcome.Refused why) = ⊤
+IsGotEnd other = ⊥
+
+-- The same of a call that returns attributes.
+abbrev pub IsStatEnd : Outcome → Type 0
+IsStatEnd (outcome.Stat stat) = ⊤
+IsStatEnd (outcome.Refused why) = ⊤
+IsStatEnd other = ⊥
+
 -- A call of this kind may end with this outcome.
 abbrev pub IsEndOf : Kind → Outcome → Type 0
-IsEndOf kind (outcome.Refused why) = ⊤
-IsEndOf Gets (outcome.Id id) = ⊤
-IsEndOf Sends outcome.Zero = ⊤
-IsEndOf Receives (outcome.Got mtype len) = ⊤
-IsEndOf Stats (outcome.Stat stat) = ⊤
-IsEndOf Sets outcome.Zero = ⊤
-IsEndOf Removes outcome.Zero = ⊤
-IsEndOf kind other = ⊥
+IsEndOf Gets result = IsIdEnd result
+IsEndOf Sends result = IsZeroEnd result
+IsEndOf Receives result = IsGotEnd result
+IsEndOf Stats result = IsStatEnd result
+IsEndOf Sets result = IsZeroEnd result
+IsEndOf Removes result = IsZeroEnd result
 
 -- The code's call is in the state of the definitions' call, or both are over: the outcome is that of
 -- the ending and of the kind, and if a message is returned, `out` has its bytes.

@@ -1,42 +1,17 @@
--- Each request is carried out by the call of its kind.
-use Rattle.std.proofs.Common.{rules, FitsSigned, w32, w64}
-use Rattle.std.proofs.lemmas.Int.{to_z-of_z}
+-- Each request is one call of the service, or none.
+use Rattle.std.proofs.Common.{◌∙◌, sym, ap}
+use Rattle.std.specs.Prelude.{option_map}
+use Rattle.sysv_service.specs.declared.progress.Progress.TheVariants.{Over}
+use Rattle.sysv_steps.specs.Asked.{asked_by}
+use Rattle.sysv_seats.specs.InPieces.{begins_so}
 use Rattle.sysv_seats.proofs.handler.ServiceHandlerHandler.call.Goals as goal
 
-pub returns-in-Get-clause-meaning : goal.returns-in-Get-clause-meaning
-returns-in-Get-clause-meaning g c =
-    let key : FitsSigned w32 c.in-Get.key = search rules in
-    let gets = simp to_z-of_z at c.get.ensures.gets in
-    rw c.in-Get.is (c.get.ensures.handles, (gets, c.requires.empty))
-
-pub returns-in-Snd-clause-meaning : goal.returns-in-Snd-clause-meaning
-returns-in-Snd-clause-meaning g c =
-    let id : FitsSigned w32 c.in-Snd.id = search rules in
-    let mtype : FitsSigned w64 c.in-Snd.mtype = search rules in
-    let sends = simp to_z-of_z at c.send.ensures.sends in
-    rw c.in-Snd.is (c.send.ensures.handles, (sends, c.requires.empty))
-
-pub returns-in-Rcv-clause-meaning : goal.returns-in-Rcv-clause-meaning
-returns-in-Rcv-clause-meaning g c =
-    let id : FitsSigned w32 c.in-Rcv.id = search rules in
-    let mtype : FitsSigned w64 c.in-Rcv.mtype = search rules in
-    let receives = simp to_z-of_z at c.receive.ensures.receives in
-    rw c.in-Rcv.is (c.receive.ensures.handles, receives)
-
-pub returns-in-Stat-clause-meaning : goal.returns-in-Stat-clause-meaning
-returns-in-Stat-clause-meaning g c =
-    let id : FitsSigned w32 c.in-Stat.id = search rules in
-    let stats = simp to_z-of_z at c.stat.ensures.stats in
-    rw c.in-Stat.is (c.stat.ensures.handles, (stats, c.requires.empty))
-
-pub returns-in-Set-clause-meaning : goal.returns-in-Set-clause-meaning
-returns-in-Set-clause-meaning g c =
-    let id : FitsSigned w32 c.in-Set.id = search rules in
-    let sets = simp to_z-of_z at c.set.ensures.sets in
-    rw c.in-Set.is (c.set.ensures.handles, (sets, c.requires.empty))
-
-pub returns-in-Rm-clause-meaning : goal.returns-in-Rm-clause-meaning
-returns-in-Rm-clause-meaning g c =
-    let id : FitsSigned w32 c.in-Rm.id = search rules in
-    let removes = simp to_z-of_z at c.remove.ensures.removes in
-    rw c.in-Rm.is (c.remove.ensures.handles, (removes, c.requires.empty))
+pub returns-clause-meaning : goal.returns-clause-meaning
+returns-clause-meaning g c =
+    let text = c.args.text.now in
+    rw c.outcome_of.ensures (
+      c.call.ensures.handles,
+      begins_so (g.C.Clock.may c.args.self.now.clock.now) c.args.request.now.version c.args.cred c.args.request.now.ask
+          text _ c.args.self.now.pass (Over c.call-ended.result) c.call-ended.new.out c.call-ended.new.pass
+          (sym (c.call_of.ensures text) ∙ ap (option_map (asked_by (λ _. text))) c.in-Some.is) c.call-ended.ensures.ran,
+    )
