@@ -367,9 +367,14 @@ fn progress_of(
 fn outcome_of(version: Version, op: Op, ended: Ended) -> RequestOutcome
     ensures { result ≡ outcome_by version op ended }
 {
-    match ended.delivery {
+    let Ended {
+        outcome,
+        receives: _,
+        delivery,
+    } = ended;
+    match delivery {
         Some(delivery) => RequestOutcome::Got(delivery),
-        None => reply(version, op, content_of(op, ended.outcome)),
+        None => reply(version, op, content_of(op, outcome)),
     }
 }
 

@@ -15,7 +15,7 @@ use crate::service::Service;
 use std::sync::Wait as MayWait;
 use sysv_model::{Body, Cred, Errno, Flags};
 use sysv_queue::Delivery;
-use sysv_steps::{Call, Clock};
+use sysv_steps::{Call, Clock, Ended};
 
 impl Service {
     /// Takes a message from the queue `id` and writes its body to `out` (POSIX.1-2017, `msgrcv`).
@@ -74,9 +74,14 @@ impl Service {
             body: (),
         };
         let ended = self.call(rt, pass, clock, cred, &receive, None, out);
-        match ended.delivery {
+        let Ended {
+            outcome,
+            receives: _,
+            delivery,
+        } = ended;
+        match delivery {
             Some(delivery) => Ok(delivery),
-            None => Err(refused_of(ended.outcome)),
+            None => Err(refused_of(outcome)),
         }
     }
 }

@@ -34,9 +34,14 @@ impl Ended {
         requires { is_got self.outcome ≡ false }
         ensures { result ≡ self.outcome }
     {
-        match self.delivery {
+        let Ended {
+            outcome,
+            receives: _,
+            delivery,
+        } = self;
+        match delivery {
             Some(_delivery) => unreachable!(),
-            None => self.outcome,
+            None => outcome,
         }
     }
 }

@@ -92,10 +92,15 @@ fn begin_send(
 
 /// Ends a call, and returns its outcome.
 fn outcome_of(ended: Ended) -> Outcome {
-    if let Some(delivery) = ended.delivery {
+    let Ended {
+        outcome,
+        receives: _,
+        delivery,
+    } = ended;
+    if let Some(delivery) = delivery {
         delivery.written(&mut Tally::open());
     }
-    ended.outcome
+    outcome
 }
 
 /// Returns the wait of a receive.
