@@ -8,7 +8,7 @@ use Rattle.sysv_parking.specs.Parking.{Parking, key_at, why_at}
 use Rattle.sysv_parking.specs.Keys.{word_of}
 use Rattle.sysv_steps.specs.declared.pending.Waiting.{Waiting}
 use Rattle.sysv_steps.specs.declared.pending.Waiting.TheVariants.{Send, Receive, Get}
-use Rattle.sysv_seats.specs.Parked.{wait_in}
+use Rattle.sysv_steps.specs.Pending.{wait_of}
 use Rattle.sysv_steps.specs.declared.send.SendWait.TheVariants.{Room, Blocks}
 use Rattle.sysv_steps.specs.Resume.{awaited}
 use Rattle.sysv_engine.specs.Lining.{IsLined, key_for, key_in, key_of_place, key_of_some, word_for}
@@ -42,7 +42,7 @@ key_nowhere {B} {T} places place past = ap (key_of_some {B = B} {T = T}) (slice_
 
 -- A call is counted with those that wait for the same count.
 pub word_is : (waiting : Waiting) (bytes : ℕ) (text : List ℕ) →
-    word_of (key_for waiting bytes) ≡ word_for (awaited (wait_in waiting text))
+    word_of (key_for waiting bytes) ≡ word_for (awaited (wait_of waiting text))
 word_is (Send (Room above send)) bytes text = refl
 word_is (Send (Blocks above send)) bytes text = refl
 word_is (Receive wait) bytes text = refl

@@ -1,7 +1,7 @@
 //! What parked calls wait for.
 ghost use Rattle.std.specs.Prelude.{◌≡◌, List, ℕ};
 ghost use Rattle.sysv_parking.specs.Keys.{word_of};
-ghost use Rattle.sysv_seats.specs.Parked.{wait_in};
+ghost use Rattle.sysv_steps.specs.Pending.{wait_of};
 ghost use Rattle.sysv_steps.specs.Resume.{awaited};
 ghost use Rattle.sysv_engine.specs.Lining.{caller_at, key_for, word_for};
 
@@ -14,7 +14,7 @@ use sysv_service::SendWait;
 /// which the call waits.
 pub(crate) fn key_of(waiting: &Waiting, length: usize) -> Key
     ensures key { result ≡ key_for waiting.now length }
-    ensures word { (text : List ℕ) → word_of result ≡ word_for (awaited (wait_in waiting.now text)) }
+    ensures word { (text : List ℕ) → word_of result ≡ word_for (awaited (wait_of waiting.now text)) }
 {
     key_by(waiting, length)
 }

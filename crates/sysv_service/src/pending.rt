@@ -186,7 +186,6 @@ impl Service {
     }
 
     /// Makes the steps of a call until it waits or is over.
-    #[inline(always)]
     fn run_on<C: Clock, O: Fill>(
         &self,
         rt: &impl MayWait,
