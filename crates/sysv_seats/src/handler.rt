@@ -12,7 +12,7 @@ ghost use Rattle.sysv_wire.specs.Requests.{op_of};
 ghost use Rattle.sysv_session.specs.Answers.{MayAnswer};
 ghost use Rattle.sysv_session.specs.Parse.{Parse, Follows, Takes};
 ghost use Rattle.sysv_session.specs.Failing.{is_failed_read, is_failed_write};
-ghost use Rattle.sysv_seats.specs.Asked.{Asks, ServesPass, Shows, asked_in};
+ghost use Rattle.sysv_seats.specs.Asked.{Asks as AsksPass, ServesPass, Shows, asked_in};
 ghost use Rattle.sysv_seats.specs.Held.{AsksForWriting};
 ghost use Rattle.sysv_seats.specs.Parked.{CanAsk, GoesOn, HasBegun, IsParked, IsWaitOf, MayProgress, progress_by};
 ghost use Rattle.sysv_seats.specs.Replies.{content_by, outcome_by, reply as the_reply, shown_stat as stat_shown, shown_row as row_shown};
@@ -241,7 +241,7 @@ impl<'a, C: Clock, R: Wait> ServiceHandler<'a, C, R> {
     fn beside(&mut self, version: Version, ask: Ask) -> RequestOutcome
         requires asked { op_of ask ≢ Op.Hello }
         requires beside { asked_in ask [] ≡ None }
-        ensures asks { (cred : Cred) (text : List ℕ) → Asks (C.may self.old.clock.now) ⊥ version
+        ensures asks { (cred : Cred) (text : List ℕ) → AsksPass (C.may self.old.clock.now) ⊥ version
             cred ask text self.old.pass result [] self.new.pass }
         ensures answer { MayAnswer version ask result [] }
         ensures handles { KeepsHandles self.old self.new }

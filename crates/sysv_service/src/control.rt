@@ -175,7 +175,7 @@ impl Service {
 /// Returns the result of a call that returns no value.
 pub(crate) fn zero_of(ended: Ended) -> Result<(), Errno>
     requires { IsZeroEnd ended.outcome }
-    ensures { (ending : Ending) → ended.outcome ≡ outcome_of ending → TellsZero ending result }
+    ensures { (ending : Ends) → ended.outcome ≡ outcome_of ending → TellsZero ending result }
 {
     match ended.into_outcome() {
         Outcome::Zero => Ok(()),

@@ -1,16 +1,20 @@
 -- At each step, a receive returns what it took.
-use Rattle.std.proofs.Common.{◌≡◌, ℕ, inl, inr, Bool, true, false, List, [], ◌∷◌, ◌++◌, Some, subst}
+use Rattle.std.proofs.Common.{◌≡◌, ℕ, ℤ, inl, inr, Bool, true, false, if◌then◌else◌, List, [], ◌∷◌, ◌++◌, Some, subst}
+use Rattle.sysv_model.specs.declared.cred.Cred.{Cred}
+use Rattle.sysv_model.specs.declared.errno.Errno.TheVariants.{EINVAL}
+use Rattle.sysv_model.specs.declared.flags.Flags.{Flags}
+use Rattle.sysv_steps.specs.Begin.{begin}
 use Rattle.sysv_model.specs.declared.errno.Errno.{Errno}
 use Rattle.sysv_model.specs.Turn.{Ask, Op}
 use Rattle.sysv_queue.specs.Delivery.{Given}
 use Rattle.sysv_queue.specs.declared.slot.TakeRefused.{TakeRefused}
 use Rattle.sysv_queue.specs.declared.slot.TakeRefused.TheVariants as refused
 use Rattle.sysv_queue.specs.Replies.{untaken_reply}
-use Rattle.sysv_steps.specs.Call.{Receives}
+use Rattle.sysv_steps.specs.Call.{Msgrcv, Receives}
 use Rattle.sysv_steps.specs.declared.receive.ReceiveStep.{ReceiveStep}
 use Rattle.sysv_steps.specs.declared.state.State.TheVariants as state
 use Rattle.sysv_steps.specs.Seen.{receive_phase, receive_state}
-use Rattle.sysv_steps.specs.State.{Receiving, Wait, State}
+use Rattle.sysv_steps.specs.State.{AtTake, Goes, Over, Receiving, Refused, State, Wait}
 use Rattle.sysv_steps.specs.Next.{waits_or, goes_on, after_take}
 use Rattle.sysv_steps.specs.Stepping.{StepsOn, Steps}
 use Rattle.sysv_steps.specs.Giving.{TakesGiven, HaveTaken, ReceiveKept, HasWhatItGives, GivesNothing}
@@ -81,3 +85,13 @@ module _ {P : Type 0} (takes : P → Op → P → Type 0) (misses : P → Ask �
       StepsOn takes misses may (receive_phase there text) before kept (receive_state stands out) after keeps
   steps_giving (inl step) = inl step.0
   steps_giving (inr step) = inr step.0
+
+-- A receive that starts has no message to return.
+begun_gives_nothing : (b : Bool) (receive : Receiving) →
+    GivesNothing (if b then Over (Refused EINVAL) else Goes (AtTake receive))
+begun_gives_nothing true receive = tt
+begun_gives_nothing false receive = tt
+
+pub begin_gives_nothing : (cred : Cred) (id : ℤ) (size : ℕ) (mtype : ℤ) (flags : Flags) (released : ℕ) →
+    GivesNothing (begin cred (Msgrcv id size mtype flags) released)
+begin_gives_nothing cred id size mtype flags released = begun_gives_nothing _ _

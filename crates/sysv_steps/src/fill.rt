@@ -1,7 +1,8 @@
 //! Where a receive writes the body of its message.
 
-ghost use Rattle.std.specs.Prelude.{◌≡◌, ℕ, List, [], Bool, true};
-ghost use Rattle.sysv_steps.specs.Driven.{Drives};
+ghost use Rattle.std.specs.Prelude.{◌≡◌, ℕ, List, [], Option, Bool, true};
+ghost use Rattle.sysv_steps.specs.Driven.{Drives, StillDriven};
+ghost use Rattle.sysv_steps.specs.declared.pending.Step.TheVariants.{Receive};
 
 use crate::clock::Clock;
 use crate::leading::of_receive;
@@ -36,8 +37,9 @@ pub trait Fill {
         requires fills { fills ≡ true }
         requires ready { T.ready turns.now at.old }
         ensures stays { T.stays turns.now at.new }
+        ensures driven { (text : Option (List ℕ)) → StillDriven result text true }
         ensures drives { (text : List ℕ) → Drives T.takes T.misses (C.may clock.now)
-            (Step.Receive step) text (bytes self.old) at.old kept.old.blocks
+            (Receive step) text (bytes self.old) at.old kept.old.blocks
             result (bytes self.new) at.new kept.new.blocks };
 
     /// Removes all bytes of the body.

@@ -1,10 +1,10 @@
 //! What the state of each call leads to: the call is pending, or it is over.
 
-ghost use Rattle.std.specs.Prelude.{◌≡◌, ℕ, List, [], Option, Some, None, false};
+ghost use Rattle.std.specs.Prelude.{◌≡◌, ℕ, List, [], Option, Some, None, Bool, true, false};
 ghost use Rattle.sysv_model.specs.Turn.{Op};
 ghost use Rattle.sysv_steps.specs.Answered.{is_got, outcome_of};
 ghost use Rattle.sysv_steps.specs.Bodies.{IsSized, StillCanSend};
-ghost use Rattle.sysv_steps.specs.Driven.{HasReturned, Leads};
+ghost use Rattle.sysv_steps.specs.Driven.{HasReturned, Leads, StillDriven};
 ghost use Rattle.sysv_steps.specs.Giving.{GivesNothing, HasWhatItGives};
 ghost use Rattle.sysv_steps.specs.Pending.{ComesTo, StillCanGoOn};
 ghost use Rattle.sysv_steps.specs.Seen.{ending_of, get_state, send_state, receive_state, stat_state, set_state, remove_state};
@@ -26,6 +26,7 @@ use sysv_model::{Body, Errno};
 pub(crate) fn of_get(state: GetState) -> Progress
     ensures comes { (body : Option (List ℕ)) → ComesTo (get_state state) result body }
     ensures can { (body : Option (List ℕ)) → StillCanGoOn result body }
+    ensures driven { (text : Option (List ℕ)) (fills : Bool) → StillDriven result text fills }
     ensures leads { (text : List ℕ) (out : List ℕ) → Leads (get_state state) result text out }
     ensures returns { (ops : List Op) (out : List ℕ) → HasReturned result ops out }
 {
@@ -41,6 +42,8 @@ pub(crate) fn of_get(state: GetState) -> Progress
 pub(crate) fn of_send(state: SendState) -> Progress
     ensures comes { (text : List ℕ) → ComesTo (send_state state text) result (Some text) }
     ensures can { (text : List ℕ) → StillCanSend state text → StillCanGoOn result (Some text) }
+    ensures driven { (text : List ℕ) (fills : Bool) → StillCanSend state text →
+        StillDriven result (Some text) fills }
     ensures leads { (text : List ℕ) (out : List ℕ) → Leads (send_state state text) result text out }
     ensures returns { (ops : List Op) (out : List ℕ) → HasReturned result ops out }
 {
@@ -55,6 +58,7 @@ pub(crate) fn of_send(state: SendState) -> Progress
 pub(crate) fn of_receive(state: ReceiveState, out: &mut Body) -> Progress
     ensures comes { ComesTo (receive_state state out.old) result (Some out.new) }
     ensures can { StillCanGoOn result (Some out.new) }
+    ensures driven { (text : Option (List ℕ)) → StillDriven result text true }
     ensures leads { (text : List ℕ) → Leads (receive_state state out.old) result text out.new }
     ensures returns { (ops : List Op) → HasWhatItGives state ops → IsSized state out.old →
         HasReturned result ops out.new }
@@ -84,7 +88,7 @@ pub(crate) fn of_receive(state: ReceiveState, out: &mut Body) -> Progress
 /// Returns what a receive leads to that is at its start, and has taken no message.
 pub(crate) fn of_received(state: ReceiveState) -> Progress
     requires { GivesNothing (receive_state state []) }
-    ensures can { StillCanGoOn result (Some []) }
+    ensures driven { (text : Option (List ℕ)) → StillDriven result text true }
     ensures leads { (text : List ℕ) (out : List ℕ) →
         Leads (receive_state state out) result text out }
     ensures returns { (out : List ℕ) → HasReturned result [] out }
@@ -105,6 +109,7 @@ pub(crate) fn of_received(state: ReceiveState) -> Progress
 pub(crate) fn of_stat(state: StatState) -> Progress
     ensures comes { (body : Option (List ℕ)) → ComesTo (stat_state state) result body }
     ensures can { (body : Option (List ℕ)) → StillCanGoOn result body }
+    ensures driven { (text : Option (List ℕ)) (fills : Bool) → StillDriven result text fills }
     ensures leads { (text : List ℕ) (out : List ℕ) → Leads (stat_state state) result text out }
     ensures returns { (ops : List Op) (out : List ℕ) → HasReturned result ops out }
 {
@@ -119,6 +124,7 @@ pub(crate) fn of_stat(state: StatState) -> Progress
 pub(crate) fn of_set(state: SetState) -> Progress
     ensures comes { (body : Option (List ℕ)) → ComesTo (set_state state) result body }
     ensures can { (body : Option (List ℕ)) → StillCanGoOn result body }
+    ensures driven { (text : Option (List ℕ)) (fills : Bool) → StillDriven result text fills }
     ensures leads { (text : List ℕ) (out : List ℕ) → Leads (set_state state) result text out }
     ensures returns { (ops : List Op) (out : List ℕ) → HasReturned result ops out }
 {
@@ -132,6 +138,7 @@ pub(crate) fn of_set(state: SetState) -> Progress
 pub(crate) fn of_remove(state: RemoveState) -> Progress
     ensures comes { (body : Option (List ℕ)) → ComesTo (remove_state state) result body }
     ensures can { (body : Option (List ℕ)) → StillCanGoOn result body }
+    ensures driven { (text : Option (List ℕ)) (fills : Bool) → StillDriven result text fills }
     ensures leads { (text : List ℕ) (out : List ℕ) → Leads (remove_state state) result text out }
     ensures returns { (ops : List Op) (out : List ℕ) → HasReturned result ops out }
 {

@@ -1,6 +1,6 @@
 //! A pending call: one value for all six calls, and one driver.
 
-ghost use Rattle.std.specs.Prelude.{◌≡◌, ◌+◌, ℕ, List, length, Option, Bool};
+ghost use Rattle.std.specs.Prelude.{◌≡◌, ◌+◌, ℕ, List, [], length, Option, Bool};
 ghost use Rattle.sysv_steps.specs.Asked.{asked_by, asked_of};
 ghost use Rattle.sysv_steps.specs.Begin.{begin as begins};
 ghost use Rattle.sysv_steps.specs.Call.{kind_of};
@@ -184,11 +184,12 @@ impl Step {
             (phase_of self (text_in body.old)) at.old kept.old.blocks
             result body.new at.new kept.new.blocks }
     {
-        match body {
-            Some(out) if matches!(&self, Step::Receive(_)) => {
-                self.drive(turns, at, kept, clock, None, out)
+        match self {
+            Step::Receive(step) => {
+                let Some(out) = body else { unreachable!() };
+                out.receive(turns, at, kept, clock, step)
             }
-            text => self.drive(turns, at, kept, clock, text.as_ref(), &mut NoBody),
+            step => step.drive(turns, at, kept, clock, body.as_ref(), &mut NoBody),
         }
     }
 
