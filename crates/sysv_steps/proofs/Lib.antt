@@ -16,3 +16,4 @@ pub mod SendKeepsRead
 pub mod StepFromReply
 pub mod ReceiveGivesTaken
 pub mod HoldsNone
+pub mod StillDriven
