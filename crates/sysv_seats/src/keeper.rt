@@ -223,9 +223,9 @@ impl<'a, C: Clock, R: Wait> Keeper<'a, C, R> {
         };
         let (cred, send) = (message.cred(), message.send());
         message.recall(given);
-        let came =
-            self.handler
-                .begin_ask(Version::Three, cred, send.ask, Some(given), &mut NoBody);
+        let came = self
+            .handler
+            .begin_ask(Version::Three, cred, send.ask, Some(given), &mut NoBody);
         given.clear();
         self.settle_back(version, came)
     }

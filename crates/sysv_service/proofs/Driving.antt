@@ -270,8 +270,7 @@ module _ {kind : Kind} (may : ℕ → Type 0) (from : State kind) (old : Pass) (
   over_without (Waits wait) ops out ran leads none = absurd leads
   over_without (Over ending) ops out ran leads none =
       let not_some = ended.delivered in
-      let not_got = sym not_some ∙ ap is_some none in
-      (
+      let not_got = sym not_some ∙ ap is_some none in (
         (ending, (ops, ran), leads.0, none_given ending (subst (λ o. is_got o ≡ false) leads.0 not_got)),
         leads.1,
         subst (λ d. IfSome d (Delivers may from old ended [] new)) (sym none) tt,
@@ -286,8 +285,7 @@ module _ {kind : Kind} (may : ℕ → Type 0) (from : State kind) (old : Pass) (
   over_with given (Over ending) ops out ran leads returns some =
       let has = subst (λ d. IfSome d (λ (g : Given). Returns g ended.outcome ops out)) some returns in
       let is = subst (λ d. IfSome d (λ (g : Given). out ≡ text_given ending)) some leads.2 in
-      let gives = record { ending = ending; ops = ops; ran = ran; taken = has.0 } in
-      (
+      let gives = record { ending = ending; ops = ops; ran = ran; taken = has.0 } in (
         (ending, (ops, ran), leads.0, is),
         leads.1,
         subst (λ d. IfSome d (Delivers may from old ended out new)) (sym some) (gives, has.1, has.2, has.3),

@@ -240,14 +240,7 @@ impl Service {
             (O.bytes out.old) pass.old result (O.bytes out.new) pass.new }
     {
         let gates = AtGates::of(rt, &self.gates);
-        step.drive(
-            &gates,
-            &mut pass.seats,
-            &mut pass.held,
-            clock,
-            text,
-            out,
-        )
+        step.drive(&gates, &mut pass.seats, &mut pass.held, clock, text, out)
     }
 
     /// Waits until the wait of a call is over. Returns what it leads to: the call continues, or is

@@ -130,7 +130,10 @@ impl Pending {
         match *call {
             Call::Get { key, flags } => of_get(Getting::begin(cred, key, flags)),
             Call::Send {
-                id, mtype, flags, ..
+                id,
+                mtype,
+                flags,
+                ..
             } => of_send(Sending::begin(cred, id, mtype, flags, len, released)),
             Call::Receive {
                 id,

@@ -12,9 +12,7 @@ use std::process::Abort;
 use std::sync::Wait;
 use sysv_model::{Body, Errno, Flags, MESSAGE_BYTES, SetTo};
 use sysv_queue::Tally;
-use sysv_service::{
-    Call, Ended, GetWait, NoBody, Outcome, Pass, Progress, Service, Step, Waiting,
-};
+use sysv_service::{Call, Ended, GetWait, NoBody, Outcome, Pass, Progress, Service, Step, Waiting};
 use sysv_steps::{Getting, Pending};
 use tests_kit::{USER, creating};
 
