@@ -264,8 +264,7 @@ impl<'a, R: Wait, T: NonBlocking> Place<'a, R, T> {
     {
         match &self.client {
             Some(client) => {
-                let parked = client.parked();
-                parked.is_none() && !self.is_returning() && self.handler.seconds() != 0
+                !client.has_parked() && !self.is_returning() && self.handler.seconds() != 0
             }
             None => false,
         }
@@ -349,7 +348,7 @@ impl<'a, R: Wait, T: NonBlocking> Place<'a, R, T> {
     /// Returns whether a call of the client is parked.
     pub(crate) fn has_parked(&self) -> bool {
         match &self.client {
-            Some(client) => client.parked().is_some(),
+            Some(client) => client.has_parked(),
             None => false,
         }
     }
@@ -712,7 +711,7 @@ impl<'a, R: Wait, T: NonBlocking> Place<'a, R, T> {
 fn is_idle<T: NonBlocking>(client: &Client<T>) -> bool
     ensures { result ≡ true → IsIdle client.now }
 {
-    client.parked().is_none()
+    !client.has_parked()
         && !client.is_within_request()
         && !client.has_unsent()
         && !client.has_more()

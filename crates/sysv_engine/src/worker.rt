@@ -41,8 +41,10 @@ const MOST_READY: usize = 256;
 /// A worker of a server: places with their clients, and what watches the connections.
 pub(crate) struct Worker<'a, R: Wait, T: NonBlocking, W> {
     pub(crate) places: Vec<Place<'a, R, T>>,
-    /// The places without a client.
+    /// The places that their clients have left. The other places without a client come after them:
+    /// those from `fresh` on have had none yet.
     pub(crate) free: Vec<usize>,
+    fresh: usize,
     pub(crate) watch: W,
     pub(crate) rest: Rest,
     pub(crate) ready: Vec<Ready>,
@@ -100,7 +102,7 @@ impl<'a, R: Wait, T: NonBlocking, W: Drop> Kit<'a, R, T, W> {
         ensures { IfSome result (λ kit. (kit.places.items ≡ [])
             × (vec_capacity kit.places ≡ count)) }
     {
-        let free = all_places(alloc, count)?;
+        let free = room_for(alloc, count)?;
         let ready = Vec::with_capacity(alloc, MOST_READY).ok()?;
         let agenda = Agenda::open(alloc, number, count)?;
         let turns = VecDeque::with_capacity(alloc, count).ok()?;
@@ -157,6 +159,7 @@ impl<'a, R: Wait, T: NonBlocking, W: Watch<T>> Worker<'a, R, T, W> {
         Worker {
             places,
             free,
+            fresh: 0,
             watch,
             rest,
             ready,
@@ -182,6 +185,7 @@ impl<'a, R: Wait, T: NonBlocking, W: Watch<T>> Worker<'a, R, T, W> {
         let Worker {
             places,
             free: _,
+            fresh: _,
             watch: _,
             rest: _,
             ready: _,
@@ -273,7 +277,24 @@ impl<'a, R: Wait, T: NonBlocking, W: Watch<T>> Worker<'a, R, T, W> {
 
     /// Returns whether there are no clients.
     pub(crate) fn is_empty(&self) -> bool {
-        self.free.len() == self.places.len()
+        self.free.len() == self.fresh
+    }
+
+    /// Takes a place that no client has, if there is one: the last one that was left, or else the
+    /// first one that has had no client yet.
+    fn take_free(&mut self) -> Option<usize>
+        ensures same { self.new.places ≡ self.old.places }
+        ensures tools { self.new.tools ≡ self.old.tools }
+    {
+        if let Some(place) = self.free.pop() {
+            return Some(place);
+        }
+        let place = self.fresh;
+        if place >= self.places.len() {
+            return None;
+        }
+        self.fresh = place + 1;
+        Some(place)
     }
 
     /// Takes a place out of the list of those without a client, if there is one in it.
@@ -282,7 +303,7 @@ impl<'a, R: Wait, T: NonBlocking, W: Watch<T>> Worker<'a, R, T, W> {
         ensures tools { self.new.tools ≡ self.old.tools }
         ensures vacant { IfSome result (λ place. IsVacantAt place self.old.places.items) }
     {
-        let place = self.free.pop()?;
+        let place = self.take_free()?;
         match self.places.get(place) {
             Some(there) if !there.is_taken() => Some(place),
             _ => None,
@@ -616,12 +637,6 @@ impl<'a, R: Wait, T: NonBlocking, W: Watch<T>> Worker<'a, R, T, W> {
             self.check = sooner(self.check, due);
         }
     }
-}
-
-/// Returns the numbers of this many places, the first one last. Returns `None` if memory is
-/// refused.
-fn all_places(alloc: Global, count: usize) -> Option<Vec<usize>> {
-    (0..count).rev().collect(alloc).ok()
 }
 
 /// Returns an empty vector with room for this many values. Returns `None` if memory is refused.

@@ -27,6 +27,7 @@ use crate::limits::Limit;
 use crate::non_blocking::{Drained, Filled, NonBlocking, Over};
 use crate::notification::Told;
 use crate::parked::Parked;
+use crate::parked_call::ParkedCall;
 use crate::send_frame::snd_text;
 use crate::tools::{SHARE, Tools};
 use crate::waiting::Waiting;
@@ -65,7 +66,7 @@ pub struct Client<T: NonBlocking> {
     /// The bytes that were read, of which the first `start` are done with.
     input: Vec<u8>,
     start: usize,
-    parked: Option<Parked>,
+    parked: ParkedCall,
     /// Why no more requests are taken up, if that is so.
     stopped: Option<End>,
     /// Whether bytes may be there to be read.
@@ -121,7 +122,7 @@ impl<T: NonBlocking> Client<T> {
             conversation: Conversation::open(alloc, newest),
             input: Vec::new(alloc),
             start: 0,
-            parked: None,
+            parked: ParkedCall::none(),
             stopped: None,
             is_ready: true,
             is_short: false,
@@ -140,51 +141,39 @@ impl<T: NonBlocking> Client<T> {
         &self.connection
     }
 
-    /// Returns the parked call, if there is one.
-    pub fn parked(&self) -> Option<Parked>
-        ensures { result ≡ self.now.parked }
+    /// Returns whether a call is parked.
+    pub fn has_parked(&self) -> bool
+        ensures { result ≡ is_some self.now.parked }
     {
-        self.parked
+        self.parked.is_some()
     }
 
     /// Returns what the parked call waits for, if a call is parked.
     pub fn waiting(&self) -> Option<Waiting>
         ensures { result ≡ parked_wait self.now.parked }
     {
-        match self.parked {
-            Some(parked) => Some(parked.waiting),
-            None => None,
-        }
+        self.parked.waiting()
     }
 
     /// Returns whether the parked call is the receive of a hold.
     pub fn awaits_hold(&self) -> bool
         ensures { result ≡ is_hold_parked self.now.parked }
     {
-        match self.parked {
-            Some(parked) => matches!(parked.request.ask, Ask::Hold { .. }),
-            None => false,
-        }
+        self.parked.is_hold()
     }
 
     /// Returns whether the parked call is the send of a back.
     pub fn awaits_back(&self) -> bool
         ensures { result ≡ is_back_parked self.now.parked }
     {
-        match self.parked {
-            Some(parked) => matches!(parked.request.ask, Ask::Back),
-            None => false,
-        }
+        self.parked.is_back()
     }
 
     /// Returns the number of bytes in the frame of the parked call, or 0.
     pub fn parked_length(&self) -> usize
         ensures { result ≡ parked_bytes self.now.parked }
     {
-        match self.parked {
-            Some(parked) => parked.length,
-            None => 0,
-        }
+        self.parked.length()
     }
 
     /// Returns whether replies wait for the connection.
@@ -366,7 +355,7 @@ impl<T: NonBlocking> Client<T> {
             ≡ T.closes.breaks self.old.connection }
         ensures said { KeepsAsSaid T.closes self.old self.new }
     {
-        let Some(parked) = self.parked else {
+        let Some(parked) = self.parked.get() else {
             return;
         };
         self.recall(&parked, &mut tools.text);
@@ -417,7 +406,7 @@ impl<T: NonBlocking> Client<T> {
             sent: _,
         } = self;
         connection.close(book);
-        conversation.end(closing_end(&parked, stopped))
+        conversation.end(closing_end(&parked.get(), stopped))
     }
 
     /// Gives up the parked call, if there is one: it is left, and nothing more is taken up.
@@ -429,10 +418,10 @@ impl<T: NonBlocking> Client<T> {
             × (self.new.dialogue ≡ self.old.dialogue) × (self.new.broken ≡ self.old.broken) }
         ensures said { KeepsAsSaid T.closes self.old self.new }
     {
-        let Some(parked) = self.parked else {
+        let Some(parked) = self.parked.get() else {
             return;
         };
-        self.parked = None;
+        self.parked = ParkedCall::none();
         self.start += parked.length;
         self.stopped = Some(End::Left);
     }
@@ -736,7 +725,7 @@ impl<T: NonBlocking> Client<T> {
         match progress {
             Progress::Over(outcome) => {
                 tools.tell(Told::by_end(made, &outcome));
-                self.parked = None;
+                self.parked = ParkedCall::none();
                 self.start += size;
                 if let Err(why) = self
                     .conversation
@@ -747,7 +736,7 @@ impl<T: NonBlocking> Client<T> {
             }
             Progress::Waits(waiting) => {
                 tools.tell(Told::by_wait(&waiting));
-                self.parked = Some(Parked {
+                self.parked = ParkedCall::of(Parked {
                     cred,
                     request,
                     waiting,

@@ -21,6 +21,7 @@ mod memory_stream;
 mod non_blocking;
 mod notification;
 mod parked;
+mod parked_call;
 mod returning;
 mod send_frame;
 mod socket_stream;
